@@ -1,0 +1,5 @@
+.PHONY: test
+
+# The same as the gate.
+test:
+	.ci/run

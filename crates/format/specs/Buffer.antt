@@ -1,0 +1,86 @@
+-- What a call, and a list of calls, leaves of the buffer and of the outputs; the claim about a list.
+use Prim.Native.Nat.{ℕ, _-_, max}
+use mathlib.Core.Path.{_≡_}
+use mathlib.Core.List.{List, [], _∷_, _++_, map}
+use lib.ListN.{length, drop, replicate}
+use Rattle.format.specs.Order.{Refusal}
+use Rattle.format.specs.Sheet.{Sheet, packing, size}
+use Rattle.format.specs.Report.{Verdict, refused, accepted, judge}
+use Rattle.format.specs.Machine.{Call, Answer, Stepped, lent, step}
+
+abbrev pub zeros : ℕ → List ℕ
+zeros n = replicate n 0
+
+-- the buffer b with the packing of s at its front, 0 from there up to the end e, and its bytes beyond both
+unfoldable pub layout : List ℕ → ℕ → Sheet → List ℕ
+layout b e s = packing s ++ (zeros (e - size s) ++ drop (max e (size s)) b)
+
+-- what a call leaves: its answer, the buffer, its output
+pub record After : Type 0 where
+  pub answer : Answer
+  pub buffer : List ℕ
+  pub out : List ℕ
+
+abbrev pub after : Answer → List ℕ → List ℕ → After
+after a b o = record { answer = a; buffer = b; out = o }
+
+-- "the report is checked first": the verdict decides
+abbrev pub effectOn : Verdict → List ℕ → Call → After
+effectOn (refused r) b c = after (Answer.refused r) b (lent c)
+effectOn (accepted s) b c =
+    let t = step (length b) s c in
+    after (t .answer) (layout b (size s) (t .sheet)) (t .out)
+
+unfoldable pub effect : List ℕ → Call → After
+effect b c = effectOn (judge b) b c
+
+-- ---- a list of calls
+
+-- an answer "with the bytes of each output after the call"
+pub record Shown : Type 0 where
+  pub answer : Answer
+  pub out : List ℕ
+
+abbrev pub shown : Answer → List ℕ → Shown
+shown a o = record { answer = a; out = o }
+
+pub record Ran : Type 0 where
+  pub answers : List Shown
+  pub buffer : List ℕ
+
+-- the calls one after the other, each on the buffer "as the call before left" it
+unfoldable pub calls : List ℕ → List Call → Ran
+calls b [] = record { answers = []; buffer = b }
+calls b (c ∷ cs) =
+    let a = effect b c in
+    let r = calls (a .buffer) cs in
+    record { answers = shown (a .answer) (a .out) ∷ r .answers; buffer = r .buffer }
+
+-- the machine's run over a list: its answers, its sheet, and the longest end reached
+pub record Run : Type 0 where
+  pub answers : List Shown
+  pub sheet : Sheet
+  pub longest : ℕ
+
+unfoldable pub run : ℕ → Sheet → ℕ → List Call → Run
+run n s e [] = record { answers = []; sheet = s; longest = e }
+run n s e (c ∷ cs) =
+    let t = step n s c in
+    let r = run n (t .sheet) (max e (size (t .sheet))) cs in
+    record { answers = shown (t .answer) (t .out) ∷ r .answers; sheet = r .sheet; longest = r .longest }
+
+-- "the packing of the machine's sheet", 0 "from the present end to the longest end reached", and the bytes past that
+abbrev pub machineOn : List ℕ → Run → Ran
+machineOn b m = record { answers = m .answers; buffer = layout b (m .longest) (m .sheet) }
+
+abbrev pub refusals : Refusal → List Call → List Shown
+refusals r cs = map (λ (c : Call). shown (Answer.refused r) (lent c)) cs
+
+-- what is claimed of a list: on an accepted report the machine's run, begun on that report's sheet; on any other buffer
+-- each call gives the refusal, and no byte changes
+abbrev pub claimOn : Verdict → List ℕ → List Call → Ran
+claimOn (refused r) b cs = record { answers = refusals r cs; buffer = b }
+claimOn (accepted s) b cs = machineOn b (run (length b) s (size s) cs)
+
+unfoldable pub claim : List ℕ → List Call → Ran
+claim b cs = claimOn (judge b) b cs

@@ -1,0 +1,60 @@
+-- "Id 1, flags": fourteen flags of one nibble, then a quality code of 8 bits.
+use Prim.Native.Nat.{ℕ, zero, suc, _+_, _-_, _*_, _/_, _%_}
+use mathlib.Core.Bool.{Bool, true, cond, _&&_}
+use mathlib.Core.List.{List, [], _∷_, _++_}
+use lib.ListN.{length, getD, take, set}
+use lib.Dec.{eqb, leb}
+use Rattle.format.specs.Order.{between}
+
+abbrev pub isFlag : ℕ → Bool
+isFlag j = between 1 14 j
+
+-- the weights of R A B J K L M N Q S, which are 1 to 10; "missing weighs nothing"
+unfoldable pub weights : List ℕ
+weights = 0 ∷ 1 ∷ 1 ∷ 2 ∷ 2 ∷ 2 ∷ 3 ∷ 3 ∷ 3 ∷ 3 ∷ []
+
+unfoldable pub weight : ℕ → ℕ
+weight zero = 0
+weight (suc v) = getD weights v 0
+
+unfoldable pub totalWeight : List ℕ → ℕ
+totalWeight [] = 0
+totalWeight (v ∷ vs) = weight v + totalWeight vs
+
+unfoldable pub allMissing : List ℕ → Bool
+allMissing [] = true
+allMissing (v ∷ vs) = eqb v 0 && allMissing vs
+
+-- "0 if all fourteen are missing, else 1 + the weights of the others"
+unfoldable pub qualityCode : List ℕ → ℕ
+qualityCode flags = cond (allMissing flags) 0 (1 + totalWeight flags)
+
+-- "any flag may take any of the ten"
+abbrev pub permitted : ℕ → ℕ → Bool
+permitted j v = true
+
+-- a value that flag j may be set to: "a flag's from 1 to 10"
+abbrev pub flagInRange : ℕ → ℕ → Bool
+flagInRange j v = between 1 10 v && permitted j v
+
+-- what the flags from j on may hold: a value in range, or 0, missing
+unfoldable pub flagsFit : ℕ → List ℕ → Bool
+flagsFit j [] = true
+flagsFit j (v ∷ vs) = cond (eqb v 0) true (flagInRange j v) && flagsFit (suc j) vs
+
+-- flag j of a body
+abbrev pub flagAt : List ℕ → ℕ → ℕ
+flagAt body j = getD body (j - 1) 0
+
+-- the body of these fourteen flags
+unfoldable pub flagBody : List ℕ → List ℕ
+flagBody flags = flags ++ (qualityCode flags / 16 ∷ qualityCode flags % 16 ∷ [])
+
+-- the body with flag j at v, and the quality code worked out again
+unfoldable pub withFlag : List ℕ → ℕ → ℕ → List ℕ
+withFlag body j v = flagBody (set (take 14 body) (j - 1) v)
+
+-- what 6 asks of id 1: AL 16, no flag over 10, the rule's quality code
+unfoldable pub flagsValid : List ℕ → Bool
+flagsValid body =
+    eqb (length body) 16 && (flagsFit 1 (take 14 body) && eqb (getD body 14 0 * 16 + getD body 15 0) (qualityCode (take 14 body)))

@@ -1,0 +1,12 @@
+pub mod Order
+pub mod Field
+pub mod Bits
+pub mod Nibbles
+pub mod Flags
+pub mod ShipText
+pub mod Sheet
+pub mod Report
+pub mod Machine
+pub mod Buffer
+pub mod Whole
+pub mod Lister

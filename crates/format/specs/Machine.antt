@@ -1,0 +1,215 @@
+-- "Plain machine": its calls, their refusals 8 to 14, and its steps. It sees no byte of a buffer.
+use Prim.Native.Nat.{ℕ, _+_, _-_}
+use mathlib.Core.Bool.{Bool, true, false, cond, not, _&&_, _||_}
+use mathlib.Core.List.{List, [], _∷_, _++_, map}
+use mathlib.Core.Option.{Option, none, some}
+use lib.ListN.{length, getD, drop, set}
+use lib.Dec.{ltb, leb, eqb}
+use lib.IntN.{ℤ, pos}
+use Rattle.format.specs.Order.{Refusal, Check, check, first, between}
+use Rattle.format.specs.Field.{fieldAt, isField, required, inRange}
+use Rattle.format.specs.Nibbles.{Attachment, attachment}
+use Rattle.format.specs.Flags.{isFlag, flagInRange, flagAt, withFlag}
+use Rattle.format.specs.ShipText.{writeText, readText}
+use Rattle.format.specs.Sheet.{Sheet, sheet, size}
+use Rattle.format.specs.Report.{bodyValid}
+use Rattle.format.specs.declared.Scaled.{Scaled}
+
+-- a call, with its arguments, its contents and its output "as they were lent"
+pub data Call : Type 0 where
+  readField : ℕ → Call
+  setField : ℕ → Scaled → Call
+  clearField : ℕ → Call
+  readFlag : ℕ → Call
+  setFlag : ℕ → ℕ → Call
+  clearFlag : ℕ → Call
+  put : ℕ → List ℕ → Call
+  fetch : ℕ → List ℕ → Call
+  remove : ℕ → Call
+  putText : List ℕ → Call
+  fetchText : List ℕ → Call
+
+-- ---- the sheet's parts
+
+abbrev pub valueAt : Sheet → ℕ → Option Scaled
+valueAt s k = getD (s .values) (k - 1) none
+
+abbrev pub withValue : Sheet → ℕ → Option Scaled → Sheet
+withValue s k e = sheet (s .rptin) (set (s .values) (k - 1) e) (s .attachments)
+
+abbrev pub withAttachments : Sheet → List Attachment → Sheet
+withAttachments s list = sheet (s .rptin) (s .values) list
+
+unfoldable pub stands : ℕ → List Attachment → Bool
+stands i [] = false
+stands i (a ∷ more) = eqb (a .id) i || stands i more
+
+-- the nibbles of id i, where it stands
+unfoldable pub contentOf : ℕ → List Attachment → List ℕ
+contentOf i [] = []
+contentOf i (a ∷ more) = cond (eqb (a .id) i) (a .content) (contentOf i more)
+
+-- "replaces the content where id stands in the list, else appends the pair"
+unfoldable pub putIn : ℕ → List ℕ → List Attachment → List Attachment
+putIn i ns [] = attachment i ns ∷ []
+putIn i ns (a ∷ more) = cond (eqb (a .id) i) (attachment i ns ∷ more) (a ∷ putIn i ns more)
+
+-- "removes the pair; the rest keep their order"
+unfoldable pub removeFrom : ℕ → List Attachment → List Attachment
+removeFrom i [] = []
+removeFrom i (a ∷ more) = cond (eqb (a .id) i) more (a ∷ removeFrom i more)
+
+abbrev pub withContent : Sheet → ℕ → List ℕ → Sheet
+withContent s i ns = withAttachments s (putIn i ns (s .attachments))
+
+abbrev pub content : Sheet → ℕ → List ℕ
+content s i = contentOf i (s .attachments)
+
+-- ---- a step that is not refused
+
+-- the sheet after it
+unfoldable pub next : Sheet → Call → Sheet
+next s (readField k) = s
+next s (setField k v) = withValue s k (some v)
+next s (clearField k) = withValue s k none
+next s (readFlag j) = s
+next s (setFlag j v) = withContent s 1 (withFlag (content s 1) j v)
+next s (clearFlag j) = withContent s 1 (withFlag (content s 1) j 0)
+next s (put i ns) = withContent s i ns
+next s (fetch i out) = s
+next s (remove i) = withAttachments s (removeFrom i (s .attachments))
+next s (putText t) = withContent s 4 (writeText t)
+next s (fetchText out) = s
+
+abbrev pub valueNumber : Option Scaled → Option ℤ
+valueNumber none = none
+valueNumber (some v) = some (v .0)
+
+-- flag 0 is missing
+abbrev pub flagNumber : ℕ → Option ℤ
+flagNumber v = cond (eqb v 0) none (some (pos v))
+
+-- what it gives: numbers, each of which may be missing
+unfoldable pub gives : Sheet → Call → List (Option ℤ)
+gives s (readField k) = valueNumber (valueAt s k) ∷ []
+gives s (setField k v) = []
+gives s (clearField k) = []
+gives s (readFlag j) = flagNumber (flagAt (content s 1) j) ∷ []
+gives s (setFlag j v) = []
+gives s (clearFlag j) = []
+gives s (put i ns) = []
+gives s (fetch i out) = some (pos (length (content s i))) ∷ []
+gives s (remove i) = []
+gives s (putText t) = []
+gives s (fetchText out) = some (pos (length (readText (content s 4)))) ∷ []
+
+-- the output that it is lent, and what it writes there from the first byte on
+unfoldable pub lent : Call → List ℕ
+lent (readField k) = []
+lent (setField k v) = []
+lent (clearField k) = []
+lent (readFlag j) = []
+lent (setFlag j v) = []
+lent (clearFlag j) = []
+lent (put i ns) = []
+lent (fetch i out) = out
+lent (remove i) = []
+lent (putText t) = []
+lent (fetchText out) = out
+
+unfoldable pub writes : Sheet → Call → List ℕ
+writes s (readField k) = []
+writes s (setField k v) = []
+writes s (clearField k) = []
+writes s (readFlag j) = []
+writes s (setFlag j v) = []
+writes s (clearFlag j) = []
+writes s (put i ns) = []
+writes s (fetch i out) = content s i
+writes s (remove i) = []
+writes s (putText t) = []
+writes s (fetchText out) = readText (content s 4)
+
+-- ---- the caller's refusals, "judged on the sheet, n and what the step was fed"
+
+-- 8: field not 1 to 46, flag not 1 to 14, id not 1 to 15
+abbrev pub fieldNumberCheck : ℕ → Check
+fieldNumberCheck k = check (not (isField k)) 8 0
+
+abbrev pub flagNumberCheck : ℕ → Check
+flagNumberCheck j = check (not (isFlag j)) 8 0
+
+abbrev pub idCheck : ℕ → Check
+idCheck i = check (not (between 1 15 i)) 8 0
+
+-- 9: value out of range
+abbrev pub valueCheck : ℕ → Scaled → Check
+valueCheck k v = check (not (inRange (fieldAt k) v)) 9 k
+
+abbrev pub flagValueCheck : ℕ → ℕ → Check
+flagValueCheck j v = check (not (flagInRange j v)) 9 j
+
+-- 10: required field cleared
+abbrev pub requiredCheck : ℕ → Check
+requiredCheck k = check (required k) 10 k
+
+-- 11: no such attachment
+abbrev pub standsCheck : Sheet → ℕ → Check
+standsCheck s i = check (not (stands i (s .attachments))) 11 0
+
+-- 12: content of 0 or over 255 nibbles
+abbrev pub lengthCheck : List ℕ → Check
+lengthCheck ns = check (not (between 1 255 (length ns))) 12 0
+
+unfoldable pub allNibbles : List ℕ → Bool
+allNibbles [] = true
+allNibbles (x ∷ xs) = leb x 15 && allNibbles xs
+
+-- 14: content byte over 15, or content that 6 would refuse
+abbrev pub contentCheck : ℕ → List ℕ → Check
+contentCheck i ns = check (not (allNibbles ns && bodyValid i ns)) 14 0
+
+-- 13: a lent buffer shorter than the new report, or the output
+abbrev pub roomCheck : ℕ → Sheet → Call → Check
+roomCheck n s c = check (ltb n (size (next s c)) || ltb (length (lent c)) (length (writes s c))) 13 0
+
+-- those of each call that may come before 13, "then 8, 9, 10, 11, 12, 14, 13"
+unfoldable pub callChecks : Sheet → Call → List Check
+callChecks s (readField k) = fieldNumberCheck k ∷ []
+callChecks s (setField k v) = fieldNumberCheck k ∷ valueCheck k v ∷ []
+callChecks s (clearField k) = fieldNumberCheck k ∷ requiredCheck k ∷ []
+callChecks s (readFlag j) = flagNumberCheck j ∷ standsCheck s 1 ∷ []
+callChecks s (setFlag j v) = flagNumberCheck j ∷ flagValueCheck j v ∷ standsCheck s 1 ∷ []
+callChecks s (clearFlag j) = flagNumberCheck j ∷ standsCheck s 1 ∷ []
+callChecks s (put i ns) = idCheck i ∷ lengthCheck ns ∷ contentCheck i ns ∷ []
+callChecks s (fetch i out) = idCheck i ∷ standsCheck s i ∷ []
+callChecks s (remove i) = idCheck i ∷ standsCheck s i ∷ []
+callChecks s (putText t) = lengthCheck (writeText t) ∷ contentCheck 4 (writeText t) ∷ []
+callChecks s (fetchText out) = standsCheck s 4 ∷ []
+
+unfoldable pub checks : ℕ → Sheet → Call → List Check
+checks n s c = callChecks s c ++ (roomCheck n s c ∷ [])
+
+-- ---- a step, on a buffer of n bytes
+
+-- "the acceptance with what the step gives, or the refusal's number and place"
+pub data Answer : Type 0 where
+  refused : Refusal → Answer
+  accepted : List (Option ℤ) → Answer
+
+-- the answer, the sheet after the step, and the bytes of the output after it
+pub record Stepped : Type 0 where
+  pub answer : Answer
+  pub sheet : Sheet
+  pub out : List ℕ
+
+-- the bytes of an output after these were written to its front
+abbrev pub over : {A : Type 0} → List A → List A → List A
+over xs out = xs ++ drop (length xs) out
+
+abbrev pub steppedBy : Option Refusal → Sheet → Call → Stepped
+steppedBy (some r) s c = record { answer = refused r; sheet = s; out = lent c }
+steppedBy none s c = record { answer = accepted (gives s c); sheet = next s c; out = over (writes s c) (lent c) }
+
+unfoldable pub step : ℕ → Sheet → Call → Stepped
+step n s c = steppedBy (first (checks n s c)) s c

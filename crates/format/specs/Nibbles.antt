@@ -1,0 +1,63 @@
+-- "Behind the card": nibbles and attachments.
+use Prim.Native.Nat.{ℕ, zero, suc, _+_, _*_, _/_, _%_}
+use mathlib.Core.Bool.{Bool, cond, false, _||_}
+use mathlib.Core.List.{List, [], _∷_, _++_}
+use lib.ListN.{length, getD, take, drop}
+use lib.Dec.{eqb}
+
+-- "a nibble is 4 bits, high half of a byte first"
+unfoldable pub nibbles : List ℕ → List ℕ
+nibbles [] = []
+nibbles (b ∷ bs) = b / 16 ∷ b % 16 ∷ nibbles bs
+
+unfoldable pub bytes : List ℕ → List ℕ
+bytes [] = []
+bytes (h ∷ []) = h * 16 ∷ []
+bytes (h ∷ l ∷ ns) = (h * 16 + l) ∷ bytes ns
+
+abbrev pub odd : ℕ → Bool
+odd n = eqb (n % 2) 1
+
+-- one nibble 0 more "if the count of nibbles so far is odd"
+unfoldable pub padded : List ℕ → List ℕ
+padded ns = cond (odd (length ns)) (ns ++ (0 ∷ [])) ns
+
+-- ---- attachments
+
+-- a pair (id, nibbles)
+pub record Attachment : Type 0 where
+  pub id : ℕ
+  pub content : List ℕ
+
+abbrev pub attachment : ℕ → List ℕ → Attachment
+attachment i ns = record { id = i; content = ns }
+
+-- "AL (8 bits, the number of data nibbles), AID (4 bits) and the data"
+unfoldable pub attachmentNibbles : Attachment → List ℕ
+attachmentNibbles a = length (a .content) / 16 ∷ length (a .content) % 16 ∷ a .id ∷ a .content
+
+unfoldable pub tailNibbles : List Attachment → List ℕ
+tailNibbles [] = []
+tailNibbles (a ∷ more) = attachmentNibbles a ++ tailNibbles more
+
+-- AL, AID and the data of the attachment at the head of nibbles, and what stands behind it
+abbrev pub lengthAt : List ℕ → ℕ
+lengthAt ns = getD ns 0 0 * 16 + getD ns 1 0
+
+abbrev pub idAt : List ℕ → ℕ
+idAt ns = getD ns 2 0
+
+abbrev pub contentAt : List ℕ → List ℕ
+contentAt ns = take (lengthAt ns) (drop 3 ns)
+
+abbrev pub behind : List ℕ → List ℕ
+behind ns = drop (lengthAt ns) (drop 3 ns)
+
+-- the first n attachments of nibbles
+unfoldable pub attachmentsOf : ℕ → List ℕ → List Attachment
+attachmentsOf zero ns = []
+attachmentsOf (suc n) ns = attachment (idAt ns) (contentAt ns) ∷ attachmentsOf n (behind ns)
+
+unfoldable pub among : ℕ → List ℕ → Bool
+among x [] = false
+among x (y ∷ ys) = eqb x y || among x ys

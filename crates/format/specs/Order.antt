@@ -1,0 +1,28 @@
+-- Refusals, and the order in which they are judged.
+use Prim.Native.Nat.{ℕ}
+use mathlib.Core.Bool.{Bool, cond, _&&_}
+use mathlib.Core.List.{List, [], _∷_}
+use mathlib.Core.Option.{Option, none, some}
+use lib.Dec.{leb}
+
+-- a refusal: its number and its place
+pub record Refusal : Type 0 where
+  pub number : ℕ
+  pub place : ℕ
+
+-- a check: whether its refusal fits, and that refusal
+pub record Check : Type 0 where
+  pub fits : Bool
+  pub refusal : Refusal
+
+abbrev pub check : Bool → ℕ → ℕ → Check
+check fits number place = record { fits = fits; refusal = record { number = number; place = place } }
+
+-- the first refusal that fits, in the order given
+unfoldable pub first : List Check → Option Refusal
+first [] = none
+first (c ∷ more) = cond (c .fits) (some (c .refusal)) (first more)
+
+-- low ≤ x ≤ high
+abbrev pub between : ℕ → ℕ → ℕ → Bool
+between low high x = leb low x && leb x high

@@ -1,0 +1,89 @@
+-- A report: its sheet, "read off its bytes", and the refusals 1 to 7. A buffer holds its report from its first byte on.
+use Prim.Native.Nat.{ℕ, zero, suc, _+_}
+use mathlib.Core.Bool.{Bool, true, cond, not, _&&_, _||_}
+use mathlib.Core.List.{List, [], _∷_, _++_}
+use mathlib.Core.Option.{Option, none, some}
+use lib.ListN.{length, getD, take, drop}
+use lib.Dec.{ltb, eqb}
+use Rattle.format.specs.Order.{Refusal, Check, check, first}
+use Rattle.format.specs.Field.{Field, table, required, entries}
+use Rattle.format.specs.Bits.{bitsOf, readFields}
+use Rattle.format.specs.Nibbles.{nibbles, odd, attachmentsOf, tailNibbles, lengthAt, idAt, contentAt, behind, among}
+use Rattle.format.specs.Flags.{flagsValid}
+use Rattle.format.specs.ShipText.{textValid}
+use Rattle.format.specs.Sheet.{Sheet, sheet, widths, checksum}
+
+-- ---- what the bytes show
+
+abbrev pub numbersOf : List ℕ → List ℕ
+numbersOf b = readFields widths (bitsOf b)
+
+abbrev pub rptinOf : List ℕ → ℕ
+rptinOf b = getD (numbersOf b) 0 0
+
+abbrev pub codesOf : List ℕ → List ℕ
+codesOf b = take 46 (drop 1 (numbersOf b))
+
+abbrev pub checksumOf : List ℕ → ℕ
+checksumOf b = getD (numbersOf b) 47 0
+
+abbrev pub countOf : List ℕ → ℕ
+countOf b = getD (numbersOf b) 48 0
+
+-- the nibbles behind the card, to the buffer's end
+abbrev pub tailOf : List ℕ → List ℕ
+tailOf b = drop 75 (nibbles b)
+
+-- "RPTIN, each coded value + base, or missing where it is 0, and the attachments in their order"
+unfoldable pub sheetOf : List ℕ → Sheet
+sheetOf b = sheet (rptinOf b) (entries table (codesOf b)) (attachmentsOf (countOf b) (tailOf b))
+
+-- ---- the checks, in their order
+
+-- fields ascending from k: 2, 3
+unfoldable pub fieldChecks : ℕ → List Field → List ℕ → List Check
+fieldChecks k [] cs = []
+fieldChecks k (f ∷ fs) [] = []
+fieldChecks k (f ∷ fs) (c ∷ cs) =
+    check (ltb (f .highest) c) 2 k ∷ check (required k && eqb c 0) 3 k ∷ fieldChecks (suc k) fs cs
+
+-- a body that 6 accepts, under id i
+unfoldable pub bodyValid : ℕ → List ℕ → Bool
+bodyValid i ns = cond (eqb i 1) (flagsValid ns) (cond (eqb i 4) (textValid ns) true)
+
+-- n attachments from position i on, after the ids seen: "header fits, 5, data fits, 6"
+unfoldable pub attachmentChecks : ℕ → ℕ → List ℕ → List ℕ → List Check
+attachmentChecks zero i seen ns = []
+attachmentChecks (suc n) i seen ns =
+    check (ltb (length ns) 3) 1 i
+    ∷ check (eqb (lengthAt ns) 0 || (eqb (idAt ns) 0 || among (idAt ns) seen)) 5 i
+    ∷ check (ltb (length (drop 3 ns)) (lengthAt ns)) 1 i
+    ∷ check (not (bodyValid (idAt ns) (contentAt ns))) 6 i
+    ∷ attachmentChecks n (suc i) (idAt ns ∷ seen) (behind ns)
+
+-- the number of nibbles behind the card that the attachments take
+abbrev pub tailLength : List ℕ → ℕ
+tailLength b = length (tailNibbles (attachmentsOf (countOf b) (tailOf b)))
+
+-- "length, fields ascending (2 or 3), 4, each attachment (header fits, 5, data fits, 6), 7"
+unfoldable pub reportChecks : List ℕ → List Check
+reportChecks b =
+    check (ltb (length b) 38) 1 0
+    ∷ (fieldChecks 1 table (codesOf b)
+    ++ (check (not (eqb (checksumOf b) (checksum (codesOf b)))) 4 0
+    ∷ (attachmentChecks (countOf b) 1 [] (tailOf b)
+    ++ (check (odd (75 + tailLength b) && not (eqb (getD (tailOf b) (tailLength b) 0) 0)) 7 0 ∷ []))))
+
+-- ---- the verdict
+
+pub data Verdict : Type 0 where
+  refused : Refusal → Verdict
+  accepted : Sheet → Verdict
+
+abbrev pub verdict : Option Refusal → Sheet → Verdict
+verdict none s = accepted s
+verdict (some r) s = refused r
+
+-- "a report is accepted if none of 1 to 7 below refuses it"
+unfoldable pub judge : List ℕ → Verdict
+judge b = verdict (first (reportChecks b)) (sheetOf b)

@@ -1,0 +1,156 @@
+-- "Id 4, ship text": the characters, the writer, the reader. A text is a row of symbols, each plain or original: a plain
+-- byte has a short code, an original one stands behind 15. The text of a call is bytes, each one plain if it has a short code.
+use Prim.Native.Nat.{ℕ, zero, suc, _+_, _-_, _*_, _/_, _%_}
+use mathlib.Core.Bool.{Bool, true, false, cond, not, _&&_}
+use mathlib.Core.List.{List, [], _∷_, _++_, map}
+use lib.ListN.{replicate}
+use lib.Dec.{ltb, eqb}
+use Rattle.format.specs.Order.{between}
+use Rattle.format.specs.declared.TextState.{TextState}
+use Rattle.format.specs.declared.TextState.the-variants.{Between, Run, Pair, Escape, Half, Invalid}
+use Rattle.format.specs.declared.TextStep.{TextStep}
+use Rattle.format.specs.declared.TextStep.the-variants.{On, Plain, Original}
+
+-- ---- characters
+
+-- the nibbles of a byte, read as one number: one nibble is below 16, a pair below 256, and 15 and the byte at least 3840
+unfoldable pub charCode : ℕ → ℕ
+charCode b =
+    cond (between 48 57 b) (b - 48)  -- 0 to 9
+    (cond (eqb b 32) 10  -- space
+    (cond (between 65 73 b) (12 * 16 + (b - 64))  -- A to I: 12,1 to 12,9
+    (cond (between 74 82 b) (13 * 16 + (b - 73))  -- J to R: 13,1 to 13,9
+    (cond (between 83 90 b) (14 * 16 + (b - 81))  -- S to Z: 14,2 to 14,9
+    (cond (eqb b 47) (14 * 16 + 1)  -- /
+    (cond (eqb b 38) (12 * 16 + 10)  -- &
+    (cond (eqb b 43) (12 * 16 + 11)  -- +
+    (cond (eqb b 45) (13 * 16 + 10)  -- -
+    (cond (eqb b 123) (12 * 16 + 0)  -- {
+    (cond (eqb b 125) (13 * 16 + 0)  -- }
+    (15 * 256 + b)))))))))))
+
+unfoldable pub short : ℕ → Bool
+short b = ltb (charCode b) 256
+
+-- the byte of a pair that begins with 12, 13 or 14; 0 where the pair is undefined
+unfoldable pub pairByte : ℕ → ℕ → ℕ
+pairByte z n =
+    cond (eqb z 12) (cond (eqb n 0) 123 (cond (ltb n 10) (64 + n) (cond (eqb n 10) 38 (cond (eqb n 11) 43 0))))
+    (cond (eqb z 13) (cond (eqb n 0) 125 (cond (ltb n 10) (73 + n) (cond (eqb n 10) 45 0)))
+    (cond (eqb z 14) (cond (eqb n 0) 0 (cond (eqb n 1) 47 (cond (ltb n 10) (81 + n) 0))) 0))
+
+-- a code's nibbles
+unfoldable pub codeNibbles : ℕ → List ℕ
+codeNibbles v = cond (ltb v 16) (v ∷ []) (cond (ltb v 256) (v / 16 ∷ v % 16 ∷ []) (v / 256 ∷ v / 16 % 16 ∷ v % 16 ∷ []))
+
+-- ---- symbols
+
+pub data Symbol : Type 0 where
+  plain : ℕ → Symbol
+  original : ℕ → Symbol
+
+-- a byte of a call's text
+unfoldable pub classify : ℕ → Symbol
+classify b = cond (short b) (plain b) (original b)
+
+unfoldable pub byteOf : Symbol → ℕ
+byteOf (plain b) = b
+byteOf (original b) = b
+
+-- the bytes that stand behind 15: "any other byte, up to 255"
+unfoldable pub escapable : ℕ → Bool
+escapable b = ltb b 256 && not (short b)
+
+unfoldable pub isSpace : Symbol → Bool
+isSpace (plain b) = eqb b 32
+isSpace (original b) = false
+
+unfoldable pub symbolNibbles : Symbol → List ℕ
+symbolNibbles (plain b) = codeNibbles (charCode b)
+symbolNibbles (original b) = 15 ∷ b / 16 ∷ b % 16 ∷ []
+
+-- ---- the writer
+
+-- "11,15 for each full 18"
+unfoldable pub fulls : ℕ → List ℕ
+fulls zero = []
+fulls (suc k) = 11 ∷ 15 ∷ fulls k
+
+-- "nothing, 10, or 10,10 for a rest of 0, 1, 2, else 11 and rest - 3"
+unfoldable pub rest : ℕ → List ℕ
+rest zero = []
+rest (suc zero) = 10 ∷ []
+rest (suc (suc zero)) = 10 ∷ 10 ∷ []
+rest (suc (suc (suc r))) = 11 ∷ r ∷ []
+
+-- "a run of s spaces"
+unfoldable pub spaceRun : ℕ → List ℕ
+spaceRun s = fulls (s / 18) ++ rest (s % 18)
+
+-- symbols after s spaces that none has followed yet; "trailing spaces are dropped"
+unfoldable pub writeFrom : ℕ → List Symbol → List ℕ
+writeFrom s [] = []
+writeFrom s (x ∷ xs) = elim (isSpace x) [ true ↦ writeFrom (suc s) xs | false ↦ spaceRun s ++ (symbolNibbles x ++ writeFrom 0 xs) ]
+
+abbrev pub writeSymbols : List Symbol → List ℕ
+writeSymbols t = writeFrom 0 t
+
+-- the writer: the nibbles of a text
+unfoldable pub writeText : List ℕ → List ℕ
+writeText t = writeSymbols (map classify t)
+
+-- ---- the reader
+
+unfoldable pub spaces : ℕ → List Symbol
+spaces s = replicate s (plain 32)
+
+-- what one nibble brings. In a run as the writer gives it, 10 is one more space while the rest is below 3, and 11 follows
+-- full eighteens only
+unfoldable pub textStep : TextState → ℕ → TextStep
+textStep (Between s) n =
+    cond (ltb n 10) (Plain s (48 + n))
+    (cond (eqb n 10) (cond (ltb (s % 18) 2) (On (Between (s + 1))) (On Invalid))
+    (cond (eqb n 11) (On (Run s))
+    (cond (ltb n 15) (On (Pair s n))
+    (cond (eqb n 15) (On (Escape s))
+    (On Invalid)))))
+textStep (Run s) n = cond (eqb (s % 18) 0 && ltb n 16) (On (Between (s + (n + 3)))) (On Invalid)
+textStep (Pair s z) n = cond (eqb (pairByte z n) 0) (On Invalid) (Plain s (pairByte z n))
+textStep (Escape s) n = cond (ltb n 16) (On (Half s n)) (On Invalid)
+textStep (Half s h) n = cond (ltb n 16 && escapable (h * 16 + n)) (Original s (h * 16 + n)) (On Invalid)
+textStep Invalid n = On Invalid
+
+unfoldable pub stateAfter : TextStep → TextState
+stateAfter (On st) = st
+stateAfter (Plain s b) = Between 0
+stateAfter (Original s b) = Between 0
+
+unfoldable pub symbolsOf : TextStep → List Symbol
+symbolsOf (On st) = []
+symbolsOf (Plain s b) = spaces s ++ (plain b ∷ [])
+symbolsOf (Original s b) = spaces s ++ (original b ∷ [])
+
+unfoldable pub readFrom : TextState → List ℕ → List Symbol
+readFrom st [] = []
+readFrom st (n ∷ ns) = symbolsOf (textStep st n) ++ readFrom (stateAfter (textStep st n)) ns
+
+unfoldable pub endFrom : TextState → List ℕ → TextState
+endFrom st [] = st
+endFrom st (n ∷ ns) = endFrom (stateAfter (textStep st n)) ns
+
+-- between two codes, with no space waiting
+unfoldable pub atEnd : TextState → Bool
+atEnd (Between s) = eqb s 0
+atEnd (Run s) = false
+atEnd (Pair s z) = false
+atEnd (Escape s) = false
+atEnd (Half s h) = false
+atEnd Invalid = false
+
+-- "a body is valid only if the writer gives it for some text" (that this is what it says: crate laws)
+unfoldable pub textValid : List ℕ → Bool
+textValid ns = atEnd (endFrom (Between 0) ns)
+
+-- "the shortest text for which the writer gives" these nibbles (crate laws)
+unfoldable pub readText : List ℕ → List ℕ
+readText ns = map byteOf (readFrom (Between 0) ns)

@@ -1,0 +1,161 @@
+-- "Outside the list, on buffers of their own": fresh, unpack and pack.
+use Prim.Native.Nat.{ℕ, zero, suc, _+_, _*_, _/_, _%_, _^_}
+use mathlib.Core.Bool.{Bool, true, false, cond, not, _&&_, _||_}
+use mathlib.Core.List.{List, [], _∷_, _++_, map}
+use mathlib.Core.Option.{Option, none, some}
+use lib.ListN.{length, getD, take, drop, replicate}
+use lib.Dec.{ltb, eqb}
+use lib.IntN.{ℤ, pos}
+use Rattle.format.specs.Order.{Refusal, Check, check, first}
+use Rattle.format.specs.Field.{Field, table, required, inRange, scaled, BOX10, YEAR, MONTH, X, Y}
+use Rattle.format.specs.Nibbles.{attachmentsOf, tailNibbles, behind}
+use Rattle.format.specs.Sheet.{Sheet, sheet, packing, size}
+use Rattle.format.specs.Report.{Verdict, judge, attachmentChecks}
+use Rattle.format.specs.Machine.{Answer, refused, accepted, valueCheck, withValue, allNibbles, over}
+use Rattle.format.specs.declared.Scaled.{Scaled}
+
+-- ---- fresh: "BOX10, YEAR, MONTH, X, Y given; RPTIN 0, all else missing"
+
+abbrev pub blank : Sheet
+blank = sheet 0 (replicate 46 none) []
+
+abbrev pub with : ℕ → Scaled → Sheet → Sheet
+with k v s = withValue s k (some v)
+
+unfoldable pub freshSheet : Scaled → Scaled → Scaled → Scaled → Scaled → Sheet
+freshSheet box10 year month x y = with Y y (with X x (with MONTH month (with YEAR year (with BOX10 box10 blank))))
+
+-- "9 by ascending field, then 13"
+unfoldable pub freshChecks : ℕ → Scaled → Scaled → Scaled → Scaled → Scaled → List Check
+freshChecks n box10 year month x y =
+    valueCheck BOX10 box10 ∷ valueCheck YEAR year ∷ valueCheck MONTH month ∷ valueCheck X x ∷ valueCheck Y y ∷ check (ltb n 38) 13 0 ∷ []
+
+-- the answer, and the bytes of the output after the call
+pub record Wrote : Type 0 where
+  pub answer : Answer
+  pub out : List ℕ
+
+abbrev pub wroteBy : Option Refusal → List (Option ℤ) → List ℕ → List ℕ → Wrote
+wroteBy (some r) given report out = record { answer = refused r; out = out }
+wroteBy none given report out = record { answer = accepted given; out = over report out }
+
+unfoldable pub fresh : Scaled → Scaled → Scaled → Scaled → Scaled → List ℕ → Wrote
+fresh box10 year month x y out =
+    wroteBy (first (freshChecks (length out) box10 year month x y)) [] (packing (freshSheet box10 year month x y)) out
+
+-- ---- unpack
+
+-- "46 values (0 where missing)"
+abbrev pub valueOrZero : Option Scaled → ℤ
+valueOrZero none = pos 0
+valueOrZero (some v) = v .0
+
+abbrev pub isPresent : Option Scaled → Bool
+isPresent none = false
+isPresent (some v) = true
+
+-- "a presence word of 64 bits whose bit k (lowest is 0) says that field k is present": the entries from field k on
+unfoldable pub presenceFrom : ℕ → List (Option Scaled) → ℕ
+presenceFrom k [] = 0
+presenceFrom k (e ∷ es) = cond (isPresent e) (2 ^ k) 0 + presenceFrom (suc k) es
+
+abbrev pub presence : Sheet → ℕ
+presence s = presenceFrom 1 (s .values)
+
+-- "how many fields are present"
+unfoldable pub countPresent : List (Option Scaled) → ℕ
+countPresent [] = 0
+countPresent (e ∷ es) = cond (isPresent e) 1 0 + countPresent es
+
+-- "all nibbles after the 75th, without an odd last one, one a byte"
+abbrev pub tail : Sheet → List ℕ
+tail s = tailNibbles (s .attachments)
+
+-- the answer, and the two outputs after the call
+pub record Unpacked : Type 0 where
+  pub answer : Answer
+  pub values : List ℤ
+  pub tail : List ℕ
+
+abbrev pub unpacked : Answer → List ℤ → List ℕ → Unpacked
+unpacked a vs ns = record { answer = a; values = vs; tail = ns }
+
+-- the presence word, how many fields are present, RPTIN, AC, byte length, the tail's length
+unfoldable pub unpackGives : Sheet → List (Option ℤ)
+unpackGives s =
+    some (pos (presence s))
+    ∷ some (pos (countPresent (s .values)))
+    ∷ some (pos (s .rptin))
+    ∷ some (pos (length (s .attachments)))
+    ∷ some (pos (size s))
+    ∷ some (pos (length (tail s)))
+    ∷ []
+
+-- 13: an output "shorter than the output, or 46 values"
+abbrev pub unpackChecks : Sheet → List ℤ → List ℕ → List Check
+unpackChecks s values tailOut = check (ltb (length values) 46 || ltb (length tailOut) (length (tail s))) 13 0 ∷ []
+
+abbrev pub unpackedBy : Option Refusal → Sheet → List ℤ → List ℕ → Unpacked
+unpackedBy (some r) s values tailOut = unpacked (refused r) values tailOut
+unpackedBy none s values tailOut =
+    unpacked (accepted (unpackGives s)) (over (map valueOrZero (s .values)) values) (over (tail s) tailOut)
+
+abbrev pub unpackOn : Verdict → List ℤ → List ℕ → Unpacked
+unpackOn (Verdict.refused r) values tailOut = unpacked (refused r) values tailOut
+unpackOn (Verdict.accepted s) values tailOut = unpackedBy (first (unpackChecks s values tailOut)) s values tailOut
+
+unfoldable pub unpack : List ℕ → List ℤ → List ℕ → Unpacked
+unpack b values tailOut = unpackOn (judge b) values tailOut
+
+-- ---- pack
+
+-- bit k of a word
+abbrev pub bitAt : ℕ → ℕ → Bool
+bitAt word k = eqb (word / 2 ^ k % 2) 1
+
+-- "a presence bit outside 1 to 46"
+abbrev pub bitOutside : ℕ → Bool
+bitOutside word = bitAt word 0 || not (eqb (word / 2 ^ 47) 0)
+
+-- fields ascending from k: 10, 9
+unfoldable pub packChecks : ℕ → List Field → ℕ → List ℤ → List Check
+packChecks k [] word vs = []
+packChecks k (f ∷ fs) word [] = []
+packChecks k (f ∷ fs) word (v ∷ vs) =
+    check (required k && not (bitAt word k)) 10 k
+    ∷ check (bitAt word k && not (inRange f (scaled v))) 9 k
+    ∷ packChecks (suc k) fs word vs
+
+-- the entries from field k on; "values of missing fields are ignored"
+unfoldable pub entriesGiven : ℕ → ℕ → List ℤ → List (Option Scaled)
+entriesGiven k word [] = []
+entriesGiven k word (v ∷ vs) = cond (bitAt word k) (some (scaled v)) none ∷ entriesGiven (suc k) word vs
+
+-- AC, counted from a tail: attachment after attachment to the tail's end, m at most
+unfoldable pub countFrom : ℕ → List ℕ → ℕ
+countFrom zero ns = 0
+countFrom (suc m) [] = 0
+countFrom (suc m) (n ∷ ns) = 1 + countFrom m (behind (n ∷ ns))
+
+abbrev pub countIn : List ℕ → ℕ
+countIn ns = countFrom (length ns) ns
+
+unfoldable pub packSheet : List ℤ → ℕ → ℕ → List ℕ → Sheet
+packSheet values word rptin ns = sheet rptin (entriesGiven 1 word (take 46 values)) (attachmentsOf (countIn ns) ns)
+
+-- "13 for too few values, 8, fields ascending (10 or 9), 14 for the tail's bytes, the tail's attachments as in a report
+-- (1, 5, 6), 13 for the output"
+unfoldable pub packOrder : ℕ → List ℤ → ℕ → ℕ → List ℕ → List Check
+packOrder n values word rptin ns =
+    check (ltb (length values) 46) 13 0
+    ∷ check (bitOutside word) 8 0
+    ∷ (packChecks 1 table word values
+    ++ (check (not (allNibbles ns)) 14 0
+    ∷ (attachmentChecks (countIn ns) 1 [] ns
+    ++ (check (ltb n (size (packSheet values word rptin ns))) 13 0 ∷ []))))
+
+-- it gives the report's byte length
+unfoldable pub pack : List ℤ → ℕ → ℕ → List ℕ → List ℕ → Wrote
+pack values word rptin ns out =
+    let s = packSheet values word rptin ns in
+    wroteBy (first (packOrder (length out) values word rptin ns)) (some (pos (size s)) ∷ []) (packing s) out

@@ -1,0 +1,30 @@
+// The types that the definitions and the code share. No function.
+
+// A field's coded number as the card holds it. 0 is missing.
+pub struct Coded(pub u16);
+
+// A field's scaled value, in the field's unit: the coded number plus the base.
+pub struct Scaled(pub i64);
+
+// Where a reader of ship text stands: so many spaces that no symbol has followed yet, and what of a code it has read since.
+pub enum TextState {
+    // Between two codes.
+    Between(usize),
+    // After an 11.
+    Run(usize),
+    // After a 12, 13 or 14.
+    Pair(usize, u8),
+    // After a 15.
+    Escape(usize),
+    // After a 15 and the high half of a byte.
+    Half(usize, u8),
+    // The writer gives no such nibbles.
+    Invalid,
+}
+
+// What one nibble brings: another state, or a symbol behind so many spaces.
+pub enum TextStep {
+    On(TextState),
+    Plain(usize, u8),
+    Original(usize, u8),
+}
