@@ -1,0 +1,1 @@
+// The laws of the definitions stand in proofs/. No function.
