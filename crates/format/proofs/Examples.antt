@@ -1,7 +1,7 @@
 -- The examples of document 01, "Edges of the shelf", as one list that one computed fact checks; and as a second list,
 -- cases in which two refusals fit at once, for the orders of 01.
 -- Assumes nothing.
-use Prim.Native.Nat.{ℕ, zero, suc, _+_, _*_, _<_}
+use Prim.Native.Nat.{ℕ, zero, suc, _+_, _-_, _*_, _/_, _^_, _<_}
 use mathlib.Core.Path.{_≡_}
 use mathlib.Core.Bool.{Bool, true, false}
 use mathlib.Core.List.{List, [], _∷_, _++_, map}
@@ -17,12 +17,12 @@ use Rattle.format.specs.Flags.{weights, weight, totalWeight, allMissing,
 use Rattle.format.specs.ShipText.{charCode, short, pairByte, codeNibbles, classify, byteOf, escapable, isSpace, symbolNibbles, fulls, rest, spaceRun, writeFrom, writeText, spaces, textStep, stateAfter, symbolsOf, readFrom, endFrom, atEnd, textValid, readText}
 use Rattle.format.specs.Sheet.{Sheet, sheet, widths, checksum, cardNumbers, cardNibbles, packing, size}
 use Rattle.format.specs.Report.{sheetOf, codesOf, checksumOf, fieldChecks, bodyValid, attachmentChecks, reportChecks, Verdict, refused, accepted, judge}
-use Rattle.format.specs.Machine.{Call, readField, setField, clearField, readFlag, setFlag, clearFlag, put, fetch, remove, putText, fetchText, stands, contentOf, putIn, removeFrom, next, gives, lent, writes, allNibbles, callChecks, checks, Answer, step}
+use Rattle.format.specs.Machine.{Call, readField, setField, clearField, readFlag, setFlag, clearFlag, put, fetch, remove, putText, fetchText, stands, contentOf, putIn, removeFrom, withAttachments, next, gives, lent, writes, allNibbles, callChecks, checks, Answer, step}
 use Rattle.format.specs.Buffer.{layout, After, effect, Shown, Ran, calls, run, claim}
 use Rattle.format.specs.Whole.{freshSheet, freshChecks, Wrote, fresh, presenceFrom, countPresent, Unpacked, unpackGives, unpack, packChecks, entriesGiven, countFrom, packSheet, packOrder, pack}
 use Rattle.format.specs.Lister.{digitsFrom, fieldLines, listing}
 use Rattle.format.specs.declared.Scaled.{Scaled}
-use Rattle.format.proofs.Test.{Example, same, every, each}
+use Rattle.format.proofs.Test.{Example, none as nothing, same, every, each}
 
 -- ---- sheets, verdicts and answers as numbers, so that one test compares all
 
@@ -176,3 +176,112 @@ examples =
 pub hold : T (every examples)
 unfolding signed given valueNumbers sheetNumbers refusal judged answer answers yes refuses example freshExample freshBytes freshSheetExample sBytes textBytes reportOf highestCodes freshCodes badText flagless put1 flagCalls answersOf roomy wide examples same every first table fieldAt required scaledOf codedOf inRange entryOf codeOf entries codes bits number bitsOf bitField total readFields writeFields nibbles bytes padded attachmentNibbles tailNibbles attachmentsOf among weights weight totalWeight allMissing qualityCode flagsFit flagBody withFlag flagsValid charCode short pairByte codeNibbles classify byteOf escapable isSpace symbolNibbles fulls rest spaceRun writeFrom writeText spaces textStep stateAfter symbolsOf readFrom endFrom atEnd textValid readText widths checksum cardNumbers cardNibbles packing sheetOf fieldChecks bodyValid attachmentChecks reportChecks judge stands contentOf putIn removeFrom next gives lent writes allNibbles callChecks checks step layout effect calls run claim freshSheet freshChecks fresh digitsFrom fieldLines listing
 hold = tt
+
+-- ---- two refusals that fit at once, zeroed bytes, unpack and pack
+
+-- the fresh report's codes with coded number c at field k
+codesWith : ℕ → ℕ → List ℕ
+codesWith k c = set freshCodes (k - 1) c
+
+-- and with MONTH missing too
+codesWithout : ℕ → ℕ → List ℕ
+codesWithout k c = set (codesWith k c) 2 0
+
+-- another checksum than that of the fields
+spoilt : List ℕ → List ℕ
+spoilt b = set b 36 (255 - getD b 36 0)
+
+one : ℕ → List ℕ
+one n = n ∷ []
+
+wholeValues : List ℤ
+wholeValues = pos 1 ∷ pos 1900 ∷ pos 1 ∷ pos 77 ∷ pos 77 ∷ pos 0 ∷ pos 0 ∷ replicate 39 (pos 77)
+
+numbers : List ℤ → List ℕ
+numbers [] = []
+numbers (z ∷ zs) = signed z ++ numbers zs
+
+packed : List ℤ → ℕ → List ℕ → List ℕ → List ℕ
+packed values word ns out = let w = pack values word 513 ns out in answer (w .answer) ++ w .out
+
+-- the presence bits of the required fields
+requiredBits : ℕ
+requiredBits = 2 + 4 + 8 + 64 + 128
+
+unpackedNumbers : Unpacked → List ℕ
+unpackedNumbers u = answer (u .answer) ++ (numbers (u .values) ++ u .tail)
+
+pub orders : List Example
+orders =
+    -- a report: length, fields ascending, 4, each attachment (header fits, 5, data fits, 6), 7
+    example (judged (judge (take 37 (spoilt freshBytes)))) (refuses 1 0)
+    ∷ example (judged (judge (reportOf (codesWithout 1 700) 0 []))) (refuses 2 1)
+    ∷ example (judged (judge (reportOf (codesWithout 4 32) 0 []))) (refuses 3 3)
+    ∷ example (judged (judge (spoilt (reportOf (codesWith 5 25) 0 [])))) (refuses 2 5)
+    ∷ example (judged (judge (spoilt (reportOf freshCodes 1 (0 ∷ 0 ∷ 5 ∷ []))))) (refuses 4 0)
+    ∷ example (judged (judge (reportOf freshCodes 1 []))) (refuses 1 1)
+    ∷ example (judged (judge (reportOf freshCodes 1 (15 ∷ 15 ∷ 0 ∷ [])))) (refuses 5 1)
+    ∷ example (judged (judge (reportOf freshCodes 1 (0 ∷ 9 ∷ 1 ∷ [])))) (refuses 1 1)
+    ∷ example (judged (judge (reportOf freshCodes 2 (0 ∷ 1 ∷ 5 ∷ 9 ∷ 0 ∷ 1 ∷ 5 ∷ 9 ∷ [])))) (refuses 5 2)
+    ∷ example (judged (judge (reportOf freshCodes 2 (0 ∷ 1 ∷ 1 ∷ 0 ∷ 0 ∷ 0 ∷ 5 ∷ 1 ∷ [])))) (refuses 6 1)
+    ∷ example (judged (judge (reportOf freshCodes 1 (0 ∷ 1 ∷ 4 ∷ 10 ∷ 3 ∷ [])))) (refuses 6 1)
+    ∷ example (judged (judge (reportOf freshCodes 1 (0 ∷ 2 ∷ 5 ∷ 9 ∷ 9 ∷ 3 ∷ [])))) (1 ∷ sheetNumbers (withAttachments freshSheetExample (attachment 5 (9 ∷ 9 ∷ []) ∷ [])))
+    ∷ example (judged (judge (reportOf freshCodes 1 (0 ∷ 1 ∷ 5 ∷ 9 ∷ 3 ∷ [])))) (refuses 7 0)
+    ∷ example (judged (judge (reportOf freshCodes 1 (0 ∷ 2 ∷ 5 ∷ 9 ∷ 9 ∷ []) ++ (1 ∷ [])))) (1 ∷ sheetNumbers (withAttachments freshSheetExample (attachment 5 (9 ∷ 9 ∷ []) ∷ [])))
+    ∷ example (judged (judge (freshBytes ++ (255 ∷ [])))) (judged (accepted freshSheetExample))
+    ∷ example (judged (judge (set freshBytes 37 3))) (refuses 7 0)
+    -- 8, 9, 10, 11, 12, 14, 13, after the report
+    ∷ example (answersOf (spoilt freshBytes) (setField 47 (scaled (pos 0)) ∷ fetch 0 (3 ∷ []) ∷ [])) (refuses 4 0 ++ (refuses 4 0 ++ one 3))
+    ∷ example (answersOf freshBytes (setField 47 (scaled (minus 5)) ∷ setField 260 (scaled (pos 1)) ∷ clearField 0 ∷ readField 47 ∷ [])) (refuses 8 0 ++ (refuses 8 0 ++ (refuses 8 0 ++ refuses 8 0)))
+    ∷ example (answersOf freshBytes (setFlag 15 11 ∷ setFlag 14 11 ∷ setFlag 1 0 ∷ setFlag 1 1 ∷ readFlag 0 ∷ readFlag 14 ∷ clearFlag 15 ∷ clearFlag 1 ∷ []))
+    (refuses 8 0 ++ (refuses 9 14 ++ (refuses 9 1 ++ (refuses 11 0 ++ (refuses 8 0 ++ (refuses 11 0 ++ (refuses 8 0 ++ refuses 11 0)))))))
+    ∷ example (answersOf freshBytes (put 16 [] ∷ put 1 [] ∷ put 5 (replicate 256 16) ∷ put 5 (16 ∷ []) ∷ put 1 (0 ∷ []) ∷ put 5 (1 ∷ []) ∷ putText (32 ∷ []) ∷ putText (65 ∷ []) ∷ []))
+    (refuses 8 0 ++ (refuses 12 0 ++ (refuses 12 0 ++ (refuses 14 0 ++ (refuses 14 0 ++ (refuses 13 0 ++ (refuses 12 0 ++ refuses 13 0)))))))
+    ∷ example (answersOf (textBytes) (fetch 16 [] ∷ fetch 5 [] ∷ fetch 4 (7 ∷ 7 ∷ []) ∷ fetch 4 (7 ∷ 7 ∷ 7 ∷ 7 ∷ []) ∷ fetchText (7 ∷ []) ∷ remove 5 ∷ remove 0 ∷ []))
+    (refuses 8 0 ++ (refuses 11 0 ++ (refuses 13 0 ++ (7 ∷ 7 ∷ 1 ∷ 1 ∷ 0 ∷ 3 ∷ 12 ∷ 1 ∷ 1 ∷ 7 ∷ (refuses 13 0 ++ (7 ∷ (refuses 11 0 ++ refuses 8 0)))))))
+    -- bytes from the present end to the longest end reached are 0, and those past it keep their value
+    ∷ example (drop 37 (claim roomy (put 9 (1 ∷ 2 ∷ 3 ∷ []) ∷ put 8 (4 ∷ 5 ∷ []) ∷ remove 9 ∷ []) .buffer)) (16 ∷ 40 ∷ 69 ∷ 0 ∷ 0 ∷ 0 ∷ replicate 17 5)
+    ∷ example (drop 37 (claim roomy (put 9 (1 ∷ 2 ∷ 3 ∷ []) ∷ remove 9 ∷ []) .buffer)) (0 ∷ 0 ∷ 0 ∷ 0 ∷ replicate 19 5)
+    ∷ example (drop 37 (effect (effect roomy (put 9 (1 ∷ 2 ∷ 3 ∷ [])) .buffer) (remove 9) .buffer)) (0 ∷ 0 ∷ 0 ∷ 0 ∷ replicate 19 5)
+    -- a put where the id stands keeps the order
+    ∷ example (tailNibbles (sheetOf (claim roomy (put 9 (1 ∷ []) ∷ put 8 (2 ∷ []) ∷ put 9 (3 ∷ 3 ∷ []) ∷ []) .buffer) .attachments)) (0 ∷ 2 ∷ 9 ∷ 3 ∷ 3 ∷ 0 ∷ 1 ∷ 8 ∷ 2 ∷ [])
+    -- the last flag cleared: quality code 0; a missing flag reads as missing
+    ∷ example (answersOf roomy (put1 ∷ setFlag 14 10 ∷ readFlag 14 ∷ fetch 1 (replicate 16 9) ∷ clearFlag 14 ∷ readFlag 14 ∷ fetch 1 (replicate 16 9) ∷ []))
+    (1 ∷ 1 ∷ 1 ∷ 1 ∷ 0 ∷ 10 ∷ 1 ∷ 1 ∷ 0 ∷ 16 ∷ (replicate 13 0 ++ (10 ∷ 0 ∷ 4 ∷ 1 ∷ 1 ∷ 0 ∷ 1 ∷ 1 ∷ 0 ∷ 16 ∷ replicate 16 0)))
+    -- fresh: 9 by ascending field, then 13
+    ∷ example (let w = fresh (scaled (pos 1)) (scaled (pos 1799)) (scaled (pos 13)) (scaled (pos 0)) (scaled (pos 0)) (7 ∷ []) in answer (w .answer) ++ w .out) (refuses 9 2 ++ one 7)
+    ∷ example (let w = freshExample (replicate 37 7) in answer (w .answer) ++ w .out) (refuses 13 0 ++ replicate 37 7)
+    -- unpack and pack
+    ∷ example (unpackedNumbers (unpack textBytes (replicate 47 (pos 5)) (replicate 7 5)))
+    ((1 ∷ 1 ∷ 0 ∷ (requiredBits + 2 ^ 31) ∷ 1 ∷ 0 ∷ 6 ∷ 1 ∷ 0 ∷ 0 ∷ 1 ∷ 0 ∷ 1 ∷ 1 ∷ 0 ∷ 41 ∷ 1 ∷ 0 ∷ 6 ∷ [])
+    ++ (numbers (pos 1 ∷ pos 1900 ∷ pos 1 ∷ replicate 27 (pos 0)) ++ (numbers (pos 286 ∷ replicate 15 (pos 0)) ++ (numbers (pos 5 ∷ []) ++ (0 ∷ 3 ∷ 4 ∷ 12 ∷ 1 ∷ 1 ∷ 5 ∷ [])))))
+    ∷ example (unpackedNumbers (unpack textBytes (replicate 45 (pos 5)) (replicate 7 5))) (refuses 13 0 ++ (numbers (replicate 45 (pos 5)) ++ replicate 7 5))
+    ∷ example (unpackedNumbers (unpack textBytes [] (replicate 5 5))) (refuses 13 0 ++ replicate 5 5)
+    ∷ example (packed wholeValues requiredBits [] (replicate 39 7)) (1 ∷ 1 ∷ 0 ∷ 38 ∷ (2 ∷ 1 ∷ (drop 2 freshBytes ++ one 7)))
+    ∷ example (packed wholeValues requiredBits (0 ∷ 3 ∷ 4 ∷ 12 ∷ 1 ∷ 1 ∷ []) (replicate 41 7)) (1 ∷ 1 ∷ 0 ∷ 41 ∷ (2 ∷ 1 ∷ (take 35 (drop 2 freshBytes) ++ (0x10 ∷ 0x34 ∷ 0xC1 ∷ 0x10 ∷ []))))
+    ∷ example (packed (take 45 wholeValues) 1 [] []) (refuses 13 0)
+    ∷ example (packed wholeValues 1 [] []) (refuses 8 0)
+    ∷ example (packed wholeValues (requiredBits + 2 ^ 47) [] []) (refuses 8 0)
+    ∷ example (packed wholeValues (requiredBits - 8 + 16) (16 ∷ []) []) (refuses 10 3)
+    ∷ example (packed wholeValues (requiredBits - 64 + 16) (16 ∷ []) []) (refuses 9 4)
+    ∷ example (packed wholeValues requiredBits (0 ∷ 0 ∷ 16 ∷ []) []) (refuses 14 0)
+    ∷ example (packed wholeValues requiredBits (0 ∷ 1 ∷ 5 ∷ 9 ∷ 0 ∷ 1 ∷ []) []) (refuses 1 2)
+    ∷ example (packed wholeValues requiredBits (0 ∷ 1 ∷ 5 ∷ 9 ∷ 0 ∷ 1 ∷ 5 ∷ []) []) (refuses 5 2)
+    ∷ example (packed wholeValues requiredBits (0 ∷ 1 ∷ 1 ∷ 9 ∷ []) []) (refuses 6 1)
+    ∷ example (packed wholeValues requiredBits (0 ∷ 1 ∷ 5 ∷ 9 ∷ []) (replicate 39 7)) (refuses 13 0 ++ replicate 39 7)
+    -- nineteen spaces are 11 15 10, and not 10 11 15
+    ∷ example (writeText (replicate 19 32 ++ (66 ∷ []))) (11 ∷ 15 ∷ 10 ∷ 12 ∷ 2 ∷ [])
+    ∷ example (answersOf roomy (put 4 (10 ∷ 11 ∷ 15 ∷ 12 ∷ 2 ∷ []) ∷ put 4 (11 ∷ 15 ∷ 10 ∷ 12 ∷ 2 ∷ []) ∷ put 4 (1 ∷ 10 ∷ []) ∷ put 4 (15 ∷ 4 ∷ 1 ∷ []) ∷ put 4 (14 ∷ 0 ∷ []) ∷ put 4 (15 ∷ 6 ∷ []) ∷ []))
+    (refuses 14 0 ++ (1 ∷ (refuses 14 0 ++ (refuses 14 0 ++ (refuses 14 0 ++ refuses 14 0)))))
+    ∷ []
+
+pub orders-hold : T (every orders)
+unfolding codesWith codesWithout spoilt one wholeValues numbers packed requiredBits unpackedNumbers orders presenceFrom countPresent unpackGives unpack packChecks entriesGiven countFrom packSheet packOrder pack signed given valueNumbers sheetNumbers refusal judged answer answers yes refuses example freshExample freshBytes freshSheetExample sBytes textBytes reportOf highestCodes freshCodes badText flagless put1 flagCalls answersOf roomy wide same every first table fieldAt required scaledOf codedOf inRange entryOf codeOf entries codes bits number bitsOf bitField total readFields writeFields nibbles bytes padded attachmentNibbles tailNibbles attachmentsOf among weights weight totalWeight allMissing qualityCode flagsFit flagBody withFlag flagsValid charCode short pairByte codeNibbles classify byteOf escapable isSpace symbolNibbles fulls rest spaceRun writeFrom writeText spaces textStep stateAfter symbolsOf readFrom endFrom atEnd textValid readText widths checksum cardNumbers cardNibbles packing sheetOf fieldChecks bodyValid attachmentChecks reportChecks judge stands contentOf putIn removeFrom next gives lent writes allNibbles callChecks checks step layout effect calls run claim freshSheet freshChecks fresh digitsFrom fieldLines listing
+orders-hold = tt
+
+-- what the facts say of each entry
+pub examples-hold : (k : ℕ) → k < length examples → getD examples k nothing .got ≡ getD examples k nothing .want
+examples-hold = each examples hold
+
+pub each-order : (k : ℕ) → k < length orders → getD orders k nothing .got ≡ getD orders k nothing .want
+each-order = each orders orders-hold

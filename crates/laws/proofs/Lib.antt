@@ -1,1 +1,11 @@
 pub mod Lists
+pub mod Order
+pub mod Bits
+pub mod Nibbles
+pub mod Card
+pub mod Fields
+pub mod Flags
+pub mod Attachments
+pub mod AttachmentEdits
+pub mod Report
+pub mod List

@@ -1,0 +1,202 @@
+-- Laws of the flags: the bodies that id 1 may have, their quality code, and a flag set.
+-- Assumes nothing.
+use Prim.Native.Nat.{ℕ, zero, suc, _+_, _-_, _*_, _/_, _%_, _≤_, _<_}
+use native.Mathlib.Omega.{arith}
+use native.Mathlib.Decide.{decLt}
+use mathlib.Core.Path.{_≡_, refl, sym, ap, subst, _∙_}
+use mathlib.Core.Bool.{Bool, true, false, cond, _&&_}
+use mathlib.Core.List.{List, [], _∷_, _++_}
+use lib.ListN.{length, getD, take, drop, set, length-append, length-take, length-set, take-append-drop, drop-of-length-le}
+use lib.Seq.{length-take-le, take-at, getD-append-add, getD-set-same, getD-set-other, getD-take, drop-cons}
+use lib.Dec.{eqb, leb}
+use borrow.Author.Tests.{leb-true, eqb-true, eq-eqb}
+use Rattle.format.specs.Order.{between}
+use Rattle.format.specs.Flags.{permitted, weights, weight, totalWeight, allMissing, qualityCode, flagInRange, flagsFit, flagAt, flagBody, withFlag, flagsValid}
+use Rattle.laws.proofs.Lists.{and-true, cond-case}
+
+-- ---- what a flag may hold
+
+-- flag j may hold v: missing, or in range
+abbrev pub flagFits : ℕ → ℕ → Bool
+flagFits j v = cond (eqb v 0) true (flagInRange j v)
+
+pub missing-fits : (j : ℕ) → flagFits j 0 ≡ true
+missing-fits j = refl
+
+pub range-fits : (j v : ℕ) → flagInRange j v ≡ true → flagFits j v ≡ true
+range-fits j v e = cond-case (λ (t : Bool). t ≡ true) (eqb v 0) true (flagInRange j v) (λ _. refl) (λ _. e)
+
+flag-le : (j v : ℕ) → flagFits j v ≡ true → v ≤ 10
+flag-le j v e = go (eqb v 0) refl e
+  where
+    go : (t : Bool) → eqb v 0 ≡ t → cond t true (flagInRange j v) ≡ true → v ≤ 10
+    go true q e = omega (arith, eqb-true v 0 q)
+    go false q e = leb-true v 10 (and-true (leb 1 v) (leb v 10) (and-true (between 1 10 v) (permitted j v) e .0) .1)
+
+-- no flag is over 10
+pub flags-le : (j : ℕ) (flags : List ℕ) → flagsFit j flags ≡ true → (i : ℕ) → getD flags i 0 ≤ 10
+unfolding flagsFit
+flags-le j [] e i = omega arith
+flags-le j (v ∷ vs) e zero = flag-le j v (and-true (flagFits j v) (flagsFit (suc j) vs) e .0)
+flags-le j (v ∷ vs) e (suc i) = flags-le (suc j) vs (and-true (flagFits j v) (flagsFit (suc j) vs) e .1) i
+
+-- flags that fit still do with one more that fits
+fit-set : (j : ℕ) (flags : List ℕ) (i v : ℕ) → flagsFit j flags ≡ true → flagFits (j + i) v ≡ true → flagsFit j (set flags i v) ≡ true
+unfolding flagsFit
+fit-set j [] i v e f = refl
+fit-set j (x ∷ vs) zero v e f =
+    let z : j + 0 ≡ j = omega arith in
+    let f′ = subst (λ (k : ℕ). flagFits k v ≡ true) z f in
+    rw (f′, and-true (flagFits j x) (flagsFit (suc j) vs) e .1)
+fit-set j (x ∷ vs) (suc i) v e f =
+    let z : j + suc i ≡ suc j + i = omega arith in
+    let a = and-true (flagFits j x) (flagsFit (suc j) vs) e in
+    rw (a .0, fit-set (suc j) vs i v (a .1) (subst (λ (k : ℕ). flagFits k v ≡ true) z f))
+
+-- ---- the quality code
+
+-- no number of a list is over n
+upTo : ℕ → List ℕ → Bool
+upTo n [] = true
+upTo n (x ∷ xs) = leb x n && upTo n xs
+
+upTo-at : (n : ℕ) (xs : List ℕ) → upTo n xs ≡ true → (i : ℕ) → getD xs i 0 ≤ n
+unfolding upTo
+upTo-at n [] e i = omega arith
+upTo-at n (x ∷ xs) e zero = leb-true x n (and-true (leb x n) (upTo n xs) e .0)
+upTo-at n (x ∷ xs) e (suc i) = upTo-at n xs (and-true (leb x n) (upTo n xs) e .1) i
+
+weight-le : (v : ℕ) → weight v ≤ 3
+unfolding weight weights upTo
+weight-le zero = omega arith
+weight-le (suc v) = upTo-at 3 weights refl v
+
+weights-le : (flags : List ℕ) → totalWeight flags ≤ 3 * length flags
+unfolding totalWeight
+weights-le [] = omega arith
+weights-le (v ∷ vs) = omega (arith, weight-le v, weights-le vs)
+
+-- at most 43 of fourteen flags: two nibbles
+pub quality-le : (flags : List ℕ) → qualityCode flags ≤ 1 + 3 * length flags
+unfolding qualityCode
+quality-le flags =
+    cond-case (λ (q : ℕ). q ≤ 1 + 3 * length flags) (allMissing flags) 0 (1 + totalWeight flags)
+    (λ _. omega arith)
+    (λ _. omega (arith, weights-le flags))
+
+-- ---- the body of fourteen flags
+
+quality-nibble : (q : ℕ) → q ≤ 43 → (n : ℕ) → getD (q / 16 ∷ q % 16 ∷ []) n 0 < 16
+quality-nibble q h zero = omega arith
+quality-nibble q h (suc zero) = omega arith
+quality-nibble q h (suc (suc n)) = omega arith
+
+module _ (flags : List ℕ) (l : length flags ≡ 14) where
+  pub body-length : length (flagBody flags) ≡ 16
+  unfolding flagBody
+  body-length = simp (length-append, l)
+
+  pub body-flags : take 14 (flagBody flags) ≡ flags
+  unfolding flagBody
+  body-flags = take-at flags _ 14 l
+
+  -- from its fifteenth nibble on, a body is the two nibbles of its quality code
+  body-behind : (n : ℕ) → getD (flagBody flags) (14 + n) 0 ≡ getD (qualityCode flags / 16 ∷ qualityCode flags % 16 ∷ []) n 0
+  unfolding flagBody
+  body-behind n = rw l at (getD-append-add flags (qualityCode flags / 16 ∷ qualityCode flags % 16 ∷ []) n 0)
+
+  pub body-quality : getD (flagBody flags) 14 0 * 16 + getD (flagBody flags) 15 0 ≡ qualityCode flags
+  body-quality = rw (body-behind 0, body-behind 1) (omega arith)
+
+  module _ (e : flagsFit 1 flags ≡ true) where
+    pub flags-body : flagsValid (flagBody flags) ≡ true
+    unfolding flagsValid
+    flags-body = rw (body-length, body-flags, e, body-quality, eq-eqb (qualityCode flags) (qualityCode flags) refl)
+
+    pub body-nibbles : (i : ℕ) → getD (flagBody flags) i 0 < 16
+    body-nibbles i = go (decLt i 14)
+      where
+        go : Dec (i < 14) → getD (flagBody flags) i 0 < 16
+        go (yes h) = omega (arith, sym (getD-take 14 (flagBody flags) i 0 h), ap (λ (x : List ℕ). getD x i 0) body-flags, flags-le 1 flags e i)
+        go (no h) =
+            let q : i ≡ 14 + (i - 14) = omega arith in
+            rw (q, body-behind (i - 14)) (quality-nibble (qualityCode flags) (omega (arith, quality-le flags)) (i - 14))
+
+-- ---- a valid body
+
+-- what a body that 6 accepts is
+pub record ValidFlags (body : List ℕ) : Type 0 where
+  pub long : length body ≡ 16
+  pub fit : flagsFit 1 (take 14 body) ≡ true
+  pub quality : getD body 14 0 * 16 + getD body 15 0 ≡ qualityCode (take 14 body)
+
+pub valid-flags : (body : List ℕ) → flagsValid body ≡ true → ValidFlags body
+unfolding flagsValid
+valid-flags body e =
+    let q = eqb (getD body 14 0 * 16 + getD body 15 0) (qualityCode (take 14 body)) in
+    let a = and-true (eqb (length body) 16) (flagsFit 1 (take 14 body) && q) e in
+    let b = and-true (flagsFit 1 (take 14 body)) q (a .1) in
+    record {
+      long = eqb-true (length body) 16 (a .0);
+      fit = b .0;
+      quality = eqb-true (getD body 14 0 * 16 + getD body 15 0) (qualityCode (take 14 body)) (b .1);
+    }
+
+-- it is the body of its flags, and all nibbles, if its last element is one: 6 asks only for the sum of the last two
+pub valid-body : (body : List ℕ) → flagsValid body ≡ true → getD body 15 0 < 16 → body ≡ flagBody (take 14 body)
+unfolding flagBody
+valid-body body e h =
+    let v = valid-flags body e in
+    let high : getD body 14 0 ≡ qualityCode (take 14 body) / 16 = omega arith in
+    let low : getD body 15 0 ≡ qualityCode (take 14 body) % 16 = omega arith in
+    let end : drop 16 body ≡ [] = drop-of-length-le body {i = 16} (omega arith) in
+    let two : drop 14 body ≡ qualityCode (take 14 body) / 16 ∷ qualityCode (take 14 body) % 16 ∷ [] =
+    drop-cons body 14 0 (omega arith) ∙ rw (drop-cons body 15 0 (omega arith), high, low, end) in
+    sym (take-append-drop 14 body) ∙ ap (λ (l : List ℕ). take 14 body ++ l) two
+
+pub valid-nibbles : (body : List ℕ) → flagsValid body ≡ true → getD body 15 0 < 16 → (i : ℕ) → getD body i 0 < 16
+valid-nibbles body e h i =
+    let v = valid-flags body e in
+    rw (valid-body body e h) (body-nibbles (take 14 body) (length-take-le 14 body (omega arith)) (v .fit) i)
+
+-- ---- a flag set
+
+module _ (body : List ℕ) (j v : ℕ) where
+  set-length : length body ≡ 16 → length (set (take 14 body) (j - 1) v) ≡ 14
+  set-length l = length-set (take 14 body) (j - 1) v ∙ length-take-le 14 body (omega arith)
+
+  module _ (l : length body ≡ 16) where
+    pub flag-set-length : length (withFlag body j v) ≡ 16
+    unfolding withFlag
+    flag-set-length = body-length (set (take 14 body) (j - 1) v) (set-length l)
+
+    pub flag-set-flags : take 14 (withFlag body j v) ≡ set (take 14 body) (j - 1) v
+    unfolding withFlag
+    flag-set-flags = body-flags (set (take 14 body) (j - 1) v) (set-length l)
+
+    -- read back
+    pub flag-set-same : 1 ≤ j → j ≤ 14 → flagAt (withFlag body j v) j ≡ v
+    flag-set-same a b =
+        sym (getD-take 14 (withFlag body j v) (j - 1) 0 (omega arith))
+        ∙ rw flag-set-flags (getD-set-same (take 14 body) (j - 1) v 0 (omega (arith, length-take 14 body)))
+
+    -- the other flags are as they were
+    pub flag-set-other : (k : ℕ) → 1 ≤ j → 1 ≤ k → k ≤ 14 → (k ≡ j → ⊥) → flagAt (withFlag body j v) k ≡ flagAt body k
+    flag-set-other k a b c n =
+        sym (getD-take 14 (withFlag body j v) (k - 1) 0 (omega arith))
+        ∙ rw flag-set-flags (getD-set-other (take 14 body) (j - 1) (k - 1) v 0 (λ q. n (omega arith)))
+        ∙ getD-take 14 body (k - 1) 0 (omega arith)
+
+  module _ (e : flagsValid body ≡ true) (a : 1 ≤ j) (f : flagFits j v ≡ true) where
+    set-fit : flagsFit 1 (set (take 14 body) (j - 1) v) ≡ true
+    set-fit =
+        let z : j ≡ 1 + (j - 1) = omega arith in
+        fit-set 1 (take 14 body) (j - 1) v (valid-flags body e .fit) (subst (λ (k : ℕ). flagFits k v ≡ true) z f)
+
+    pub flag-set-valid : flagsValid (withFlag body j v) ≡ true
+    unfolding withFlag
+    flag-set-valid = flags-body (set (take 14 body) (j - 1) v) (set-length (valid-flags body e .long)) set-fit
+
+    pub flag-set-nibbles : (i : ℕ) → getD (withFlag body j v) i 0 < 16
+    unfolding withFlag
+    flag-set-nibbles = body-nibbles (set (take 14 body) (j - 1) v) (set-length (valid-flags body e .long)) set-fit

@@ -1,0 +1,220 @@
+-- Demand 3 as a theorem about the definitions: any list of calls on one buffer, refused ones included, is what is claimed
+-- of it: the machine's answers, the packing of its sheet, zeros to the longest end reached, and the bytes beyond.
+-- Assumes nothing.
+use Prim.Native.Nat.{ℕ, zero, suc, _+_, _-_, _*_, _/_, _%_, _^_, _<_, _≤_, max}
+use native.Mathlib.Omega.{arith}
+use mathlib.Core.Path.{_≡_, refl, sym, ap, ap₂, subst, _∙_}
+use mathlib.Core.Bool.{Bool, true, false, cond, not, _&&_, _||_}
+use mathlib.Core.List.{List, [], _∷_, _++_, map, append-assoc}
+use mathlib.Core.Option.{Option, none, some}
+use lib.ListN.{length, getD, drop, set, replicate, length-append, length-drop, length-replicate, replicate-append-replicate, drop-of-length-le}
+use lib.Seq.{drop-drop}
+use lib.Dec.{ltb, leb, eqb}
+use borrow.Author.Tests.{ltb-false, leb-true, eqb-true, not-false}
+use Rattle.format.specs.Order.{Refusal, Check, check, first, between}
+use Rattle.format.specs.Field.{table, fieldAt, isField, required, inRange}
+use Rattle.format.specs.Nibbles.{Attachment, attachment}
+use Rattle.format.specs.Flags.{isFlag, flagInRange, withFlag}
+use Rattle.format.specs.ShipText.{writeText}
+use Rattle.format.specs.Sheet.{Sheet, sheet, packing, size}
+use Rattle.format.specs.Report.{Verdict, judge, bodyValid}
+use Rattle.format.specs.Machine.{Call, readField, setField, clearField, readFlag, setFlag, clearFlag, put, fetch, remove, putText, fetchText, withValue, withAttachments, withContent, content, next, gives, lent, writes, allNibbles, flagNumberCheck, idCheck, lengthCheck, contentCheck, standsCheck, roomCheck, callChecks, checks, Answer, Stepped, steppedBy, step, over}
+use Rattle.format.specs.Buffer.{zeros, layout, After, after, effectOn, effect, Shown, shown, Ran, calls, Run, run, machineOn, refusals, claimOn, claim}
+use Rattle.laws.proofs.Lists.{and-true, or-false, drop-append, drop-replicate}
+use Rattle.laws.proofs.Order.{first-none, first-append-none}
+use Rattle.format.specs.declared.Scaled.{Scaled}
+use Rattle.laws.proofs.Bits.{Bytes}
+use Rattle.laws.proofs.Fields.{Fair, missing-fair, in-range-fair, fair-set, Present, present-some, present-none}
+use Rattle.laws.proofs.Flags.{flagFits, missing-fits, range-fits, valid-flags, flag-set-length, flag-set-valid, flag-set-nibbles}
+use Rattle.laws.proofs.Attachments.{FineAt}
+use Rattle.laws.proofs.AttachmentEdits.{put-fine, put-checked, remove-fine, content-fine}
+use Rattle.laws.proofs.Report.{Good, judge-packing, Taken, judged}
+
+-- ---- layouts
+
+-- an accepted buffer is laid out as its own sheet
+pub layout-same : (b : List ℕ) (s : Sheet) → Bytes b → judge b ≡ Verdict.accepted s → b ≡ layout b (size s) s
+unfolding layout
+layout-same b s bs j =
+    let a1 : size s - size s ≡ 0 = omega arith in
+    let a2 : max (size s) (size s) ≡ size s = omega arith in
+    rw (a1, a2) (judged b s bs j .starts)
+
+n1 : (p q : ℕ) → max p q - p ≡ q - p
+n1 p q = omega arith
+
+n2 : (p q e : ℕ) → p ≤ e → (p - q) + (e - p - (q - p)) ≡ e - q
+n2 p q e h = omega arith
+
+n3 : (e q : ℕ) → max e q - q ≡ e - q
+n3 e q = omega arith
+
+n4 : (p q e : ℕ) → p ≤ e → (q - p) - (e - p) ≡ q - e
+n4 p q e h = omega arith
+
+n5 : (p q e : ℕ) → p ≤ e → max e p + (q - e) ≡ max (max e q) q
+n5 p q e h = omega arith
+
+-- laid out twice is laid out once, with zeros to the longer end
+relayout : (b : List ℕ) (e : ℕ) (s t : Sheet) → size s ≤ e → layout (layout b e s) (size s) t ≡ layout b (max e (size t)) t
+unfolding layout
+relayout b e s t h = parts (packing s) (packing t) h
+  where
+    parts : (p q : List ℕ) → length p ≤ e
+        → q ++ (zeros (length p - length q) ++ drop (max (length p) (length q)) (p ++ (zeros (e - length p) ++ drop (max e (length p)) b)))
+        ≡ q ++ (zeros (max e (length q) - length q) ++ drop (max (max e (length q)) (length q)) b)
+    parts p q h =
+        let d1 : drop (max (length p) (length q)) p ≡ [] = drop-of-length-le p {i = max (length p) (length q)} (omega arith) in
+        let z1 : zeros (length p - length q) ++ zeros (e - length p - (length q - length p)) ≡ zeros (max e (length q) - length q) =
+        replicate-append-replicate (length p - length q) (e - length p - (length q - length p)) 0
+        ∙ ap zeros (n2 (length p) (length q) e h ∙ sym (n3 e (length q))) in
+        rw (
+          drop-append (max (length p) (length q)) p (zeros (e - length p) ++ drop (max e (length p)) b),
+          d1,
+          n1 (length p) (length q),
+          drop-append (length q - length p) (zeros (e - length p)) (drop (max e (length p)) b),
+          length-replicate {A = ℕ} (e - length p) 0,
+          drop-replicate {A = ℕ} (length q - length p) (e - length p) 0,
+          drop-drop (length q - length p - (e - length p)) (max e (length p)) b,
+          n4 (length p) (length q) e h,
+          n5 (length p) (length q) e h,
+          ← z1,
+          append-assoc,
+        )
+
+layout-length : (b : List ℕ) (e : ℕ) (s : Sheet) → size s ≤ e → e ≤ length b → length (layout b e s) ≡ length b
+unfolding layout
+layout-length b e s h k = simp (length-append, length-replicate, length-drop) (omega arith)
+
+judge-layout : (b : List ℕ) (e : ℕ) (s : Sheet) → Good s → judge (layout b e s) ≡ Verdict.accepted s
+unfolding layout
+judge-layout b e s g = judge-packing s _ g
+
+-- ---- a step keeps the sheet good, and within the buffer
+
+pub record Kept (n : ℕ) (s : Sheet) : Type 0 where
+  pub good : Good s
+  pub fits : size s ≤ n
+
+between-in : (low high x : ℕ) → not (between low high x) ≡ false → (low ≤ x) × (x ≤ high)
+between-in low high x e =
+    let h = and-true (leb low x) (leb x high) (not-false _ e) in
+    (leb-true low x (h .0), leb-true x high (h .1))
+
+value-good : (s : Sheet) (k : ℕ) (e : Option Scaled) → Good s → Fair (fieldAt k) e → Present 1 (set (s .values) (k - 1) e) → Good (withValue s k e)
+unfolding fieldAt
+value-good s k e g f p = record { rptin = g .rptin; fair = fair-set (g .fair) (k - 1) e f; present = p; fine = g .fine }
+
+content-good : (s : Sheet) (i : ℕ) (ns : List ℕ) → Good s → FineAt (attachment i ns) → Good (withContent s i ns)
+content-good s i ns g f = record { rptin = g .rptin; fair = g .fair; present = g .present; fine = put-fine i ns f (g .fine) }
+
+put-good : (s : Sheet) (i : ℕ) (ns : List ℕ) → Good s → idCheck i .fits ≡ false → lengthCheck ns .fits ≡ false → contentCheck i ns .fits ≡ false
+    → Good (withContent s i ns)
+put-good s i ns g h l c = content-good s i ns g (put-checked i ns (not-false _ h) (not-false _ l) (not-false _ c))
+
+flag-good : (s : Sheet) (j v : ℕ) → Good s → flagNumberCheck j .fits ≡ false → flagFits j v ≡ true → standsCheck s 1 .fits ≡ false
+    → Good (withContent s 1 (withFlag (content s 1) j v))
+unfolding bodyValid
+flag-good s j v g f h c =
+    let old = content-fine 1 (g .fine) (not-false _ c) .valid in
+    let low = between-in 1 14 j f .0 in
+    let long = flag-set-length (content s 1) j v (valid-flags (content s 1) old .long) in
+    content-good s 1 (withFlag (content s 1) j v) g
+    (record {
+      filled = omega arith;
+      short = omega arith;
+      nibbles = flag-set-nibbles (content s 1) j v old low h;
+      low = omega arith;
+      high = omega arith;
+      valid = flag-set-valid (content s 1) j v old low h;
+    })
+
+next-good : (s : Sheet) (c : Call) → Good s → first (callChecks s c) ≡ none → Good (next s c)
+unfolding next callChecks
+next-good s (readField k) g e = g
+next-good s (setField k v) g e =
+    let c1 = first-none _ _ e in
+    let c2 = first-none _ _ (c1 .1) in
+    value-good s k (some v) g (in-range-fair (fieldAt k) v (not-false _ (c2 .0))) (present-some 1 (s .values) (k - 1) v (g .present))
+next-good s (clearField k) g e =
+    let c1 = first-none _ _ e in
+    let c2 = first-none _ _ (c1 .1) in
+    let low = between-in 1 46 k (c1 .0) .0 in
+    let at : 1 + (k - 1) ≡ k = omega arith in
+    value-good s k none g (missing-fair (fieldAt k)) (present-none 1 (s .values) (k - 1) (ap required at ∙ c2 .0) (g .present))
+next-good s (readFlag j) g e = g
+next-good s (setFlag j v) g e =
+    let c1 = first-none _ _ e in
+    let c2 = first-none _ _ (c1 .1) in
+    let c3 = first-none _ _ (c2 .1) in
+    flag-good s j v g (c1 .0) (range-fits j v (not-false _ (c2 .0))) (c3 .0)
+next-good s (clearFlag j) g e =
+    let c1 = first-none _ _ e in
+    let c2 = first-none _ _ (c1 .1) in
+    flag-good s j 0 g (c1 .0) (missing-fits j) (c2 .0)
+next-good s (put i ns) g e =
+    let c1 = first-none _ _ e in
+    let c2 = first-none _ _ (c1 .1) in
+    let c3 = first-none _ _ (c2 .1) in
+    put-good s i ns g (c1 .0) (c2 .0) (c3 .0)
+next-good s (fetch i out) g e = g
+next-good s (remove i) g e = record { rptin = g .rptin; fair = g .fair; present = g .present; fine = remove-fine i (g .fine) }
+next-good s (putText t) g e =
+    let c1 = first-none _ _ e in
+    let c2 = first-none _ _ (c1 .1) in
+    put-good s 4 (writeText t) g refl (c1 .0) (c2 .0)
+next-good s (fetchText out) g e = g
+
+step-kept : (n : ℕ) (s : Sheet) (c : Call) → Kept n s → Kept n (step n s c .sheet)
+unfolding step
+step-kept n s c k = go (first (checks n s c)) refl
+  where
+    go : (o : Option Refusal) → first (checks n s c) ≡ o → Kept n (steppedBy o s c .sheet)
+    go (some r) e = k
+    go none e =
+        let f = first-append-none (callChecks s c) (roomCheck n s c ∷ []) (unfold checks in e) in
+        let room = or-false (ltb n (size (next s c))) (ltb (length (lent c)) (length (writes s c))) (first-none (roomCheck n s c) [] (f .1) .0) in
+        record { good = next-good s c (k .good) (f .0); fits = ltb-false n (size (next s c)) (room .0) }
+
+-- ---- the whole list
+
+-- one call, on a laid-out buffer
+one : (b : List ℕ) (s : Sheet) (e : ℕ) (c : Call) → Kept (length b) s → size s ≤ e → e ≤ length b
+    → effect (layout b e s) c
+    ≡ after (step (length b) s c .answer) (layout b (max e (size (step (length b) s c .sheet))) (step (length b) s c .sheet)) (step (length b) s c .out)
+unfolding effect
+one b s e c g h k =
+    rw (judge-layout b e s (g .good), layout-length b e s h k, relayout b e s (step (length b) s c .sheet) h)
+
+laid : (cs : List Call) (b : List ℕ) (s : Sheet) (e : ℕ) → Kept (length b) s → size s ≤ e → e ≤ length b
+    → calls (layout b e s) cs ≡ machineOn b (run (length b) s e cs)
+unfolding calls run
+laid [] b s e g h k = refl
+laid (c ∷ cs) b s e g h k =
+    let u = step (length b) s c .sheet in
+    let g′ = step-kept (length b) s c g in
+    let ih = laid cs b u (max e (size u)) g′ (omega arith) (omega (arith, g′ .fits)) in
+    rw (one b s e c g h k) (ap (λ (r : Ran). record { answers = shown (step (length b) s c .answer) (step (length b) s c .out) ∷ r .answers; buffer = r .buffer }) ih)
+
+accepted-list : (b : List ℕ) (s : Sheet) (cs : List Call) → Bytes b → judge b ≡ Verdict.accepted s
+    → calls b cs ≡ machineOn b (run (length b) s (size s) cs)
+accepted-list b s cs bs j =
+    let k = judged b s bs j in
+    let f : size s ≤ length b = omega (arith, length-append (packing s) (drop (size s) b), ap length (k .starts)) in
+    ap (λ (x : List ℕ). calls x cs) (layout-same b s bs j)
+    ∙ laid cs b s (size s) (record { good = k .good; fits = f }) (omega arith) f
+
+refused-list : (b : List ℕ) (r : Refusal) (cs : List Call) → judge b ≡ Verdict.refused r → calls b cs ≡ record { answers = refusals r cs; buffer = b }
+unfolding calls effect
+refused-list b r [] j = refl
+refused-list b r (c ∷ cs) j =
+    rw j (ap (λ (x : Ran). record { answers = shown (Answer.refused r) (lent c) ∷ x .answers; buffer = x .buffer }) (refused-list b r cs j))
+
+claim-of : (b : List ℕ) (cs : List Call) (v : Verdict) → Bytes b → judge b ≡ v → calls b cs ≡ claimOn v b cs
+claim-of b cs (Verdict.refused r) bs j = refused-list b r cs j
+claim-of b cs (Verdict.accepted s) bs j = accepted-list b s cs bs j
+
+-- THE WHOLE LIST
+pub whole-list : (b : List ℕ) (cs : List Call) → Bytes b → calls b cs ≡ claim b cs
+unfolding claim
+whole-list b cs bs = claim-of b cs (judge b) bs refl
