@@ -7,5 +7,7 @@ pub mod Fields
 pub mod Flags
 pub mod Attachments
 pub mod AttachmentEdits
+pub mod Characters
+pub mod ShipText
 pub mod Report
 pub mod List

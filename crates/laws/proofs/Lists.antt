@@ -18,14 +18,6 @@ pub or-false : (a b : Bool) → a || b ≡ false → (a ≡ false) × (b ≡ fal
 or-false true b e = let z : _≡_ {A = ℕ} 0 1 = cc in absurd (omega arith)
 or-false false b e = (refl, e)
 
-pub not-true : (a : Bool) → not a ≡ true → a ≡ false
-not-true true e = let z : _≡_ {A = ℕ} 0 1 = cc in absurd (omega arith)
-not-true false e = refl
-
-pub not-false : (a : Bool) → not a ≡ false → a ≡ true
-not-false true e = refl
-not-false false e = let z : _≡_ {A = ℕ} 0 1 = cc in absurd (omega arith)
-
 pub true-false : (t : Bool) → t ≡ true → t ≡ false → ⊥
 true-false t p q = let z : _≡_ {A = ℕ} 0 1 = cc in omega arith
 
@@ -33,6 +25,11 @@ true-false t p q = let z : _≡_ {A = ℕ} 0 1 = cc in omega arith
 pub cond-case {ℓ κ} : {A : Type ℓ} (P : A → Type κ) (t : Bool) (a b : A) → (t ≡ true → P a) → (t ≡ false → P b) → P (cond t a b)
 cond-case P true a b f g = f refl
 cond-case P false a b f g = g refl
+
+-- a claim, whether a test passes or fails
+pub test-case {κ} : {P : Type κ} (t : Bool) → (t ≡ true → P) → (t ≡ false → P) → P
+test-case true f g = f refl
+test-case false f g = g refl
 
 -- ---- lists
 

@@ -11,14 +11,14 @@ use native.Mathlib.Nat.{suc-inj}
 use lib.ListN.{length, getD, take, drop, replicate, length-map, length-append, length-drop, take-append-drop, drop-of-length-le}
 use lib.Seq.{take-at, getD-at, drop-cons, take-append-seam, getD-drop, length-take-le, getD-append-add, getD-append-seam}
 use lib.Dec.{ltb, leb, eqb}
-use borrow.Author.Tests.{lt-ltb, le-ltb, eq-eqb, ne-eqb, ltb-false, eqb-true, eqb-false}
+use borrow.Author.Tests.{lt-ltb, le-ltb, eq-eqb, ne-eqb, ltb-false, eqb-true, eqb-false, not-false}
 use Rattle.format.specs.Order.{Refusal, Check, check, first}
 use Rattle.format.specs.Field.{Field, table, entries, codes}
 use Rattle.format.specs.Bits.{readFields, writeFields}
 use Rattle.format.specs.Nibbles.{Attachment, nibbles, bytes, padded, odd, tailNibbles, attachmentsOf}
 use Rattle.format.specs.Sheet.{Sheet, sheet, widths, checksum, cardNumbers, cardNibbles, packing, size}
 use Rattle.format.specs.Report.{numbersOf, rptinOf, codesOf, checksumOf, countOf, tailOf, sheetOf, fieldChecks, attachmentChecks, tailLength, reportChecks, Verdict, refused, accepted, verdict, judge}
-use Rattle.laws.proofs.Lists.{not-false, true-false}
+use Rattle.laws.proofs.Lists.{true-false}
 use Rattle.laws.proofs.Order.{first-nil, no-check, no-checks, first-none, first-append-none}
 use Rattle.laws.proofs.Bits.{Bytes, Fit}
 use Rattle.laws.proofs.Nibbles.{Nibbles, length-nibbles, nibbles-lt, nibbles-bytes, nibbles-inj, nibbles-take, padded-is, padded-even, length-bytes, length-bytes-padded}
