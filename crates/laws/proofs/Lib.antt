@@ -11,3 +11,5 @@ pub mod Characters
 pub mod ShipText
 pub mod Report
 pub mod List
+pub mod Presence
+pub mod Whole

@@ -305,7 +305,8 @@ packing-inj s t gs gt e =
     let same : accepted s ≡ accepted t = sym (judge-packing s [] gs) ∙ ap (λ (p : List ℕ). judge (p ++ [])) e ∙ judge-packing t [] gt in
     cc
 
-report-is : (b : List ℕ) (s : Sheet) → Bytes b → judge b ≡ accepted s → take (size s) b ≡ packing s
+-- a report is the packing of its sheet
+pub report-is : (b : List ℕ) (s : Sheet) → Bytes b → judge b ≡ accepted s → take (size s) b ≡ packing s
 report-is b s bs e = ap (take (size s)) (judged b s bs e .starts) ∙ take-append-seam (packing s) (drop (size s) b)
 
 pub reports-equal : (b c : List ℕ) (s t : Sheet) → Bytes b → Bytes c → judge b ≡ accepted s → judge c ≡ accepted t

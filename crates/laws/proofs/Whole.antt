@@ -1,0 +1,414 @@
+-- Laws of fresh, unpack and pack: fresh makes a good sheet, and pack makes one of all that it accepts; demand 2, pack after
+-- unpack and unpack after pack; the smallest and the largest report.
+-- Assumes nothing.
+use Prim.Native.Nat.{ℕ, zero, suc, _+_, _-_, _^_, _≤_, _<_}
+use native.Mathlib.Omega.{arith}
+use mathlib.Core.Path.{_≡_, refl, sym, ap, ap₂, subst, _∙_}
+use mathlib.Core.Bool.{Bool, true, false, cond, not, _&&_, _||_}
+use mathlib.Core.List.{List, [], _∷_, _++_, map, append-nil}
+use mathlib.Core.Option.{Option, none, some}
+use lib.ListN.{length, getD, take, drop, set, replicate, length-append, length-map}
+use lib.Dec.{eqb}
+use lib.Seq.{length-take-le, take-all, take-append-le, take-append-seam}
+use lib.IntN.{ℤ, pos}
+use lib.Count.{ones}
+use borrow.Author.Tests.{le-ltb, ltb-false, eqb-true, not-false}
+use Rattle.format.specs.Order.{Refusal, first}
+use Rattle.format.specs.Field.{Field, table, fieldAt, required, inRange, scaled, BOX10, YEAR, MONTH, X, Y}
+use Rattle.format.specs.Nibbles.{attachment, attachmentNibbles, tailNibbles, attachmentsOf, among}
+use Rattle.format.specs.Flags.{flagsFit, totalWeight, allMissing, qualityCode, flagsValid}
+use Rattle.format.specs.ShipText.{textStep, stateAfter, endFrom, atEnd, textValid}
+use Rattle.format.specs.Sheet.{Sheet, packing, size}
+use Rattle.format.specs.Report.{bodyValid, attachmentChecks, Verdict, judge}
+use Rattle.format.specs.Machine.{Answer, valueCheck, withAttachments, allNibbles, over}
+use Rattle.format.specs.Whole.{freshSheet, freshChecks, fresh, valueOrZero, isPresent, presence, countPresent, tail, unpacked, unpackGives, unpackChecks, unpackedBy, unpack, bitAt, bitOutside, packChecks, entriesGiven, countIn, packSheet, packOrder, pack}
+use Rattle.format.specs.declared.Scaled.{Scaled}
+use Rattle.laws.proofs.Lists.{true-false, cond-case}
+use Rattle.laws.proofs.Order.{first-nil, no-check, no-checks, first-none, first-append-none}
+use Rattle.laws.proofs.Bits.{Bytes}
+use Rattle.laws.proofs.Fields.{Fair, missing-fair, in-range-fair, fair-range, noField, FairAll, nil, cons, length-fair, fair-set, Present, table-length}
+use Rattle.laws.proofs.Attachments.{nibbles-all, all-nibbles, tail-reads, tail-count, Fine, empty, fine-checks, fine-nibbles, Walked, checks-fine, count-all}
+use Rattle.laws.proofs.Report.{report-is, Good, judge-packing, judged, size-is}
+use Rattle.laws.proofs.Presence.{presence-bit, presence-inside, Agrees, agrees-first, agrees-rest, given-back, word-back, count-ones}
+
+-- ---- the required fields
+
+either : (P : Type 0) (k m : ℕ) (b : Bool) → (k ≡ m → P) → (b ≡ true → P) → eqb k m || b ≡ true → P
+either P k m b f g = go (eqb k m) refl
+  where
+    go : (t : Bool) → eqb k m ≡ t → t || b ≡ true → P
+    go true q e = f (eqb-true k m q)
+    go false q e = g e
+
+-- what holds of the five fields holds of every required field
+pub required-is : (P : ℕ → Type 0) → P BOX10 → P YEAR → P MONTH → P X → P Y → (k : ℕ) → required k ≡ true → P k
+unfolding required
+required-is P p1 p2 p3 p6 p7 k =
+    either (P k) k BOX10 _ (λ e. rw e p1)
+    (either (P k) k YEAR _ (λ e. rw e p2)
+    (either (P k) k MONTH _ (λ e. rw e p3)
+    (either (P k) k X _ (λ e. rw e p6)
+    (λ r. rw (eqb-true k Y r) p7))))
+
+-- ---- fresh
+
+missing-all : (fs : List Field) → FairAll fs (replicate (length fs) none)
+missing-all [] = nil
+missing-all (f ∷ fs) = cons (missing-fair f) (missing-all fs)
+
+fair-field : {es : List (Option Scaled)} (k : ℕ) (v : Scaled) → valueCheck k v .fits ≡ false → FairAll table es → FairAll table (set es (k - 1) (some v))
+unfolding fieldAt
+fair-field k v e f = fair-set f (k - 1) (some v) (in-range-fair (getD table (k - 1) noField) v (not-false _ e))
+
+some-none : (v : Scaled) → some v ≡ none → ⊥
+some-none v e = let z : _≡_ {A = ℕ} 0 1 = cc in omega arith
+
+module _ (box10 year month x y : Scaled) where
+  fresh-present : Present 1 (freshSheet box10 year month x y .values)
+  unfolding freshSheet
+  fresh-present i l r n =
+      let z : 1 + i - 1 ≡ i = omega arith in
+      required-is (λ (k : ℕ). getD (freshSheet box10 year month x y .values) (k - 1) none ≡ none → ⊥)
+      (some-none box10) (some-none year) (some-none month) (some-none x) (some-none y) (1 + i) r (rw z n)
+
+  -- values in range make a good sheet
+  pub fresh-good : valueCheck BOX10 box10 .fits ≡ false → valueCheck YEAR year .fits ≡ false → valueCheck MONTH month .fits ≡ false
+      → valueCheck X x .fits ≡ false → valueCheck Y y .fits ≡ false → Good (freshSheet box10 year month x y)
+  unfolding freshSheet
+  fresh-good e1 e2 e3 e6 e7 = record {
+    rptin = omega arith;
+    fair = fair-field Y y e7 (fair-field X x e6 (fair-field MONTH month e3 (fair-field YEAR year e2 (fair-field BOX10 box10 e1 (rw table-length at (missing-all table))))));
+    present = fresh-present;
+    fine = empty;
+  }
+
+  -- the smallest report
+  pub fresh-size : size (freshSheet box10 year month x y) ≡ 38
+  unfolding freshSheet tailNibbles
+  fresh-size = size-is (freshSheet box10 year month x y)
+
+  -- what fresh writes is a report with that sheet
+  pub fresh-judged : (out : List ℕ) → first (freshChecks (length out) box10 year month x y) ≡ none
+      → judge (fresh box10 year month x y out .out) ≡ Verdict.accepted (freshSheet box10 year month x y)
+  unfolding fresh freshChecks
+  fresh-judged out e =
+      let c1 = first-none _ _ e in
+      let c2 = first-none _ _ (c1 .1) in
+      let c3 = first-none _ _ (c2 .1) in
+      let c6 = first-none _ _ (c3 .1) in
+      let c7 = first-none _ _ (c6 .1) in
+      rw e (judge-packing (freshSheet box10 year month x y) _ (fresh-good (c1 .0) (c2 .0) (c3 .0) (c6 .0) (c7 .0)))
+
+-- ---- what pack has passed
+
+-- that none of its checks refuses, part by part; `packs-none` below is the way back
+pub record Packs (n : ℕ) (values : List ℤ) (word rptin : ℕ) (ns : List ℕ) : Type 0 where
+  pub long : 46 ≤ length values
+  pub inside : bitOutside word ≡ false
+  pub fields : first (packChecks 1 table word values) ≡ none
+  pub nibbles : allNibbles ns ≡ true
+  pub attachments : first (attachmentChecks (countIn ns) 1 [] ns) ≡ none
+  pub room : size (packSheet values word rptin ns) ≤ n
+
+pub packs : (n : ℕ) (values : List ℤ) (word rptin : ℕ) (ns : List ℕ) → first (packOrder n values word rptin ns) ≡ none → Packs n values word rptin ns
+unfolding packOrder
+packs n values word rptin ns e =
+    let c1 = first-none _ _ e in
+    let c2 = first-none _ _ (c1 .1) in
+    let c3 = first-append-none _ _ (c2 .1) in
+    let c4 = first-none _ _ (c3 .1) in
+    let c5 = first-append-none _ _ (c4 .1) in
+    let c6 = first-none _ _ (c5 .1) in
+    record {
+      long = ltb-false (length values) 46 (c1 .0);
+      inside = c2 .0;
+      fields = c3 .0;
+      nibbles = not-false _ (c4 .0);
+      attachments = c5 .0;
+      room = ltb-false n (size (packSheet values word rptin ns)) (c6 .0);
+    }
+
+-- ---- the sheet that pack makes is good
+
+given-fair : (k : ℕ) (fs : List Field) (word : ℕ) (vs : List ℤ) → length fs ≤ length vs → first (packChecks k fs word vs) ≡ none
+    → FairAll fs (entriesGiven k word (take (length fs) vs))
+unfolding packChecks entriesGiven
+given-fair k [] word vs l e = nil
+given-fair k (f ∷ fs) word [] l e = absurd (omega arith)
+given-fair k (f ∷ fs) word (v ∷ vs) l e =
+    let c1 = first-none _ _ e in
+    let c2 = first-none _ _ (c1 .1) in
+    let h : Fair f (cond (bitAt word k) (some (scaled v)) none) =
+    cond-case (Fair f) (bitAt word k) (some (scaled v)) none (λ b. in-range-fair f (scaled v) (not-false _ (rw b at (c2 .0)))) (λ b. missing-fair f) in
+    cons h (given-fair (suc k) fs word vs (omega arith) (c2 .1))
+
+-- the bit of each required field is set
+abbrev Needed : ℕ → Type 0
+Needed word = (k : ℕ) → required k ≡ true → bitAt word k ≡ true
+
+checks-needed : (k : ℕ) (fs : List Field) (word : ℕ) (vs : List ℤ) → first (packChecks k fs word vs) ≡ none
+    → (i : ℕ) → i < length fs → i < length vs → required (k + i) ≡ true → bitAt word (k + i) ≡ true
+unfolding packChecks
+checks-needed k [] word vs e i l m r = absurd (omega arith)
+checks-needed k (f ∷ fs) word [] e i l m r = absurd (omega arith)
+checks-needed k (f ∷ fs) word (v ∷ vs) e zero l m r =
+    let z : k + 0 ≡ k = omega arith in
+    let q : required k ≡ true = rw z at r in
+    rw z (not-false _ (rw q at (first-none _ _ e .0)))
+checks-needed k (f ∷ fs) word (v ∷ vs) e (suc i) l m r =
+    let z : k + suc i ≡ suc k + i = omega arith in
+    rw z (checks-needed (suc k) fs word vs (first-none _ _ (first-none _ _ e .1) .1) i (omega arith) (omega arith) (rw z at r))
+
+required-from : (k : ℕ) → required k ≡ true → 1 ≤ k
+required-from = required-is (λ (k : ℕ). 1 ≤ k) (omega arith) (omega arith) (omega arith) (omega arith) (omega arith)
+
+required-to : (k : ℕ) → required k ≡ true → k ≤ 46
+required-to = required-is (λ (k : ℕ). k ≤ 46) (omega arith) (omega arith) (omega arith) (omega arith) (omega arith)
+
+needed-present : (word : ℕ) (es : List (Option Scaled)) → Agrees 1 word es → Needed word → Present 1 es
+needed-present word es a h i l r n = true-false (bitAt word (1 + i)) (h (1 + i) r) (a i ∙ ap isPresent n)
+
+-- the values of the fields from k on, 0 where the word says that the field is missing
+unfoldable pub masked : ℕ → ℕ → List ℤ → List ℤ
+masked k word [] = []
+masked k word (v ∷ vs) = cond (bitAt word k) v (pos 0) ∷ masked (suc k) word vs
+
+values-given : (k word : ℕ) (vs : List ℤ) → map valueOrZero (entriesGiven k word vs) ≡ masked k word vs
+unfolding entriesGiven masked
+values-given k word [] = refl
+values-given k word (v ∷ vs) = ap₂ _∷_ (go (bitAt word k)) (values-given (suc k) word vs)
+  where
+    go : (t : Bool) → valueOrZero (cond t (some (scaled v)) none) ≡ cond t v (pos 0)
+    go true = refl
+    go false = refl
+
+-- the values on the sheet are those given, where the word says so
+pub pack-values : (values : List ℤ) (word rptin : ℕ) (ns : List ℕ)
+    → map valueOrZero (packSheet values word rptin ns .values) ≡ masked 1 word (take 46 values)
+unfolding packSheet
+pack-values values word rptin ns = values-given 1 word (take 46 values)
+
+pack-rptin : (values : List ℤ) (word rptin : ℕ) (ns : List ℕ) → packSheet values word rptin ns .rptin ≡ rptin
+unfolding packSheet
+pack-rptin values word rptin ns = refl
+
+module _ (n : ℕ) (values : List ℤ) (word rptin : ℕ) (ns : List ℕ) (e : first (packOrder n values word rptin ns) ≡ none) where
+  passed : Packs n values word rptin ns
+  passed = packs n values word rptin ns e
+
+  -- its presence word is the word given
+  pub pack-presence : presence (packSheet values word rptin ns) ≡ word
+  unfolding packSheet
+  pack-presence = word-back word (take 46 values) (length-take-le 46 values (passed .long)) (passed .inside)
+
+  pack-agrees : Agrees 1 word (packSheet values word rptin ns .values)
+  pack-agrees i = ap (λ (w : ℕ). bitAt w (1 + i)) (sym pack-presence) ∙ presence-bit 1 (packSheet values word rptin ns .values) i
+
+  pack-needed : Needed word
+  pack-needed k r =
+      let l = required-from k r in
+      let h = required-to k r in
+      let z : k ≡ 1 + (k - 1) = omega arith in
+      ap (bitAt word) z
+      ∙ checks-needed 1 table word values (passed .fields) (k - 1) (omega (arith, table-length)) (omega (arith, passed .long)) (sym (ap required z) ∙ r)
+
+  walked : Walked (countIn ns) [] ns
+  walked = checks-fine (countIn ns) 1 [] ns (all-nibbles ns (passed .nibbles)) (passed .attachments)
+
+  -- as many attachments as are counted from the tail, and nothing of the tail is left behind them
+  pub pack-count : length (packSheet values word rptin ns .attachments) ≡ countIn ns
+  unfolding packSheet
+  pack-count = walked .count
+
+  pub pack-tail : tail (packSheet values word rptin ns) ≡ ns
+  unfolding packSheet
+  pack-tail = sym (count-all ns (all-nibbles ns (passed .nibbles)) (passed .attachments))
+
+  pub pack-good : rptin < 2 ^ 16 → Good (packSheet values word rptin ns)
+  unfolding packSheet
+  pack-good r = record {
+    rptin = r;
+    fair = rw table-length at (given-fair 1 table word values (rw table-length (passed .long)) (passed .fields));
+    present = needed-present word (packSheet values word rptin ns .values) pack-agrees pack-needed;
+    fine = walked .fine;
+  }
+
+-- ---- pack accepts the parts of a good sheet, and makes that sheet of them
+
+present-needed : (word : ℕ) (es : List (Option Scaled)) → length es ≡ 46 → Agrees 1 word es → Present 1 es → Needed word
+present-needed word es l a h k r =
+    let z : k ≡ 1 + (k - 1) = omega (arith, required-from k r) in
+    ap (bitAt word) z ∙ a (k - 1) ∙ go (getD es (k - 1) none) (h (k - 1) (omega (arith, required-from k r, required-to k r)) (sym (ap required z) ∙ r))
+  where
+    go : (e : Option Scaled) → (e ≡ none → ⊥) → isPresent e ≡ true
+    go none q = absurd (q refl)
+    go (some v) q = refl
+
+given-checks : {fs : List Field} {es : List (Option Scaled)} (k word : ℕ) → FairAll fs es → Agrees k word es → Needed word
+    → first (packChecks k fs word (map valueOrZero es)) ≡ none
+unfolding packChecks
+given-checks k word nil a h = first-nil
+given-checks k word (cons {f = f} {e = e} {es = es} fair t) a h =
+    no-check _ _ (needs (required k) refl) (no-check _ _ (rw (agrees-first k word e es a) (within e fair)) (given-checks (suc k) word t (agrees-rest k word e es a) h))
+  where
+    needs : (r : Bool) → required k ≡ r → required k && not (bitAt word k) ≡ false
+    needs true q = rw (q, h k q)
+    needs false q = rw q
+
+    within : (e : Option Scaled) → Fair f e → isPresent e && not (inRange f (scaled (valueOrZero e))) ≡ false
+    within none q = refl
+    within (some v) q = rw (fair-range f v q)
+
+pub packs-none : (n : ℕ) (values : List ℤ) (word rptin : ℕ) (ns : List ℕ) → Packs n values word rptin ns → first (packOrder n values word rptin ns) ≡ none
+unfolding packOrder
+packs-none n values word rptin ns p =
+    no-check _ _ (le-ltb (length values) 46 (p .long))
+    (no-check _ _ (p .inside)
+    (no-checks _ _ (p .fields)
+    (no-check _ _ (ap not (p .nibbles))
+    (no-checks _ _ (p .attachments)
+    (no-check _ _ (le-ltb n (size (packSheet values word rptin ns)) (p .room)) first-nil)))))
+
+module _ (s : Sheet) (g : Good s) where
+  values-length : length (s .values) ≡ 46
+  values-length = length-fair (g .fair) ∙ table-length
+
+  values-out : length (map valueOrZero (s .values)) ≡ 46
+  values-out = length-map (s .values) valueOrZero ∙ values-length
+
+  -- the sheet comes back from what unpack gives of it
+  pub sheet-back : packSheet (map valueOrZero (s .values)) (presence s) (s .rptin) (tail s) ≡ s
+  unfolding packSheet
+  sheet-back =
+      let v : entriesGiven 1 (presence s) (take 46 (map valueOrZero (s .values))) ≡ s .values =
+      ap (entriesGiven 1 (presence s)) (take-all 46 (map valueOrZero (s .values)) (omega (arith, values-out)))
+      ∙ given-back 1 (presence s) (s .values) (presence-bit 1 (s .values)) in
+      let a : attachmentsOf (countIn (tail s)) (tail s) ≡ s .attachments =
+      ap₂ attachmentsOf (tail-count (s .attachments)) (sym (append-nil (tail s))) ∙ tail-reads (s .attachments) [] in
+      λ i. record { rptin = s .rptin; values = v i; attachments = a i }
+
+  sheet-packs : (n : ℕ) → size s ≤ n → Packs n (map valueOrZero (s .values)) (presence s) (s .rptin) (tail s)
+  sheet-packs n h = record {
+    long = omega (arith, values-out);
+    inside = presence-inside s values-length;
+    fields = given-checks 1 (presence s) (g .fair) (presence-bit 1 (s .values)) (present-needed (presence s) (s .values) values-length (presence-bit 1 (s .values)) (g .present));
+    nibbles = nibbles-all (tail s) (fine-nibbles (g .fine));
+    attachments = rw (tail-count (s .attachments)) (rw append-nil at (fine-checks 1 [] (g .fine)));
+    room = rw sheet-back h;
+  }
+
+-- ---- demand 2
+
+-- pack of a sheet's parts writes its packing
+pack-good-sheet : (s : Sheet) (out : List ℕ) → Good s → size s ≤ length out
+    → pack (map valueOrZero (s .values)) (presence s) (s .rptin) (tail s) out
+    ≡ record { answer = Answer.accepted (some (pos (size s)) ∷ []); out = over (packing s) out }
+unfolding pack
+pack-good-sheet s out g h =
+    rw (packs-none (length out) (map valueOrZero (s .values)) (presence s) (s .rptin) (tail s) (sheet-packs s g (length out) h), sheet-back s g)
+
+-- pack after unpack: the parts of an accepted report are packed to the same bytes
+pub pack-after-unpack : (b : List ℕ) (s : Sheet) (out : List ℕ) → Bytes b → judge b ≡ Verdict.accepted s → size s ≤ length out
+    → (pack (map valueOrZero (s .values)) (presence s) (s .rptin) (tail s) out
+    ≡ record { answer = Answer.accepted (some (pos (size s)) ∷ []); out = over (packing s) out })
+    × (packing s ≡ take (size s) b)
+pack-after-unpack b s out bs j h =
+    let t = judged b s bs j in
+    (pack-good-sheet s out (t .good) h, sym (report-is b s bs j))
+
+-- unpack of an accepted report, with room for what it gives
+pub unpack-accepted : (b : List ℕ) (s : Sheet) (vs : List ℤ) (ns : List ℕ) → judge b ≡ Verdict.accepted s → 46 ≤ length vs → length (tail s) ≤ length ns
+    → unpack b vs ns ≡ unpacked (Answer.accepted (unpackGives s)) (over (map valueOrZero (s .values)) vs) (over (tail s) ns)
+unfolding unpack
+unpack-accepted b s vs ns j hv hn =
+    let c : first (unpackChecks s vs ns) ≡ none = no-check _ _ (rw (le-ltb (length vs) 46 hv, le-ltb (length ns) (length (tail s)) hn)) first-nil in
+    rw j (ap (λ (o : Option Refusal). unpackedBy o s vs ns) c)
+
+-- pack takes the first 46 values and ignores more
+checks-more : (k : ℕ) (fs : List Field) (word : ℕ) (vs more : List ℤ) → length fs ≤ length vs → packChecks k fs word (vs ++ more) ≡ packChecks k fs word vs
+unfolding packChecks
+checks-more k [] word vs more l = refl
+checks-more k (f ∷ fs) word [] more l = absurd (omega arith)
+checks-more k (f ∷ fs) word (v ∷ vs) more l = rw (checks-more (suc k) fs word vs more (omega arith))
+
+pub pack-more : (values more : List ℤ) (word rptin : ℕ) (ns out : List ℕ) → 46 ≤ length values
+    → pack (values ++ more) word rptin ns out ≡ pack values word rptin ns out
+unfolding pack packOrder packSheet
+pack-more values more word rptin ns out l =
+    let n : 46 ≤ length (values ++ more) = omega (arith, length-append values more) in
+    rw (
+      take-append-le 46 values more l,
+      checks-more 1 table word values more (rw table-length l),
+      le-ltb (length (values ++ more)) 46 n,
+      le-ltb (length values) 46 l,
+    )
+
+-- pack after unpack, of the two outputs as unpack left them
+pub pack-unpacked : (b : List ℕ) (s : Sheet) (vs : List ℤ) (ns out : List ℕ) → Bytes b → judge b ≡ Verdict.accepted s
+    → 46 ≤ length vs → length (tail s) ≤ length ns → size s ≤ length out
+    → pack (unpack b vs ns .values) (presence s) (s .rptin) (take (length (tail s)) (unpack b vs ns .tail)) out
+    ≡ record { answer = Answer.accepted (some (pos (size s)) ∷ []); out = over (take (size s) b) out }
+pack-unpacked b s vs ns out bs j hv hn ho =
+    let t = pack-after-unpack b s out bs j ho in
+    let l = values-out s (judged b s bs j .good) in
+    rw (unpack-accepted b s vs ns j hv hn, take-append-seam (tail s) (drop (length (tail s)) ns), pack-more (map valueOrZero (s .values)) _ (presence s) (s .rptin) (tail s) out (omega arith), ← t .1)
+    (t .0)
+
+-- unpack after pack: what pack accepts is unpacked to what it was made of, the values of missing fields as 0
+module _ (values : List ℤ) (word rptin : ℕ) (ns out : List ℕ) (r : rptin < 2 ^ 16)
+    (e : first (packOrder (length out) values word rptin ns) ≡ none) where
+  pub judge-pack : judge (pack values word rptin ns out .out) ≡ Verdict.accepted (packSheet values word rptin ns)
+  unfolding pack
+  judge-pack = rw e (judge-packing (packSheet values word rptin ns) _ (pack-good (length out) values word rptin ns e r))
+
+  pub unpack-after-pack : (vs : List ℤ) (ts : List ℕ) → 46 ≤ length vs → length ns ≤ length ts
+      → unpack (pack values word rptin ns out .out) vs ts
+      ≡ unpacked
+      (Answer.accepted
+      (some (pos word)
+      ∷ some (pos (ones word))
+      ∷ some (pos rptin)
+      ∷ some (pos (countIn ns))
+      ∷ some (pos (size (packSheet values word rptin ns)))
+      ∷ some (pos (length ns))
+      ∷ []))
+      (over (masked 1 word (take 46 values)) vs)
+      (over ns ts)
+  unfolding unpackGives
+  unpack-after-pack vs ts hv ht =
+      let s = packSheet values word rptin ns in
+      let w = pack-presence (length out) values word rptin ns e in
+      let t = pack-tail (length out) values word rptin ns e in
+      let c : countPresent (s .values) ≡ ones word = sym (count-ones 1 (s .values)) ∙ ap ones w in
+      unpack-accepted (pack values word rptin ns out .out) s vs ts judge-pack hv (rw t ht)
+      ∙ rw (c, w, t, pack-rptin values word rptin ns, pack-count (length out) values word rptin ns e, pack-values values word rptin ns)
+
+-- ---- the largest report
+
+-- the values of a fresh report, and all fifteen ids: the flags with 16 nibbles, the others with 255
+unfoldable pub largest : Sheet
+largest =
+    withAttachments (freshSheet (scaled (pos 1)) (scaled (pos 1900)) (scaled (pos 1)) (scaled (pos 0)) (scaled (pos 0)))
+    (attachment 1 (replicate 16 0)
+    ∷ map (λ (i : ℕ). attachment i (replicate 255 0)) (2 ∷ 3 ∷ 4 ∷ 5 ∷ 6 ∷ 7 ∷ 8 ∷ 9 ∷ 10 ∷ 11 ∷ 12 ∷ 13 ∷ 14 ∷ 15 ∷ []))
+
+-- the most that a report takes (`size-range` of Report)
+pub largest-size : size largest ≡ 1853
+unfolding largest tailNibbles attachmentNibbles
+largest-size = size-is largest
+
+largest-fine : Fine [] (largest .attachments)
+unfolding largest tailNibbles attachmentNibbles attachmentChecks first bodyValid flagsValid flagsFit allMissing qualityCode totalWeight textValid endFrom stateAfter textStep atEnd among allNibbles
+largest-fine =
+    let list = largest .attachments in
+    let w = checks-fine 15 1 [] (tailNibbles list) (all-nibbles (tailNibbles list) refl) refl in
+    subst (Fine []) (rw append-nil at (tail-reads list [])) (w .fine)
+
+pub largest-good : Good largest
+unfolding largest inRange fieldAt table
+largest-good =
+    let g = fresh-good (scaled (pos 1)) (scaled (pos 1900)) (scaled (pos 1)) (scaled (pos 0)) (scaled (pos 0)) refl refl refl refl refl in
+    record { rptin = g .rptin; fair = g .fair; present = g .present; fine = largest-fine }
+
+pub largest-judged : judge (packing largest) ≡ Verdict.accepted largest
+largest-judged = rw append-nil at (judge-packing largest [] largest-good)
