@@ -88,9 +88,13 @@ sBytes = effect freshBytes (setField 31 (scaled (pos 286))) .buffer
 textBytes : List ℕ
 textBytes = effect (sBytes ++ (7 ∷ 7 ∷ 7 ∷ 7 ∷ [])) (putText (65 ∷ 49 ∷ [])) .buffer
 
--- a report of these coded fields and this tail, with the checksum that the fields have
+-- a report of these coded fields, this checksum, this count and this tail
+reportWith : List ℕ → ℕ → ℕ → List ℕ → List ℕ
+reportWith cs ck ac ns = bytes (padded (readFields (replicate 75 4) (writeFields widths (0 ∷ (cs ++ (ck ∷ ac ∷ [])))) ++ ns))
+
+-- with the checksum that the fields have
 reportOf : List ℕ → ℕ → List ℕ → List ℕ
-reportOf cs ac ns = bytes (padded (readFields (replicate 75 4) (writeFields widths (0 ∷ (cs ++ (checksum cs ∷ ac ∷ [])))) ++ ns))
+reportOf cs ac ns = reportWith cs (checksum cs) ac ns
 
 highestCodes : List ℕ
 highestCodes = map (λ (f : Field). f .highest) table
@@ -174,7 +178,7 @@ examples =
 
 -- all that the examples compute with
 pub hold : T (every examples)
-unfolding signed given valueNumbers sheetNumbers refusal judged answer answers yes refuses example freshExample freshBytes freshSheetExample sBytes textBytes reportOf highestCodes freshCodes badText flagless put1 flagCalls answersOf roomy wide examples same every first table fieldAt required scaledOf codedOf inRange entryOf codeOf entries codes bits number bitsOf bitField total readFields writeFields nibbles bytes padded attachmentNibbles tailNibbles attachmentsOf among weights weight totalWeight allMissing qualityCode flagsFit flagBody withFlag flagsValid charCode short pairByte codeNibbles classify byteOf escapable isSpace symbolNibbles fulls rest spaceRun writeFrom writeText spaces textStep stateAfter symbolsOf readFrom endFrom atEnd textValid readText widths checksum cardNumbers cardNibbles packing sheetOf fieldChecks bodyValid attachmentChecks reportChecks judge stands contentOf putIn removeFrom next gives lent writes allNibbles callChecks checks step layout effect calls run claim freshSheet freshChecks fresh digitsFrom fieldLines listing
+unfolding signed given valueNumbers sheetNumbers refusal judged answer answers yes refuses example freshExample freshBytes freshSheetExample sBytes textBytes reportWith reportOf highestCodes freshCodes badText flagless put1 flagCalls answersOf roomy wide examples same every first table fieldAt required scaledOf codedOf inRange entryOf codeOf entries codes bits number bitsOf bitField total readFields writeFields nibbles bytes padded attachmentNibbles tailNibbles attachmentsOf among weights weight totalWeight allMissing qualityCode flagsFit flagBody withFlag flagsValid charCode short pairByte codeNibbles classify byteOf escapable isSpace symbolNibbles fulls rest spaceRun writeFrom writeText spaces textStep stateAfter symbolsOf readFrom endFrom atEnd textValid readText widths checksum cardNumbers cardNibbles packing sheetOf fieldChecks bodyValid attachmentChecks reportChecks judge stands contentOf putIn removeFrom next gives lent writes allNibbles callChecks checks step layout effect calls run claim freshSheet freshChecks fresh digitsFrom fieldLines listing
 hold = tt
 
 -- ---- two refusals that fit at once, zeroed bytes, unpack and pack
@@ -207,6 +211,20 @@ packed values word ns out = let w = pack values word 513 ns out in answer (w .an
 -- the presence bits of the required fields
 requiredBits : ℕ
 requiredBits = 2 + 4 + 8 + 64 + 128
+
+-- attachments n to 1: id 1 with its 16 nibbles, the others with one
+manyAttachments : ℕ → List ℕ
+manyAttachments zero = []
+manyAttachments (suc zero) = 1 ∷ 0 ∷ 1 ∷ flagless
+manyAttachments (suc (suc n)) = 0 ∷ 1 ∷ suc (suc n) ∷ 0 ∷ manyAttachments (suc n)
+
+-- fourteen attachments of 255 nibbles, ids 2 to 15, then an id 1 of 255
+longTail : ℕ → List ℕ
+longTail zero = 15 ∷ 15 ∷ 1 ∷ replicate 255 0
+longTail (suc n) = (15 ∷ 15 ∷ suc (suc n) ∷ replicate 255 0) ++ longTail n
+
+longReport : List ℕ
+longReport = reportOf freshCodes 15 (longTail 14)
 
 unpackedNumbers : Unpacked → List ℕ
 unpackedNumbers u = answer (u .answer) ++ (numbers (u .values) ++ u .tail)
@@ -269,6 +287,39 @@ orders =
     ∷ example (packed wholeValues requiredBits (0 ∷ 1 ∷ 5 ∷ 9 ∷ 0 ∷ 1 ∷ 5 ∷ []) []) (refuses 5 2)
     ∷ example (packed wholeValues requiredBits (0 ∷ 1 ∷ 1 ∷ 9 ∷ []) []) (refuses 6 1)
     ∷ example (packed wholeValues requiredBits (0 ∷ 1 ∷ 5 ∷ 9 ∷ []) (replicate 39 7)) (refuses 13 0 ++ replicate 39 7)
+    -- all 14 bits of CK are compared; a checksum of 0 by a sum of 255 is stored as 0
+    ∷ example (judged (judge (reportWith freshCodes 496 0 []))) (refuses 4 0)
+    ∷ example (take 1 (judged (judge (reportWith (codesWith 10 15) 0 0 []))) ++ judged (judge (reportWith (codesWith 10 15) 255 0 []))) (1 ∷ refuses 4 0)
+    -- the highest codes are accepted
+    ∷ example (take 1 (judged (judge (reportOf highestCodes 0 [])))) yes
+    -- an attachment of 17 nibbles, and back
+    ∷ example (drop 37 (effect roomy (put 9 (replicate 17 3)) .buffer)) ((0x11 ∷ 0x19 ∷ replicate 8 0x33) ++ (0x30 ∷ replicate 12 5))
+    ∷ example (answersOf roomy (put 9 (replicate 17 3) ∷ fetch 9 (replicate 18 8) ∷ [])) (1 ∷ 1 ∷ 1 ∷ 0 ∷ 17 ∷ (replicate 17 3 ++ one 8))
+    -- a quality code of 43, and the rule
+    ∷ example (answersOf roomy (put 1 (replicate 14 10 ++ (2 ∷ 10 ∷ [])) ∷ put 1 (replicate 14 10 ++ (2 ∷ 11 ∷ [])) ∷ clearFlag 1 ∷ fetch 1 (replicate 16 8) ∷ []))
+    (refuses 14 0 ++ (1 ∷ 1 ∷ 1 ∷ 1 ∷ 0 ∷ 16 ∷ 0 ∷ (replicate 13 10 ++ (2 ∷ 8 ∷ []))))
+    ∷ example (answersOf roomy (put 1 (11 ∷ replicate 15 0) ∷ put 1 (replicate 15 0) ∷ put 1 (replicate 14 0 ++ (0 ∷ 1 ∷ [])) ∷ put 1 (1 ∷ (replicate 14 0 ++ (1 ∷ []))) ∷ [])) (refuses 14 0 ++ (refuses 14 0 ++ (refuses 14 0 ++ yes)))
+    -- field 1, and the required fields
+    ∷ example (answersOf freshBytes (readField 1 ∷ readField 46 ∷ readField 0 ∷ [])) (1 ∷ 1 ∷ 0 ∷ 1 ∷ 1 ∷ 0 ∷ refuses 8 0)
+    ∷ example (answersOf freshBytes (clearField 1 ∷ clearField 2 ∷ clearField 6 ∷ clearField 7 ∷ clearField 5 ∷ [])) (refuses 10 1 ++ (refuses 10 2 ++ (refuses 10 6 ++ (refuses 10 7 ++ yes))))
+    -- runs of 17, 18 and 36 spaces, and 21
+    ∷ example (writeText (replicate 17 32 ++ (66 ∷ []))) (11 ∷ 14 ∷ 12 ∷ 2 ∷ [])
+    ∷ example (writeText (replicate 18 32 ++ (66 ∷ []))) (11 ∷ 15 ∷ 12 ∷ 2 ∷ [])
+    ∷ example (writeText (replicate 36 32 ++ (66 ∷ []))) (11 ∷ 15 ∷ 11 ∷ 15 ∷ 12 ∷ 2 ∷ [])
+    ∷ example (readText (11 ∷ 15 ∷ 11 ∷ 0 ∷ 1 ∷ [])) (replicate 21 32 ++ (49 ∷ []))
+    ∷ example (answersOf roomy (put 4 (11 ∷ 15 ∷ 11 ∷ 0 ∷ 1 ∷ []) ∷ put 4 (15 ∷ 8 ∷ 0 ∷ []) ∷ fetchText (7 ∷ 7 ∷ []) ∷ [])) (1 ∷ 1 ∷ 1 ∷ 1 ∷ 0 ∷ 1 ∷ 128 ∷ 7 ∷ [])
+    -- bodies that end within a code
+    ∷ example (answersOf roomy (put 4 (1 ∷ 11 ∷ []) ∷ put 4 (1 ∷ 12 ∷ []) ∷ put 4 (1 ∷ 15 ∷ []) ∷ [])) (refuses 14 0 ++ (refuses 14 0 ++ refuses 14 0))
+    -- the lister: a field of two digits, values 10 and -10, and input past 1856 bytes
+    ∷ example (drop 23 (listing (claim freshBytes (setField 10 (scaled (pos 10)) ∷ setField 31 (scaled (minus 10)) ∷ []) .buffer)))
+    (49 ∷ 48 ∷ 32 ∷ 49 ∷ 48 ∷ 10 ∷ 51 ∷ 49 ∷ 32 ∷ 45 ∷ 49 ∷ 48 ∷ 10 ∷ 67 ∷ 32 ∷ 50 ∷ 50 ∷ 49 ∷ 10 ∷ 65 ∷ 32 ∷ 48 ∷ 10 ∷ [])
+    ∷ example (listing longReport) (82 ∷ 32 ∷ 49 ∷ 32 ∷ 49 ∷ 53 ∷ 10 ∷ [])
+    ∷ example (judged (judge longReport)) (refuses 6 15)
+    -- fresh with X and Y out of range
+    ∷ example (answer (fresh (scaled (pos 1)) (scaled (pos 1900)) (scaled (pos 1)) (scaled (pos 3600)) (scaled (pos 901)) (replicate 38 7) .answer)) (refuses 9 6)
+    -- a sixteenth attachment
+    ∷ example (packed wholeValues requiredBits (manyAttachments 15 ++ (0 ∷ 1 ∷ 7 ∷ 9 ∷ [])) []) (refuses 5 16)
+    ∷ example (packed wholeValues requiredBits (manyAttachments 15 ++ (0 ∷ [])) []) (refuses 1 16)
     -- nineteen spaces are 11 15 10, and not 10 11 15
     ∷ example (writeText (replicate 19 32 ++ (66 ∷ []))) (11 ∷ 15 ∷ 10 ∷ 12 ∷ 2 ∷ [])
     ∷ example (answersOf roomy (put 4 (10 ∷ 11 ∷ 15 ∷ 12 ∷ 2 ∷ []) ∷ put 4 (11 ∷ 15 ∷ 10 ∷ 12 ∷ 2 ∷ []) ∷ put 4 (1 ∷ 10 ∷ []) ∷ put 4 (15 ∷ 4 ∷ 1 ∷ []) ∷ put 4 (14 ∷ 0 ∷ []) ∷ put 4 (15 ∷ 6 ∷ []) ∷ []))
@@ -276,7 +327,7 @@ orders =
     ∷ []
 
 pub orders-hold : T (every orders)
-unfolding codesWith codesWithout spoilt one wholeValues numbers packed requiredBits unpackedNumbers orders presenceFrom countPresent unpackGives unpack packChecks entriesGiven countFrom packSheet packOrder pack signed given valueNumbers sheetNumbers refusal judged answer answers yes refuses example freshExample freshBytes freshSheetExample sBytes textBytes reportOf highestCodes freshCodes badText flagless put1 flagCalls answersOf roomy wide same every first table fieldAt required scaledOf codedOf inRange entryOf codeOf entries codes bits number bitsOf bitField total readFields writeFields nibbles bytes padded attachmentNibbles tailNibbles attachmentsOf among weights weight totalWeight allMissing qualityCode flagsFit flagBody withFlag flagsValid charCode short pairByte codeNibbles classify byteOf escapable isSpace symbolNibbles fulls rest spaceRun writeFrom writeText spaces textStep stateAfter symbolsOf readFrom endFrom atEnd textValid readText widths checksum cardNumbers cardNibbles packing sheetOf fieldChecks bodyValid attachmentChecks reportChecks judge stands contentOf putIn removeFrom next gives lent writes allNibbles callChecks checks step layout effect calls run claim freshSheet freshChecks fresh digitsFrom fieldLines listing
+unfolding manyAttachments longTail longReport codesWith codesWithout spoilt one wholeValues numbers packed requiredBits unpackedNumbers orders presenceFrom countPresent unpackGives unpack packChecks entriesGiven countFrom packSheet packOrder pack signed given valueNumbers sheetNumbers refusal judged answer answers yes refuses example freshExample freshBytes freshSheetExample sBytes textBytes reportWith reportOf highestCodes freshCodes badText flagless put1 flagCalls answersOf roomy wide same every first table fieldAt required scaledOf codedOf inRange entryOf codeOf entries codes bits number bitsOf bitField total readFields writeFields nibbles bytes padded attachmentNibbles tailNibbles attachmentsOf among weights weight totalWeight allMissing qualityCode flagsFit flagBody withFlag flagsValid charCode short pairByte codeNibbles classify byteOf escapable isSpace symbolNibbles fulls rest spaceRun writeFrom writeText spaces textStep stateAfter symbolsOf readFrom endFrom atEnd textValid readText widths checksum cardNumbers cardNibbles packing sheetOf fieldChecks bodyValid attachmentChecks reportChecks judge stands contentOf putIn removeFrom next gives lent writes allNibbles callChecks checks step layout effect calls run claim freshSheet freshChecks fresh digitsFrom fieldLines listing
 orders-hold = tt
 
 -- what the facts say of each entry

@@ -1,9 +1,9 @@
 -- The field table, the weights and the character table against document 001, computed over the whole of each.
 -- Assumes nothing.
-use Prim.Native.Nat.{ℕ, zero, suc, _+_, _*_, _-_, _^_, _<_}
+use Prim.Native.Nat.{ℕ, zero, suc, _+_, _/_, _%_, _^_}
 use native.Mathlib.Nat.{le-of-suc-le-suc, not-suc-le-zero}
 use mathlib.Core.Path.{_≡_, refl}
-use mathlib.Core.Bool.{Bool, true, false, cond, _&&_}
+use mathlib.Core.Bool.{Bool, true, false, cond, not, _&&_}
 use mathlib.Core.List.{List, [], _∷_, _++_}
 use lib.ListN.{length, getD}
 use lib.Dec.{T, eqb, ltb, eqb→eq, ltb→lt}
@@ -12,7 +12,7 @@ use Rattle.format.specs.Field.{Field, field, minus, table}
 use Rattle.format.specs.Bits.{total}
 use Rattle.format.specs.Sheet.{widths}
 use Rattle.format.specs.Flags.{weights}
-use Rattle.format.specs.ShipText.{charCode, short, codeNibbles, pairByte}
+use Rattle.format.specs.ShipText.{charCode, short, codeNibbles, pairByte, classify, byteOf, escapable, isSpace, symbolNibbles, fulls, rest, spaceRun, writeFrom, writeText, spaces, textStep, stateAfter, symbolsOf, readFrom, endFrom, atEnd, textValid, readText}
 use Rattle.format.proofs.Test.{left, right, same}
 
 -- ---- fields: tables F0-1 and F0-2
@@ -112,19 +112,20 @@ weights-agree = tt
 
 -- ---- characters: table F4-3, with { and } for its two overpunches
 
--- the bytes that a column begins with, and the bytes of its rows from a row on
+-- the bytes of a column's rows, from row n on
 unfoldable pub column : ℕ → ℕ → List ℕ → Bool
 column z n [] = true
-column z n (b ∷ bs) = same (codeNibbles (charCode b)) (z ∷ n ∷ []) && (eqb (pairByte z n) b && column z (suc n) bs)
+column z n (b ∷ bs) =
+    same (writeText (b ∷ [])) (z ∷ n ∷ []) && (same (readText (z ∷ n ∷ [])) (b ∷ []) && column z (suc n) bs)
 
 unfoldable pub single : ℕ → List ℕ → Bool
 single n [] = true
-single n (b ∷ bs) = same (codeNibbles (charCode b)) (n ∷ []) && single (suc n) bs
+single n (b ∷ bs) = same (writeText (b ∷ [])) (n ∷ []) && (same (readText (n ∷ [])) (b ∷ []) && single (suc n) bs)
 
 -- the pairs of a column from row n on are undefined, m of them
 unfoldable pub blankFrom : ℕ → ℕ → ℕ → Bool
 blankFrom z n zero = true
-blankFrom z n (suc m) = eqb (pairByte z n) 0 && blankFrom z (suc n) m
+blankFrom z n (suc m) = not (textValid (z ∷ n ∷ [])) && blankFrom z (suc n) m
 
 -- how many bytes below n have a short code, and whether each other one is 15 and the byte
 unfoldable pub countShort : ℕ → ℕ
@@ -133,11 +134,11 @@ countShort (suc n) = cond (short n) 1 0 + countShort n
 
 unfoldable pub escaped : ℕ → Bool
 escaped zero = true
-escaped (suc n) = cond (short n) true (eqb (charCode n) (3840 + n)) && escaped n
+escaped (suc n) = cond (short n) true (same (writeText (n ∷ [])) (15 ∷ n / 16 ∷ n % 16 ∷ [])) && escaped n
 
 pub characters-agree : T (
     -- the digits, and a space
-    single 0 (48 ∷ 49 ∷ 50 ∷ 51 ∷ 52 ∷ 53 ∷ 54 ∷ 55 ∷ 56 ∷ 57 ∷ 32 ∷ [])
+    single 0 (48 ∷ 49 ∷ 50 ∷ 51 ∷ 52 ∷ 53 ∷ 54 ∷ 55 ∷ 56 ∷ 57 ∷ []) && (same (writeText (32 ∷ 48 ∷ [])) (10 ∷ 0 ∷ [])
     -- 12: { A B C D E F G H I & +
     && (column 12 0 (123 ∷ 65 ∷ 66 ∷ 67 ∷ 68 ∷ 69 ∷ 70 ∷ 71 ∷ 72 ∷ 73 ∷ 38 ∷ 43 ∷ [])
     -- 13: } J K L M N O P Q R -
@@ -145,7 +146,7 @@ pub characters-agree : T (
     -- 14: nothing, / S T U V W X Y Z
     && (column 14 1 (47 ∷ 83 ∷ 84 ∷ 85 ∷ 86 ∷ 87 ∷ 88 ∷ 89 ∷ 90 ∷ [])
     -- the blank positions, and no other byte is short
-    && (blankFrom 12 12 4 && (blankFrom 13 11 5 && (eqb (pairByte 14 0) 0 && (blankFrom 14 10 6 && (eqb (countShort 256) 43 && escaped 256))))))))
+    && (blankFrom 12 12 4 && (blankFrom 13 11 5 && (blankFrom 14 0 1 && (blankFrom 14 10 6 && (eqb (countShort 256) 43 && escaped 256)))))))))
     )
-unfolding same charCode short codeNibbles pairByte column single blankFrom countShort escaped
+unfolding same charCode short codeNibbles pairByte classify byteOf escapable isSpace symbolNibbles fulls rest spaceRun writeFrom writeText spaces textStep stateAfter symbolsOf readFrom endFrom atEnd textValid readText column single blankFrom countShort escaped
 characters-agree = tt

@@ -11,7 +11,8 @@ use Rattle.format.specs.Machine.{Call, Answer, Stepped, lent, step}
 abbrev pub zeros : ℕ → List ℕ
 zeros n = replicate n 0
 
--- the buffer b with the packing of s at its front, 0 from there up to the end e, and its bytes beyond both
+-- the buffer b with the packing of s at its front, "bytes from the new end up to the old end" e 0, "those beyond both" kept.
+-- A step that changes nothing leaves the buffer: a report is the packing of its sheet (crate laws)
 unfoldable pub layout : List ℕ → ℕ → Sheet → List ℕ
 layout b e s = packing s ++ (zeros (e - size s) ++ drop (max e (size s)) b)
 
@@ -36,7 +37,7 @@ effect b c = effectOn (judge b) b c
 
 -- ---- a list of calls
 
--- an answer "with the bytes of each output after the call"
+-- an answer, with "the bytes of each output after the call"
 pub record Shown : Type 0 where
   pub answer : Answer
   pub out : List ℕ
@@ -57,27 +58,27 @@ calls b (c ∷ cs) =
     record { answers = shown (a .answer) (a .out) ∷ r .answers; buffer = r .buffer }
 
 -- the machine's run over a list: its answers, its sheet, and the longest end reached
-pub record Run : Type 0 where
+pub record MachineRun : Type 0 where
   pub answers : List Shown
   pub sheet : Sheet
   pub longest : ℕ
 
-unfoldable pub run : ℕ → Sheet → ℕ → List Call → Run
+unfoldable pub run : ℕ → Sheet → ℕ → List Call → MachineRun
 run n s e [] = record { answers = []; sheet = s; longest = e }
 run n s e (c ∷ cs) =
     let t = step n s c in
     let r = run n (t .sheet) (max e (size (t .sheet))) cs in
     record { answers = shown (t .answer) (t .out) ∷ r .answers; sheet = r .sheet; longest = r .longest }
 
--- "the packing of the machine's sheet", 0 "from the present end to the longest end reached", and the bytes past that
-abbrev pub machineOn : List ℕ → Run → Ran
+-- the packing of the machine's sheet, 0 "from the present end to the longest end reached", and "bytes past that"
+abbrev pub machineOn : List ℕ → MachineRun → Ran
 machineOn b m = record { answers = m .answers; buffer = layout b (m .longest) (m .sheet) }
 
 abbrev pub refusals : Refusal → List Call → List Shown
 refusals r cs = map (λ (c : Call). shown (Answer.refused r) (lent c)) cs
 
--- what is claimed of a list: on an accepted report the machine's run, begun on that report's sheet; on any other buffer
--- each call gives the refusal, and no byte changes
+-- demand 3, what is claimed of a list: on an accepted report the machine's run, begun on that report's sheet; on any other
+-- buffer each call gives the refusal, and no byte changes. That the calls do what is claimed is the theorem of crate laws
 abbrev pub claimOn : Verdict → List ℕ → List Call → Ran
 claimOn (refused r) b cs = record { answers = refusals r cs; buffer = b }
 claimOn (accepted s) b cs = machineOn b (run (length b) s (size s) cs)

@@ -74,7 +74,7 @@ table =
     field 2 (minus 1) 2 ∷  -- 46 A6
     []
 
--- the entry of field k, from 1 to 46
+-- the entry of field k, from 1 to 46 (8 is judged before it is read)
 unfoldable pub fieldAt : ℕ → Field
 fieldAt k = getD table (k - 1) (field 0 (pos 0) 0)
 
@@ -108,7 +108,7 @@ coded n = record { 0 = n }
 abbrev pub scaled : ℤ → Scaled
 scaled z = record { 0 = z }
 
--- "coded + base", and back: the only ways across
+-- "coded + base", and back (for a value in range): no other definition turns the one quantity into the other
 unfoldable pub scaledOf : Field → Coded → Scaled
 scaledOf f c = scaled (pos (c .0) +ℤ f .base)
 

@@ -29,7 +29,7 @@ allMissing (v ∷ vs) = eqb v 0 && allMissing vs
 unfoldable pub qualityCode : List ℕ → ℕ
 qualityCode flags = cond (allMissing flags) 0 (1 + totalWeight flags)
 
--- "any flag may take any of the ten"
+-- "any flag may take any of the ten" (request K6 of document 02 will read a table here)
 abbrev pub permitted : ℕ → ℕ → Bool
 permitted j v = true
 

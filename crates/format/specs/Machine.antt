@@ -17,15 +17,19 @@ use Rattle.format.specs.declared.Scaled.{Scaled}
 
 -- a call, with its arguments, its contents and its output "as they were lent"
 pub data Call : Type 0 where
+  -- read k; set k to v; clear k
   readField : ℕ → Call
   setField : ℕ → Scaled → Call
   clearField : ℕ → Call
+  -- read, set, clear flag j
   readFlag : ℕ → Call
   setFlag : ℕ → ℕ → Call
   clearFlag : ℕ → Call
+  -- put id, content; fetch id, to an output; drop id
   put : ℕ → List ℕ → Call
   fetch : ℕ → List ℕ → Call
   remove : ℕ → Call
+  -- put text; fetch text, to an output
   putText : List ℕ → Call
   fetchText : List ℕ → Call
 

@@ -18,7 +18,7 @@ bytes (h ∷ l ∷ ns) = (h * 16 + l) ∷ bytes ns
 abbrev pub odd : ℕ → Bool
 odd n = eqb (n % 2) 1
 
--- one nibble 0 more "if the count of nibbles so far is odd"
+-- "then one nibble 0 if the count of nibbles so far .. is odd"
 unfoldable pub padded : List ℕ → List ℕ
 padded ns = cond (odd (length ns)) (ns ++ (0 ∷ [])) ns
 
@@ -32,7 +32,7 @@ pub record Attachment : Type 0 where
 abbrev pub attachment : ℕ → List ℕ → Attachment
 attachment i ns = record { id = i; content = ns }
 
--- "AL (8 bits, the number of data nibbles), AID (4 bits) and the data"
+-- "AL (8 bits, 1 to 255, the number of data nibbles), AID (4 bits, 1 to 15) and the data"
 unfoldable pub attachmentNibbles : Attachment → List ℕ
 attachmentNibbles a = length (a .content) / 16 ∷ length (a .content) % 16 ∷ a .id ∷ a .content
 

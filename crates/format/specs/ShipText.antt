@@ -1,5 +1,5 @@
--- "Id 4, ship text": the characters, the writer, the reader. A text is a row of symbols, each plain or original: a plain
--- byte has a short code, an original one stands behind 15. The text of a call is bytes, each one plain if it has a short code.
+-- "Id 4, ship text": the characters, the writer, the reader. They are over symbols, as request K4 of document 02 will have
+-- them: a plain byte has a short code, an original one stands behind 15. 01's text is bytes, each plain if it has a short code.
 use Prim.Native.Nat.{ℕ, zero, suc, _+_, _-_, _*_, _/_, _%_}
 use mathlib.Core.Bool.{Bool, true, false, cond, not, _&&_}
 use mathlib.Core.List.{List, [], _∷_, _++_, map}
@@ -32,7 +32,7 @@ charCode b =
 unfoldable pub short : ℕ → Bool
 short b = ltb (charCode b) 256
 
--- the byte of a pair that begins with 12, 13 or 14; 0 where the pair is undefined
+-- the byte of a pair that begins with 12, 13 or 14; 0, which has no short code, where the pair is undefined
 unfoldable pub pairByte : ℕ → ℕ → ℕ
 pairByte z n =
     cond (eqb z 12) (cond (eqb n 0) 123 (cond (ltb n 10) (64 + n) (cond (eqb n 10) 38 (cond (eqb n 11) 43 0))))
@@ -104,8 +104,7 @@ writeText t = writeSymbols (map classify t)
 unfoldable pub spaces : ℕ → List Symbol
 spaces s = replicate s (plain 32)
 
--- what one nibble brings. In a run as the writer gives it, 10 is one more space while the rest is below 3, and 11 follows
--- full eighteens only
+-- what one nibble brings. In a run as the writer gives it, 10 follows a rest of 0 or 1 so far, and 11 full eighteens only
 unfoldable pub textStep : TextState → ℕ → TextStep
 textStep (Between s) n =
     cond (ltb n 10) (Plain s (48 + n))

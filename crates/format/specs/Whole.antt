@@ -91,7 +91,7 @@ unpackGives s =
     ∷ some (pos (length (tail s)))
     ∷ []
 
--- 13: an output "shorter than the output, or 46 values"
+-- 13: "a lent buffer shorter than .. the output, or 46 values"
 abbrev pub unpackChecks : Sheet → List ℤ → List ℕ → List Check
 unpackChecks s values tailOut = check (ltb (length values) 46 || ltb (length tailOut) (length (tail s))) 13 0 ∷ []
 
@@ -131,7 +131,8 @@ unfoldable pub entriesGiven : ℕ → ℕ → List ℤ → List (Option Scaled)
 entriesGiven k word [] = []
 entriesGiven k word (v ∷ vs) = cond (bitAt word k) (some (scaled v)) none ∷ entriesGiven (suc k) word vs
 
--- AC, counted from a tail: attachment after attachment to the tail's end, m at most
+-- AC, counted from a tail: attachment after attachment to the tail's end, m at most. Ids are 1 to 15, each once, so a
+-- sixteenth is refused, and stray nibbles behind the last are a further attachment whose header doesn't fit
 unfoldable pub countFrom : ℕ → List ℕ → ℕ
 countFrom zero ns = 0
 countFrom (suc m) [] = 0
@@ -154,7 +155,7 @@ packOrder n values word rptin ns =
     ∷ (attachmentChecks (countIn ns) 1 [] ns
     ++ (check (ltb n (size (packSheet values word rptin ns))) 13 0 ∷ []))))
 
--- it gives the report's byte length
+-- it gives the report's byte length. A refused call leaves the output
 unfoldable pub pack : List ℤ → ℕ → ℕ → List ℕ → List ℕ → Wrote
 pack values word rptin ns out =
     let s = packSheet values word rptin ns in

@@ -19,7 +19,7 @@ use Rattle.format.specs.ShipText.{writeText}
 use Rattle.format.specs.Sheet.{Sheet, sheet, packing, size}
 use Rattle.format.specs.Report.{Verdict, judge, bodyValid}
 use Rattle.format.specs.Machine.{Call, readField, setField, clearField, readFlag, setFlag, clearFlag, put, fetch, remove, putText, fetchText, withValue, withAttachments, withContent, content, next, gives, lent, writes, allNibbles, flagNumberCheck, idCheck, lengthCheck, contentCheck, standsCheck, roomCheck, callChecks, checks, Answer, Stepped, steppedBy, step, over}
-use Rattle.format.specs.Buffer.{zeros, layout, After, after, effectOn, effect, Shown, shown, Ran, calls, Run, run, machineOn, refusals, claimOn, claim}
+use Rattle.format.specs.Buffer.{zeros, layout, After, after, effectOn, effect, Shown, shown, Ran, calls, MachineRun, run, machineOn, refusals, claimOn, claim}
 use Rattle.laws.proofs.Lists.{and-true, or-false, drop-append, drop-replicate}
 use Rattle.laws.proofs.Order.{first-none, first-append-none}
 use Rattle.format.specs.declared.Scaled.{Scaled}

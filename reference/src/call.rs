@@ -1,0 +1,71 @@
+//! The eleven calls of a list as data, with contents and outputs as lent.
+
+use crate::edit;
+use crate::refusal::Refusal;
+use crate::table::Scaled;
+
+#[derive(Clone, Debug, PartialEq, Eq)]
+pub enum Call {
+    ReadField { field: u64 },
+    SetField { field: u64, value: i64 },
+    ClearField { field: u64 },
+    ReadFlag { flag: u64 },
+    SetFlag { flag: u64, value: i64 },
+    ClearFlag { flag: u64 },
+    Put { id: u64, content: Vec<u8> },
+    Fetch { id: u64, output: Vec<u8> },
+    Drop { id: u64 },
+    PutText { text: Vec<u8> },
+    FetchText { output: Vec<u8> },
+}
+
+/// What an accepted call gives.
+#[derive(Clone, Copy, Debug, PartialEq, Eq)]
+pub enum Given {
+    Nothing,
+    Value(Option<i64>),
+    Count(usize),
+}
+
+#[derive(Clone, Debug, PartialEq, Eq)]
+pub struct Answer {
+    pub result: Result<Given, Refusal>,
+    /// The output after the call, if the call has one.
+    pub output: Option<Vec<u8>>,
+}
+
+impl Call {
+    /// The output as lent, if the call has one.
+    pub fn output(&self) -> Option<Vec<u8>> {
+        match self {
+            Call::Fetch { output, .. } | Call::FetchText { output } => Some(output.clone()),
+            _ => None,
+        }
+    }
+
+    /// Runs the call on a lent buffer.
+    pub fn run(&self, buffer: &mut [u8]) -> Answer {
+        let nothing = |()| Given::Nothing;
+        let mut output = self.output();
+        let lent = output.as_deref_mut().unwrap_or_default();
+        let result = match self {
+            Call::ReadField { field } => edit::read_field(buffer, *field)
+                .map(|value| Given::Value(value.map(|value| value.0))),
+            Call::SetField { field, value } => {
+                edit::set_field(buffer, *field, Scaled(*value)).map(nothing)
+            }
+            Call::ClearField { field } => edit::clear_field(buffer, *field).map(nothing),
+            Call::ReadFlag { flag } => {
+                edit::read_flag(buffer, *flag).map(|value| Given::Value(value.map(i64::from)))
+            }
+            Call::SetFlag { flag, value } => edit::set_flag(buffer, *flag, *value).map(nothing),
+            Call::ClearFlag { flag } => edit::clear_flag(buffer, *flag).map(nothing),
+            Call::Put { id, content } => edit::put(buffer, *id, content).map(nothing),
+            Call::Fetch { id, .. } => edit::fetch(buffer, *id, lent).map(Given::Count),
+            Call::Drop { id } => edit::drop_attachment(buffer, *id).map(nothing),
+            Call::PutText { text } => edit::put_text(buffer, text).map(nothing),
+            Call::FetchText { .. } => edit::fetch_text(buffer, lent).map(Given::Count),
+        };
+        Answer { result, output }
+    }
+}

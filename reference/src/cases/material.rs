@@ -1,0 +1,312 @@
+//! Sheets, reports, contents and texts from which cases are made.
+
+use crate::attachment::{Attachment, with_header};
+use crate::bits::bytes_of_nibbles;
+use crate::card::{Card, checksum};
+use crate::flags;
+use crate::prng::Prng;
+use crate::sheet::Sheet;
+use crate::table::{Coded, FIELDS, Scaled, fields};
+use crate::text;
+
+/// A report put together freely, sound or not.
+#[derive(Clone, Debug)]
+pub struct Draft {
+    pub card: Card,
+    /// Nibbles behind the card.
+    pub tail: Vec<u8>,
+    /// The nibble behind an odd number of them.
+    pub last: u8,
+}
+
+impl Draft {
+    pub fn of(sheet: &Sheet) -> Draft {
+        let codes = sheet.codes();
+        Draft {
+            card: Card {
+                rptin: sheet.rptin,
+                codes,
+                ck: checksum(&codes),
+                ac: sheet.attachments.len(),
+            },
+            tail: tail_of(sheet),
+            last: 0,
+        }
+    }
+
+    /// Sets a field's code and works CK out again.
+    pub fn set_code(&mut self, field: usize, code: u64) {
+        self.card.codes[field - 1] = Coded(code);
+        self.card.ck = checksum(&self.card.codes);
+    }
+
+    /// Adds an attachment, valid or not.
+    pub fn attach(&mut self, id: u8, nibbles: &[u8]) {
+        self.card.ac += 1;
+        self.tail.extend(with_header(id, nibbles));
+    }
+
+    pub fn bytes(&self) -> Vec<u8> {
+        let mut nibbles = self.card.nibbles();
+        nibbles.extend(&self.tail);
+        if nibbles.len() % 2 == 1 {
+            nibbles.push(self.last);
+        }
+        bytes_of_nibbles(&nibbles)
+    }
+}
+
+pub fn tail_of(sheet: &Sheet) -> Vec<u8> {
+    sheet
+        .attachments
+        .iter()
+        .flat_map(Attachment::with_header)
+        .collect()
+}
+
+/// Values 1, 1900, 1, 0, 0.
+pub fn fresh_sheet() -> Sheet {
+    Sheet::fresh([1, 1900, 1, 0, 0].map(Scaled))
+}
+
+/// A fresh sheet with attachments.
+pub fn sheet_with(attachments: &[(u8, &[u8])]) -> Sheet {
+    let mut sheet = fresh_sheet();
+    for (id, nibbles) in attachments {
+        sheet
+            .attachments
+            .push(Attachment::new(*id, nibbles.to_vec()));
+    }
+    sheet
+}
+
+/// A sheet with every field at its lowest or its highest value.
+pub fn full_sheet(highest: bool) -> Sheet {
+    let mut sheet = fresh_sheet();
+    for field in fields() {
+        let value = if highest {
+            field.highest_value()
+        } else {
+            field.lowest_value()
+        };
+        sheet.values[field.number - 1] = Some(value);
+    }
+    sheet
+}
+
+/// The sheet of 1853 bytes.
+pub fn largest_sheet() -> Sheet {
+    let mut sheet = full_sheet(true);
+    sheet.rptin = 0xFFFF;
+    for id in 1..=15 {
+        let nibbles = match id {
+            flags::ID => flags::body_of(&[10; 14]),
+            text::ID => text::write(&[b'a'; 85]),
+            _ => vec![id; 255],
+        };
+        sheet.attachments.push(Attachment::new(id, nibbles));
+    }
+    sheet
+}
+
+/// A sheet whose coded values add up to a multiple of 255, so that CK is 0.
+pub fn sheet_with_ck_0() -> Sheet {
+    let mut sheet = fresh_sheet();
+    // The fresh codes add up to 1005; 15 more make 1020, 4 times 255.
+    sheet.values[3] = Some(Scaled(15));
+    sheet
+}
+
+/// Bodies that id 1 refuses.
+pub fn bad_flag_bodies() -> Vec<Vec<u8>> {
+    let sound = flags::body_of(&[1, 0, 0, 0, 0, 6, 0, 0, 0, 0, 0, 0, 0, 0]);
+    let changed = |index: usize, nibble: u8| {
+        let mut body = sound.clone();
+        body[index] = nibble;
+        body
+    };
+    let mut code_for_none = vec![0; 16];
+    code_for_none[15] = 1;
+    let mut none_for_correct = vec![0; 16];
+    none_for_correct[0] = 1;
+    vec![
+        vec![0],
+        sound[..15].to_vec(),
+        [sound.clone(), vec![0]].concat(),
+        vec![0; 255],
+        changed(0, 11),
+        changed(13, 15),
+        changed(15, 2),
+        changed(15, 4),
+        changed(14, 1),
+        code_for_none,
+        none_for_correct,
+    ]
+}
+
+/// Bodies that id 4 refuses.
+pub fn bad_text_bodies() -> Vec<Vec<u8>> {
+    let bodies: [&[u8]; 33] = [
+        &[10],
+        &[1, 10],
+        &[10, 10, 10, 1],
+        &[11],
+        &[11, 0],
+        &[1, 11, 15],
+        &[11, 15, 10],
+        &[10, 11, 15, 1],
+        &[10, 10, 11, 15, 1],
+        &[11, 14, 10, 1],
+        &[11, 0, 10, 1],
+        &[10, 11, 0, 1],
+        &[11, 0, 11, 0, 1],
+        &[11, 14, 11, 15, 1],
+        &[11, 15, 10, 10, 10, 1],
+        &[12],
+        &[12, 12],
+        &[12, 15],
+        &[13],
+        &[13, 11],
+        &[13, 15],
+        &[14],
+        &[14, 0],
+        &[14, 10],
+        &[14, 15],
+        &[15],
+        &[15, 6],
+        &[15, 2, 0],
+        &[15, 3, 0],
+        &[15, 4, 1],
+        &[15, 7, 11],
+        &[15, 7, 13],
+        &[15, 2, 15],
+    ];
+    bodies.iter().map(|body| body.to_vec()).collect()
+}
+
+/// Bodies that id 4 takes, near the refused ones.
+pub fn good_text_bodies() -> Vec<Vec<u8>> {
+    let bodies: [&[u8]; 18] = [
+        &[0],
+        &[10, 1],
+        &[10, 10, 1],
+        &[11, 0, 1],
+        &[11, 14, 1],
+        &[11, 15, 1],
+        &[11, 15, 10, 1],
+        &[11, 15, 10, 10, 1],
+        &[11, 15, 11, 0, 1],
+        &[11, 15, 11, 15, 10, 10, 12, 2],
+        &[12, 0],
+        &[12, 11],
+        &[13, 10],
+        &[14, 1],
+        &[14, 9],
+        &[15, 0, 0],
+        &[15, 15, 15],
+        &[15, 6, 1, 10, 15, 6, 1],
+    ];
+    bodies.iter().map(|body| body.to_vec()).collect()
+}
+
+/// A flag body with random flags.
+pub fn random_flags(prng: &mut Prng) -> Vec<u8> {
+    let missing = prng.pick(&[1, 2, 100]);
+    let flags: Vec<u8> = (0..14)
+        .map(|_| {
+            if prng.one_in(missing) {
+                0
+            } else {
+                prng.below(11) as u8
+            }
+        })
+        .collect();
+    flags::body_of(&flags)
+}
+
+/// A text of runs of spaces, digits, letters, marks and escapes.
+pub fn random_text(prng: &mut Prng, pieces: usize) -> Vec<u8> {
+    let mut text = Vec::new();
+    for _ in 0..pieces {
+        match prng.below(5) {
+            0 => text.extend(vec![b' '; prng.below(41)]),
+            1 => text.push(b'0' + prng.below(10) as u8),
+            2 => text.push(b'A' + prng.below(26) as u8),
+            3 => text.push(prng.pick(b"/&+-{}")),
+            _ => text.push(prng.next_u64() as u8),
+        }
+    }
+    text
+}
+
+/// A valid body for an id; a text that comes to nothing is replaced by "0".
+pub fn random_body(prng: &mut Prng, id: u8) -> Vec<u8> {
+    match id {
+        flags::ID => random_flags(prng),
+        text::ID => {
+            let pieces = 1 + prng.below(40);
+            let mut body = text::write(&random_text(prng, pieces));
+            if body.is_empty() || body.len() > 255 {
+                body = vec![0];
+            }
+            body
+        }
+        _ => {
+            let length = match prng.below(8) {
+                0 => prng.pick(&[1, 2, 16, 254, 255]),
+                _ => 1 + prng.below(20),
+            };
+            prng.nibbles(length)
+        }
+    }
+}
+
+/// A value of a field: lowest, highest or any between.
+pub fn random_value(prng: &mut Prng, field: usize) -> Scaled {
+    let field = fields()[field - 1];
+    match prng.below(4) {
+        0 => field.lowest_value(),
+        1 => field.highest_value(),
+        _ => Scaled(field.base + 1 + prng.below(field.highest as usize) as i64),
+    }
+}
+
+/// A sheet with random RPTIN, values and attachments.
+pub fn random_sheet(prng: &mut Prng) -> Sheet {
+    let mut sheet = fresh_sheet();
+    sheet.rptin = prng.pick(&[0, 1, 0x8000, 0xFFFF, 0x1234]);
+    let missing = prng.pick(&[1, 2, 4, 100]);
+    for field in fields() {
+        if field.is_required() || !prng.one_in(missing) {
+            sheet.values[field.number - 1] = Some(random_value(prng, field.number));
+        }
+    }
+    let mut ids: Vec<u8> = (1..=15).collect();
+    prng.shuffle(&mut ids);
+    let most = prng.pick(&[0, 1, 2, 3, 3, 5, 15]);
+    ids.truncate(most);
+    for id in ids {
+        let body = random_body(prng, id);
+        sheet.attachments.push(Attachment::new(id, body));
+    }
+    sheet
+}
+
+/// A report and some bytes of the buffer after it.
+pub fn with_bytes_after(mut report: Vec<u8>, after: &[u8]) -> Vec<u8> {
+    report.extend(after);
+    report
+}
+
+/// The values and the presence word of a sheet; missing values as given.
+pub fn values_and_word(sheet: &Sheet, missing: i64) -> (Vec<i64>, u64) {
+    let mut values = vec![missing; FIELDS];
+    let mut word = 0;
+    for (index, value) in sheet.values.iter().enumerate() {
+        if let Some(value) = value {
+            values[index] = value.0;
+            word |= 1 << (index + 1);
+        }
+    }
+    (values, word)
+}

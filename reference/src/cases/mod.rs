@@ -1,0 +1,126 @@
+//! Cases for comparison: what is lent to a call, and what comes of it.
+
+pub mod calls;
+pub mod material;
+pub mod outside;
+pub mod pairs;
+pub mod random;
+pub mod reports;
+
+use crate::call::{Answer, Call};
+use crate::judge::{Report, judge};
+use crate::lister;
+use crate::outside::{Unpacked, fresh, pack, unpack};
+use crate::refusal::Refusal;
+
+/// One case, with every buffer as it is lent.
+#[derive(Clone, Debug, PartialEq, Eq)]
+pub enum Case {
+    Judge {
+        report: Vec<u8>,
+    },
+    Lister {
+        input: Vec<u8>,
+    },
+    Fresh {
+        required: [i64; 5],
+        output: Vec<u8>,
+    },
+    Unpack {
+        report: Vec<u8>,
+        values: Vec<i64>,
+        tail: Vec<u8>,
+    },
+    Pack {
+        values: Vec<i64>,
+        word: u64,
+        rptin: u16,
+        tail: Vec<u8>,
+        output: Vec<u8>,
+    },
+    /// A list of calls on one buffer.
+    Calls {
+        buffer: Vec<u8>,
+        calls: Vec<Call>,
+    },
+}
+
+/// What comes of a case, with every lent output as the call leaves it.
+#[derive(Clone, Debug, PartialEq, Eq)]
+pub enum Outcome {
+    Judge(Box<Result<Report, Refusal>>),
+    Lister(Vec<String>),
+    Fresh {
+        result: Result<(), Refusal>,
+        output: Vec<u8>,
+    },
+    Unpack {
+        result: Result<Unpacked, Refusal>,
+        values: Vec<i64>,
+        tail: Vec<u8>,
+    },
+    Pack {
+        result: Result<usize, Refusal>,
+        output: Vec<u8>,
+    },
+    /// For each call its answer and the buffer after it.
+    Calls(Vec<(Answer, Vec<u8>)>),
+}
+
+impl Case {
+    pub fn run(&self) -> Outcome {
+        match self {
+            Case::Judge { report } => Outcome::Judge(Box::new(judge(report))),
+            Case::Lister { input } => Outcome::Lister(lister::lines(input)),
+            Case::Fresh { required, output } => {
+                let mut output = output.clone();
+                let result = fresh(*required, &mut output);
+                Outcome::Fresh { result, output }
+            }
+            Case::Unpack {
+                report,
+                values,
+                tail,
+            } => {
+                let (mut values, mut tail) = (values.clone(), tail.clone());
+                let result = unpack(report, &mut values, &mut tail);
+                Outcome::Unpack {
+                    result,
+                    values,
+                    tail,
+                }
+            }
+            Case::Pack {
+                values,
+                word,
+                rptin,
+                tail,
+                output,
+            } => {
+                let mut output = output.clone();
+                let result = pack(values, *word, *rptin, tail, &mut output);
+                Outcome::Pack { result, output }
+            }
+            Case::Calls { buffer, calls } => {
+                let mut buffer = buffer.clone();
+                let mut answers = Vec::new();
+                for call in calls {
+                    let answer = call.run(&mut buffer);
+                    answers.push((answer, buffer.clone()));
+                }
+                Outcome::Calls(answers)
+            }
+        }
+    }
+}
+
+/// The cases that are the same for every seed.
+pub fn fixed() -> Vec<Case> {
+    let mut cases = reports::cases();
+    cases.extend(outside::cases());
+    cases.extend(calls::cases());
+    for pair in pairs::pairs() {
+        cases.extend([pair.both, pair.mended]);
+    }
+    cases
+}

@@ -1,0 +1,214 @@
+//! Reports, sound and damaged in each way that a refusal names.
+
+use super::Case;
+use super::material::*;
+use crate::flags;
+use crate::sheet::Sheet;
+use crate::table::{REQUIRED, Scaled, fields};
+use crate::text;
+
+/// Every report judged, listed and unpacked.
+pub fn cases() -> Vec<Case> {
+    let mut cases = Vec::new();
+    let mut reports = sound();
+    reports.extend(damaged());
+    for report in reports {
+        cases.push(Case::Lister {
+            input: report.clone(),
+        });
+        cases.push(Case::Unpack {
+            report: report.clone(),
+            values: vec![-7; 48],
+            tail: vec![0xEE; 2 * report.len()],
+        });
+        cases.push(Case::Judge { report });
+    }
+    cases
+}
+
+pub fn sound() -> Vec<Vec<u8>> {
+    let mut reports: Vec<Vec<u8>> = sound_sheets().iter().map(Sheet::packing).collect();
+    for sheet in [
+        fresh_sheet(),
+        sheet_with(&[(5, &[1, 2, 3])]),
+        sheet_with(&[(5, &[1, 2])]),
+    ] {
+        for after in [&[0xFF][..], &[0; 5], &[0xA5; 9]] {
+            reports.push(with_bytes_after(sheet.packing(), after));
+        }
+    }
+    reports.push(with_bytes_after(largest_sheet().packing(), &[0xFF; 200]));
+    reports
+}
+
+fn sound_sheets() -> Vec<Sheet> {
+    let mut with_s = fresh_sheet();
+    with_s.values[30] = Some(Scaled(286));
+    let mut with_zero_air = fresh_sheet();
+    with_zero_air.values[27] = Some(Scaled(0));
+    let mut sheets = vec![
+        fresh_sheet(),
+        with_s,
+        with_zero_air,
+        full_sheet(false),
+        full_sheet(true),
+        sheet_with_ck_0(),
+        largest_sheet(),
+        sheet_with(&[(4, &text::write(b"A1"))]),
+        sheet_with(&[(1, &[0; 16])]),
+        sheet_with(&[(1, &flags::body_of(&[1; 14]))]),
+        sheet_with(&[(1, &flags::body_of(&[10; 14]))]),
+        sheet_with(&[(
+            1,
+            &flags::body_of(&[0, 1, 2, 3, 4, 5, 6, 7, 8, 9, 10, 0, 0, 1]),
+        )]),
+        sheet_with(&[(15, &[15]), (1, &[0; 16]), (4, &[9]), (2, &[0, 0])]),
+    ];
+    for rptin in [1, 0x8000, 0xABCD, 0xFFFF] {
+        let mut sheet = fresh_sheet();
+        sheet.rptin = rptin;
+        sheets.push(sheet);
+    }
+    for length in [1, 2, 16, 254, 255] {
+        sheets.push(sheet_with(&[(5, &vec![13; length])]));
+    }
+    for body in good_text_bodies() {
+        sheets.push(sheet_with(&[(4, &body)]));
+    }
+    sheets
+}
+
+pub fn damaged() -> Vec<Vec<u8>> {
+    let mut reports = short();
+    reports.extend(bad_codes());
+    reports.extend(bad_checksums());
+    reports.extend(bad_attachments());
+    reports.extend(bad_bodies());
+    reports.extend(bad_last_nibbles());
+    reports.extend([22, 23, 255].map(beyond_the_lister));
+    reports
+}
+
+fn short() -> Vec<Vec<u8>> {
+    let fresh = fresh_sheet().packing();
+    [0, 1, 36, 37]
+        .iter()
+        .map(|&length| fresh[..length].to_vec())
+        .collect()
+}
+
+/// Refusals 2 and 3.
+fn bad_codes() -> Vec<Vec<u8>> {
+    let mut reports = Vec::new();
+    for field in fields() {
+        let largest = (1 << field.bits) - 1;
+        for code in [field.highest + 1, largest] {
+            // Some fields use every code that their bits hold.
+            if code > field.highest && code <= largest {
+                let mut draft = Draft::of(&full_sheet(true));
+                draft.set_code(field.number, code);
+                reports.push(draft.bytes());
+            }
+        }
+    }
+    for number in REQUIRED {
+        let mut draft = Draft::of(&full_sheet(false));
+        draft.set_code(number, 0);
+        reports.push(draft.bytes());
+    }
+    reports.push(vec![0; 38]);
+    reports.push(vec![0xFF; 60]);
+    reports
+}
+
+/// Refusal 4: a neighbour, each of the upper six bits, 255 for 0, AC added.
+fn bad_checksums() -> Vec<Vec<u8>> {
+    let sheets = [
+        fresh_sheet(),
+        full_sheet(true),
+        sheet_with_ck_0(),
+        sheet_with(&[(5, &[1]), (6, &[2])]),
+    ];
+    let mut reports = Vec::new();
+    for sheet in sheets {
+        let sound = Draft::of(&sheet);
+        let ck = sound.card.ck;
+        let mut stored = vec![ck + 1, (ck + 254) % 255, ck + 255, ck | 0x3F00, ck + 2];
+        stored.extend((8..14).map(|bit| ck | (1 << bit)));
+        for ck in stored {
+            let mut draft = sound.clone();
+            draft.card.ck = ck;
+            reports.push(draft.bytes());
+        }
+    }
+    reports
+}
+
+/// Refusals 1 and 5 of attachments.
+fn bad_attachments() -> Vec<Vec<u8>> {
+    let mut reports = Vec::new();
+    for ac in [1, 2, 15] {
+        let mut draft = Draft::of(&fresh_sheet());
+        draft.card.ac = ac;
+        reports.push(draft.bytes());
+        reports.push(with_bytes_after(draft.bytes(), &[0; 20]));
+        reports.push(with_bytes_after(draft.bytes(), &[0xFF; 20]));
+    }
+    for (id, nibbles) in [(0, &[1, 2][..]), (5, &[]), (0, &[])] {
+        let mut draft = Draft::of(&sheet_with(&[(2, &[7, 7])]));
+        draft.attach(id, nibbles);
+        reports.push(draft.bytes());
+    }
+    let mut repeated = Draft::of(&sheet_with(&[(2, &[7]), (3, &[8]), (2, &[9])]));
+    reports.push(repeated.bytes());
+    repeated.attach(5, &[1; 30]);
+    reports.push(repeated.bytes());
+    let whole = sheet_with(&[(7, &[1; 20]), (9, &[2; 30])]).packing();
+    for length in 38..whole.len() {
+        reports.push(whole[..length].to_vec());
+    }
+    reports
+}
+
+/// Refusal 6.
+fn bad_bodies() -> Vec<Vec<u8>> {
+    let mut reports = Vec::new();
+    for (id, bodies) in [(1, bad_flag_bodies()), (4, bad_text_bodies())] {
+        for body in bodies {
+            let mut draft = Draft::of(&sheet_with(&[(8, &[1])]));
+            draft.attach(id, &body);
+            draft.attach(9, &[2, 2]);
+            reports.push(draft.bytes());
+        }
+    }
+    reports
+}
+
+/// Refusal 7.
+fn bad_last_nibbles() -> Vec<Vec<u8>> {
+    let mut reports = Vec::new();
+    for sheet in [
+        fresh_sheet(),
+        sheet_with(&[(5, &[1, 2, 3, 4, 5])]),
+        sheet_with(&[(5, &[6; 255])]),
+    ] {
+        for last in [1, 8, 15] {
+            let mut draft = Draft::of(&sheet);
+            draft.last = last;
+            reports.push(draft.bytes());
+        }
+    }
+    reports
+}
+
+/// Id 1 last of fifteen, the others of 255 nibbles. Its data end at byte 1856
+/// if they are 22 nibbles, and behind it if they are more.
+pub fn beyond_the_lister(length: usize) -> Vec<u8> {
+    let mut draft = Draft::of(&fresh_sheet());
+    for id in 2..=15 {
+        let nibble = if id == text::ID { 1 } else { id };
+        draft.attach(id, &[nibble; 255]);
+    }
+    draft.attach(flags::ID, &vec![0; length]);
+    draft.bytes()
+}

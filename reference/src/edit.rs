@@ -1,0 +1,217 @@
+//! The eleven calls on a lent buffer. Each works on the report's bits and
+//! nibbles where they stand; a refused call changes nothing.
+
+use std::ops::Range;
+
+use crate::attachment::{self, HEADER, HIGHEST_ID, LONGEST};
+use crate::bits::{bits_of, bytes_of, bytes_of_nibbles, nibbles_of, store_number};
+use crate::card::{CARD_BYTES, CARD_NIBBLES, Card, checksum};
+use crate::flags::{self, FLAGS, HIGHEST_FLAG, quality_code};
+use crate::judge::{Report, judge};
+use crate::refusal::{Refusal, refusal};
+use crate::table::{CK, Coded, Field, Scaled, field, place_on_card};
+use crate::text;
+
+pub fn read_field(buffer: &[u8], number: u64) -> Result<Option<Scaled>, Refusal> {
+    judge(buffer)?;
+    let field = known_field(number)?;
+    let card = Card::read(&bits_of(&buffer[..CARD_BYTES]));
+    Ok(field.scaled(card.codes[field.number - 1]))
+}
+
+pub fn set_field(buffer: &mut [u8], number: u64, value: Scaled) -> Result<(), Refusal> {
+    judge(buffer)?;
+    let field = known_field(number)?;
+    let code = field.coded(value).ok_or(refusal(9, field.number))?;
+    store_code(buffer, field, code);
+    Ok(())
+}
+
+pub fn clear_field(buffer: &mut [u8], number: u64) -> Result<(), Refusal> {
+    judge(buffer)?;
+    let field = known_field(number)?;
+    if field.is_required() {
+        return Err(refusal(10, field.number));
+    }
+    store_code(buffer, field, Coded(0));
+    Ok(())
+}
+
+pub fn read_flag(buffer: &[u8], number: u64) -> Result<Option<u8>, Refusal> {
+    let report = judge(buffer)?;
+    let flag = known_flag(number)?;
+    let data = standing(&report, u64::from(flags::ID))?;
+    let value = nibbles_of(buffer)[data.start + flag - 1];
+    Ok((value != 0).then_some(value))
+}
+
+pub fn set_flag(buffer: &mut [u8], number: u64, value: i64) -> Result<(), Refusal> {
+    let report = judge(buffer)?;
+    let flag = known_flag(number)?;
+    if !(1..=i64::from(HIGHEST_FLAG)).contains(&value) {
+        return Err(refusal(9, flag));
+    }
+    let data = standing(&report, u64::from(flags::ID))?;
+    store_flag(buffer, data.start, flag, value as u8);
+    Ok(())
+}
+
+pub fn clear_flag(buffer: &mut [u8], number: u64) -> Result<(), Refusal> {
+    let report = judge(buffer)?;
+    let flag = known_flag(number)?;
+    let data = standing(&report, u64::from(flags::ID))?;
+    store_flag(buffer, data.start, flag, 0);
+    Ok(())
+}
+
+/// Puts an attachment, content one nibble a byte.
+pub fn put(buffer: &mut [u8], id: u64, content: &[u8]) -> Result<(), Refusal> {
+    let report = judge(buffer)?;
+    let id = known_id(id)?;
+    if content.is_empty() || content.len() > LONGEST {
+        return Err(refusal(12, 0));
+    }
+    if content.iter().any(|&byte| byte > 15) || !attachment::is_valid_body(id, content) {
+        return Err(refusal(14, 0));
+    }
+    put_nibbles(buffer, &report, id, content)
+}
+
+/// Writes an attachment's nibbles to the output, one a byte, and gives their count.
+pub fn fetch(buffer: &[u8], id: u64, output: &mut [u8]) -> Result<usize, Refusal> {
+    let report = judge(buffer)?;
+    let id = known_id(id)?;
+    let data = standing(&report, u64::from(id))?;
+    lend(&nibbles_of(buffer)[data], output)
+}
+
+pub fn drop_attachment(buffer: &mut [u8], id: u64) -> Result<(), Refusal> {
+    let report = judge(buffer)?;
+    let id = known_id(id)?;
+    let data = standing(&report, u64::from(id))?;
+    let whole = data.start - HEADER..data.end;
+    replace(buffer, &report, whole, &[], report.ac - 1)
+}
+
+pub fn put_text(buffer: &mut [u8], text: &[u8]) -> Result<(), Refusal> {
+    let report = judge(buffer)?;
+    let nibbles = text::write(text);
+    if nibbles.is_empty() || nibbles.len() > LONGEST {
+        return Err(refusal(12, 0));
+    }
+    put_nibbles(buffer, &report, text::ID, &nibbles)
+}
+
+/// Writes the ship text to the output and gives its length.
+pub fn fetch_text(buffer: &[u8], output: &mut [u8]) -> Result<usize, Refusal> {
+    let report = judge(buffer)?;
+    let data = standing(&report, u64::from(text::ID))?;
+    let text = text::read(&nibbles_of(buffer)[data]).expect("an accepted body has a text");
+    lend(&text, output)
+}
+
+fn known_field(number: u64) -> Result<Field, Refusal> {
+    field(number).ok_or(refusal(8, 0))
+}
+
+fn known_flag(number: u64) -> Result<usize, Refusal> {
+    if (1..=FLAGS as u64).contains(&number) {
+        Ok(number as usize)
+    } else {
+        Err(refusal(8, 0))
+    }
+}
+
+fn known_id(id: u64) -> Result<u8, Refusal> {
+    if (1..=u64::from(HIGHEST_ID)).contains(&id) {
+        Ok(id as u8)
+    } else {
+        Err(refusal(8, 0))
+    }
+}
+
+/// The places of an id's data nibbles in the report.
+fn standing(report: &Report, id: u64) -> Result<Range<usize>, Refusal> {
+    let mut place = CARD_NIBBLES;
+    for attachment in &report.sheet.attachments {
+        let end = place + attachment.size();
+        if u64::from(attachment.id) == id {
+            return Ok(place + HEADER..end);
+        }
+        place = end;
+    }
+    Err(refusal(11, 0))
+}
+
+/// Stores a field's code on the card and works CK out again.
+fn store_code(buffer: &mut [u8], field: Field, code: Coded) {
+    let mut bits = bits_of(&buffer[..CARD_BYTES]);
+    store_number(&mut bits[place_on_card(field.number)], code.0);
+    let ck = checksum(&Card::read(&bits).codes);
+    store_number(&mut bits[place_on_card(CK)], ck);
+    buffer[..CARD_BYTES].copy_from_slice(&bytes_of(&bits));
+}
+
+/// Stores a flag in id 1's data and works the quality code out again.
+fn store_flag(buffer: &mut [u8], start: usize, flag: usize, value: u8) {
+    store_nibble(buffer, start + flag - 1, value);
+    let flags = nibbles_of(buffer)[start..start + FLAGS].to_vec();
+    let code = quality_code(&flags);
+    store_nibble(buffer, start + FLAGS, code >> 4);
+    store_nibble(buffer, start + FLAGS + 1, code & 15);
+}
+
+fn store_nibble(buffer: &mut [u8], place: usize, nibble: u8) {
+    let byte = &mut buffer[place / 2];
+    *byte = if place.is_multiple_of(2) {
+        (nibble << 4) | (*byte & 15)
+    } else {
+        (*byte & 0xF0) | nibble
+    };
+}
+
+/// Replaces an id's data, or appends the attachment if the id does not stand.
+fn put_nibbles(buffer: &mut [u8], report: &Report, id: u8, content: &[u8]) -> Result<(), Refusal> {
+    let attachment = attachment::with_header(id, content);
+    match standing(report, u64::from(id)) {
+        Ok(data) => {
+            let whole = data.start - HEADER..data.end;
+            replace(buffer, report, whole, &attachment, report.ac)
+        }
+        Err(_) => {
+            let end = report.nibbles..report.nibbles;
+            replace(buffer, report, end, &attachment, report.ac + 1)
+        }
+    }
+}
+
+/// Replaces some of the report's nibbles and AC, then zeroes up to the old end.
+fn replace(
+    buffer: &mut [u8],
+    report: &Report,
+    places: Range<usize>,
+    by: &[u8],
+    ac: usize,
+) -> Result<(), Refusal> {
+    let mut nibbles = nibbles_of(buffer)[..report.nibbles].to_vec();
+    nibbles.splice(places, by.iter().copied());
+    nibbles[CARD_NIBBLES - 1] = ac as u8;
+    let bytes = bytes_of_nibbles(&nibbles);
+    if bytes.len() > buffer.len() {
+        return Err(refusal(13, 0));
+    }
+    buffer[..bytes.len()].copy_from_slice(&bytes);
+    if bytes.len() < report.bytes {
+        buffer[bytes.len()..report.bytes].fill(0);
+    }
+    Ok(())
+}
+
+/// Writes what a fetch gives to the head of its output.
+fn lend(given: &[u8], output: &mut [u8]) -> Result<usize, Refusal> {
+    if output.len() < given.len() {
+        return Err(refusal(13, 0));
+    }
+    output[..given.len()].copy_from_slice(given);
+    Ok(given.len())
+}

@@ -1,0 +1,19 @@
+//! Packed LMR.5 marine reports, written for comparison: plain data, plain loops.
+
+pub mod attachment;
+pub mod bits;
+pub mod call;
+pub mod card;
+pub mod cases;
+pub mod edit;
+pub mod flags;
+pub mod judge;
+pub mod line;
+pub mod lister;
+pub mod machine;
+pub mod outside;
+pub mod prng;
+pub mod refusal;
+pub mod sheet;
+pub mod table;
+pub mod text;

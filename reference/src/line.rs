@@ -1,0 +1,154 @@
+//! A case and its outcome as one line of text.
+
+use crate::call::{Answer, Call, Given};
+use crate::cases::{Case, Outcome};
+use crate::judge::Report;
+use crate::outside::Unpacked;
+use crate::refusal::Refusal;
+
+/// The line of a case: kind and what is lent, then ` -> ` and what comes of it.
+pub fn line(case: &Case) -> String {
+    format!("{} -> {}", inputs(case), outcome(&case.run()))
+}
+
+fn inputs(case: &Case) -> String {
+    match case {
+        Case::Judge { report } => format!("judge {}", hex(report)),
+        Case::Lister { input } => format!("lister {}", hex(input)),
+        Case::Fresh { required, output } => {
+            let required: Vec<String> = required.iter().map(i64::to_string).collect();
+            format!("fresh {} {}", required.join(" "), hex(output))
+        }
+        Case::Unpack {
+            report,
+            values,
+            tail,
+        } => format!("unpack {} {} {}", hex(report), numbers(values), hex(tail)),
+        Case::Pack {
+            values,
+            word,
+            rptin,
+            tail,
+            output,
+        } => {
+            let values = numbers(values);
+            let (tail, output) = (hex(tail), hex(output));
+            format!("pack {values} {word} {rptin} {tail} {output}")
+        }
+        Case::Calls { buffer, calls } => {
+            let mut parts = vec![format!("calls {}", hex(buffer))];
+            parts.extend(calls.iter().map(call));
+            parts.join(" ; ")
+        }
+    }
+}
+
+fn call(call: &Call) -> String {
+    match call {
+        Call::ReadField { field } => format!("read-field {field}"),
+        Call::SetField { field, value } => format!("set-field {field} {value}"),
+        Call::ClearField { field } => format!("clear-field {field}"),
+        Call::ReadFlag { flag } => format!("read-flag {flag}"),
+        Call::SetFlag { flag, value } => format!("set-flag {flag} {value}"),
+        Call::ClearFlag { flag } => format!("clear-flag {flag}"),
+        Call::Put { id, content } => format!("put {id} {}", hex(content)),
+        Call::Fetch { id, output } => format!("fetch {id} {}", hex(output)),
+        Call::Drop { id } => format!("drop {id}"),
+        Call::PutText { text } => format!("put-text {}", hex(text)),
+        Call::FetchText { output } => format!("fetch-text {}", hex(output)),
+    }
+}
+
+fn outcome(outcome: &Outcome) -> String {
+    match outcome {
+        Outcome::Judge(result) => accepted(result, report),
+        Outcome::Lister(lines) => lines.join(","),
+        Outcome::Fresh { result, output } => {
+            format!("{} {}", accepted(result, |()| "ok".into()), hex(output))
+        }
+        Outcome::Unpack {
+            result,
+            values,
+            tail,
+        } => {
+            let answer = accepted(result, unpacked);
+            format!("{answer} {} {}", numbers(values), hex(tail))
+        }
+        Outcome::Pack { result, output } => {
+            let answer = accepted(result, |bytes| format!("ok {bytes}"));
+            format!("{answer} {}", hex(output))
+        }
+        Outcome::Calls(answers) => {
+            let answers: Vec<String> = answers
+                .iter()
+                .map(|(answer, buffer)| call_answer(answer, buffer))
+                .collect();
+            answers.join(" ; ")
+        }
+    }
+}
+
+fn accepted<T>(result: &Result<T, Refusal>, show: impl Fn(&T) -> String) -> String {
+    match result {
+        Ok(given) => show(given),
+        Err(refusal) => format!("refused {} {}", refusal.number, refusal.place),
+    }
+}
+
+fn report(report: &Report) -> String {
+    let values: Vec<String> = report
+        .sheet
+        .values
+        .iter()
+        .map(|value| value.map_or("missing".into(), |value| value.0.to_string()))
+        .collect();
+    let attachments: Vec<String> = report
+        .sheet
+        .attachments
+        .iter()
+        .map(|attachment| format!("{}:{}", attachment.id, hex(&attachment.nibbles)))
+        .collect();
+    format!(
+        "ok {} {} {} {} {} {}",
+        report.sheet.rptin,
+        report.ck,
+        report.ac,
+        report.bytes,
+        values.join(","),
+        or_dash(attachments.join(","))
+    )
+}
+
+fn unpacked(given: &Unpacked) -> String {
+    format!(
+        "ok {} {} {} {} {} {}",
+        given.word, given.present, given.rptin, given.ac, given.bytes, given.tail
+    )
+}
+
+fn call_answer(answer: &Answer, buffer: &[u8]) -> String {
+    let given = accepted(&answer.result, |given| match given {
+        Given::Nothing => "ok".into(),
+        Given::Value(None) => "ok missing".into(),
+        Given::Value(Some(value)) => format!("ok {value}"),
+        Given::Count(count) => format!("ok {count}"),
+    });
+    match &answer.output {
+        Some(output) => format!("{given} {} {}", hex(buffer), hex(output)),
+        None => format!("{given} {}", hex(buffer)),
+    }
+}
+
+fn hex(bytes: &[u8]) -> String {
+    or_dash(bytes.iter().map(|byte| format!("{byte:02X}")).collect())
+}
+
+fn numbers(values: &[i64]) -> String {
+    let values: Vec<String> = values.iter().map(i64::to_string).collect();
+    or_dash(values.join(","))
+}
+
+/// Nothing is written as a dash.
+fn or_dash(shown: String) -> String {
+    if shown.is_empty() { "-".into() } else { shown }
+}

@@ -1,0 +1,127 @@
+//! The calls outside the list: fresh, unpack and pack.
+
+use crate::attachment::{Attachment, next_attachment};
+use crate::card::{CARD_BYTES, CARD_NIBBLES};
+use crate::judge::judge;
+use crate::refusal::{Refusal, refusal};
+use crate::sheet::Sheet;
+use crate::table::{FIELDS, REQUIRED, Scaled, field, fields};
+
+/// Writes a report of BOX10, YEAR, MONTH, X and Y to the first 38 bytes.
+pub fn fresh(required: [i64; 5], output: &mut [u8]) -> Result<(), Refusal> {
+    for (number, value) in REQUIRED.into_iter().zip(required) {
+        let field = field(number as u64).expect("a required field is a field");
+        if field.coded(Scaled(value)).is_none() {
+            return Err(refusal(9, number));
+        }
+    }
+    if output.len() < CARD_BYTES {
+        return Err(refusal(13, 0));
+    }
+    let sheet = Sheet::fresh(required.map(Scaled));
+    output[..CARD_BYTES].copy_from_slice(&sheet.packing());
+    Ok(())
+}
+
+/// What unpack gives beside the two outputs.
+#[derive(Clone, Copy, Debug, PartialEq, Eq)]
+pub struct Unpacked {
+    /// Bit k says that field k is present.
+    pub word: u64,
+    pub present: usize,
+    pub rptin: u16,
+    pub ac: usize,
+    pub bytes: usize,
+    pub tail: usize,
+}
+
+/// Writes 46 values, 0 where missing, and the tail, one nibble a byte.
+pub fn unpack(buffer: &[u8], values: &mut [i64], tail: &mut [u8]) -> Result<Unpacked, Refusal> {
+    let report = judge(buffer)?;
+    let nibbles = report.sheet.nibbles()[CARD_NIBBLES..].to_vec();
+    if values.len() < FIELDS || tail.len() < nibbles.len() {
+        return Err(refusal(13, 0));
+    }
+    let mut word = 0;
+    let mut present = 0;
+    for (index, value) in report.sheet.values.iter().enumerate() {
+        values[index] = value.map_or(0, |value| value.0);
+        if value.is_some() {
+            word |= 1 << (index + 1);
+            present += 1;
+        }
+    }
+    tail[..nibbles.len()].copy_from_slice(&nibbles);
+    Ok(Unpacked {
+        word,
+        present,
+        rptin: report.sheet.rptin,
+        ac: report.ac,
+        bytes: report.bytes,
+        tail: nibbles.len(),
+    })
+}
+
+/// Writes the report of values, presence word, RPTIN and tail, and gives its length.
+pub fn pack(
+    values: &[i64],
+    word: u64,
+    rptin: u16,
+    tail: &[u8],
+    output: &mut [u8],
+) -> Result<usize, Refusal> {
+    if values.len() < FIELDS {
+        return Err(refusal(13, 0));
+    }
+    if (0..64).any(|bit| has_bit(word, bit) && !(1..=FIELDS).contains(&bit)) {
+        return Err(refusal(8, 0));
+    }
+    let sheet = Sheet {
+        rptin,
+        values: judge_values(values, word)?,
+        attachments: judge_tail(tail)?,
+    };
+    let report = sheet.packing();
+    if output.len() < report.len() {
+        return Err(refusal(13, 0));
+    }
+    output[..report.len()].copy_from_slice(&report);
+    Ok(report.len())
+}
+
+fn has_bit(word: u64, bit: usize) -> bool {
+    (word >> bit) & 1 == 1
+}
+
+/// Refusals 10 and 9 by ascending field.
+fn judge_values(values: &[i64], word: u64) -> Result<[Option<Scaled>; FIELDS], Refusal> {
+    let mut judged = [None; FIELDS];
+    for field in fields() {
+        let value = Scaled(values[field.number - 1]);
+        if !has_bit(word, field.number) {
+            if field.is_required() {
+                return Err(refusal(10, field.number));
+            }
+        } else if field.coded(value).is_none() {
+            return Err(refusal(9, field.number));
+        } else {
+            judged[field.number - 1] = Some(value);
+        }
+    }
+    Ok(judged)
+}
+
+/// Refusal 14 for the bytes, then 1, 5 and 6 for each attachment.
+fn judge_tail(tail: &[u8]) -> Result<Vec<Attachment>, Refusal> {
+    if tail.iter().any(|&byte| byte > 15) {
+        return Err(refusal(14, 0));
+    }
+    let mut attachments = Vec::new();
+    let mut place = 0;
+    while place < tail.len() {
+        let (attachment, next) = next_attachment(tail, place, &attachments)?;
+        attachments.push(attachment);
+        place = next;
+    }
+    Ok(attachments)
+}

@@ -1,0 +1,74 @@
+//! The sheet: what a report says, free of bytes.
+
+use crate::attachment::Attachment;
+use crate::bits::bytes_of_nibbles;
+use crate::card::{CARD_NIBBLES, Card, checksum};
+use crate::table::{Coded, FIELDS, REQUIRED, Scaled, fields};
+
+#[derive(Clone, Debug, PartialEq, Eq)]
+pub struct Sheet {
+    pub rptin: u16,
+    pub values: [Option<Scaled>; FIELDS],
+    pub attachments: Vec<Attachment>,
+}
+
+impl Sheet {
+    /// A sheet of the required fields alone: BOX10, YEAR, MONTH, X and Y.
+    pub fn fresh(required: [Scaled; 5]) -> Sheet {
+        let mut values = [None; FIELDS];
+        for (number, value) in REQUIRED.into_iter().zip(required) {
+            values[number - 1] = Some(value);
+        }
+        Sheet {
+            rptin: 0,
+            values,
+            attachments: Vec::new(),
+        }
+    }
+
+    /// The coded values; every present value is in its range.
+    pub fn codes(&self) -> [Coded; FIELDS] {
+        let mut codes = [Coded(0); FIELDS];
+        for field in fields() {
+            let index = field.number - 1;
+            if let Some(value) = self.values[index] {
+                codes[index] = field.coded(value).expect("a sheet's value is in range");
+            }
+        }
+        codes
+    }
+
+    /// Nibbles of the card and the attachments, without an odd last one.
+    pub fn nibbles(&self) -> Vec<u8> {
+        let codes = self.codes();
+        let card = Card {
+            rptin: self.rptin,
+            codes,
+            ck: checksum(&codes),
+            ac: self.attachments.len(),
+        };
+        let mut nibbles = card.nibbles();
+        for attachment in &self.attachments {
+            nibbles.extend(attachment.with_header());
+        }
+        nibbles
+    }
+
+    pub fn packing(&self) -> Vec<u8> {
+        bytes_of_nibbles(&self.nibbles())
+    }
+
+    /// The packing's length in bytes.
+    pub fn size(&self) -> usize {
+        let tail: usize = self.attachments.iter().map(Attachment::size).sum();
+        (CARD_NIBBLES + tail).div_ceil(2)
+    }
+
+    /// The nibbles of an id, if it stands.
+    pub fn content(&self, id: u64) -> Option<&[u8]> {
+        self.attachments
+            .iter()
+            .find(|attachment| u64::from(attachment.id) == id)
+            .map(|attachment| attachment.nibbles.as_slice())
+    }
+}

@@ -1,0 +1,111 @@
+//! Lists of calls on a buffer against the plain machine.
+
+use std::collections::BTreeMap;
+
+use reference::call::Call;
+use reference::cases::material::random_sheet;
+use reference::cases::random::random_call;
+use reference::cases::{Case, fixed};
+use reference::judge::judge;
+use reference::machine::step;
+use reference::prng::Prng;
+use reference::sheet::Sheet;
+
+/// The buffer that a list leaves: the packing, zeros up to the longest end
+/// reached, and the starting bytes behind that.
+fn expected_buffer(start: &[u8], sheet: &Sheet, longest: usize) -> Vec<u8> {
+    let mut buffer = sheet.packing();
+    buffer.resize(longest, 0);
+    buffer.extend(&start[longest..]);
+    buffer
+}
+
+/// Counts what the calls of a list came to: refusal number, or 0.
+type Met = BTreeMap<(&'static str, u8), usize>;
+
+fn name(call: &Call) -> &'static str {
+    match call {
+        Call::ReadField { .. } => "read field",
+        Call::SetField { .. } => "set field",
+        Call::ClearField { .. } => "clear field",
+        Call::ReadFlag { .. } => "read flag",
+        Call::SetFlag { .. } => "set flag",
+        Call::ClearFlag { .. } => "clear flag",
+        Call::Put { .. } => "put",
+        Call::Fetch { .. } => "fetch",
+        Call::Drop { .. } => "drop",
+        Call::PutText { .. } => "put text",
+        Call::FetchText { .. } => "fetch text",
+    }
+}
+
+/// Runs one list on the buffer and on the machine.
+fn compare(start: &[u8], sheet: Sheet, calls: &[Call], met: &mut Met) {
+    let n = start.len();
+    let mut buffer = start.to_vec();
+    let mut sheet = sheet;
+    let mut longest = sheet.size();
+    for call in calls {
+        let (after, answer) = step(&sheet, n, call);
+        assert_eq!(call.run(&mut buffer), answer, "{call:?}");
+        longest = longest.max(after.size());
+        assert_eq!(buffer, expected_buffer(start, &after, longest), "{call:?}");
+        assert_eq!(judge(&buffer).unwrap().sheet, after);
+        let number = answer.result.err().map_or(0, |refusal| refusal.number);
+        *met.entry((name(call), number)).or_default() += 1;
+        sheet = after;
+    }
+}
+
+#[test]
+fn random_lists_agree_with_the_machine() {
+    let mut prng = Prng::new(20);
+    let mut met = Met::new();
+    for _ in 0..600 {
+        let sheet = random_sheet(&mut prng);
+        let mut start = sheet.packing();
+        let room = prng.pick(&[0, 1, 3, 10, 100, 400, 2000]);
+        start.extend(prng.bytes(room));
+        let mut calls = Vec::new();
+        let mut current = sheet.clone();
+        for _ in 0..30 {
+            let call = random_call(&mut prng, &current, start.len());
+            current = step(&current, start.len(), &call).0;
+            calls.push(call);
+        }
+        compare(&start, sheet, &calls, &mut met);
+    }
+    let reached: Vec<(&str, &[u8])> = vec![
+        ("read field", &[0, 8]),
+        ("set field", &[0, 8, 9]),
+        ("clear field", &[0, 8, 10]),
+        ("read flag", &[0, 8, 11]),
+        ("set flag", &[0, 8, 9, 11]),
+        ("clear flag", &[0, 8, 11]),
+        ("put", &[0, 8, 12, 14, 13]),
+        ("fetch", &[0, 8, 11, 13]),
+        ("drop", &[0, 8, 11]),
+        ("put text", &[0, 12, 13]),
+        ("fetch text", &[0, 11, 13]),
+    ];
+    for (call, numbers) in reached {
+        for &number in numbers {
+            let count = met.remove(&(call, number)).unwrap_or(0);
+            assert!(count >= 10, "{call} came to {number} only {count} times");
+        }
+    }
+    assert!(met.is_empty(), "no call should come to {met:?}");
+}
+
+#[test]
+fn fixed_lists_agree_with_the_machine() {
+    let mut met = Met::new();
+    for case in fixed() {
+        if let Case::Calls { buffer, calls } = case
+            && let Ok(report) = judge(&buffer)
+        {
+            compare(&buffer, report.sheet, &calls, &mut met);
+        }
+    }
+    assert!(met.len() >= 34, "{met:?}");
+}

@@ -1,0 +1,93 @@
+//! Each pair of refusals that an order decides.
+
+use reference::cases::pairs::pairs;
+use reference::cases::{Case, Outcome};
+use reference::refusal::Refusal;
+
+fn refusal_of(case: &Case) -> Option<Refusal> {
+    match case.run() {
+        Outcome::Judge(result) => result.err(),
+        Outcome::Lister(_) => None,
+        Outcome::Fresh { result, .. } => result.err(),
+        Outcome::Unpack { result, .. } => result.err(),
+        Outcome::Pack { result, .. } => result.err(),
+        Outcome::Calls(answers) => answers[0].0.result.err(),
+    }
+}
+
+#[test]
+fn the_first_fault_answers_and_the_second_once_it_is_mended() {
+    for pair in pairs() {
+        assert_eq!(refusal_of(&pair.both), Some(pair.first), "{pair:?}");
+        assert_eq!(refusal_of(&pair.mended), Some(pair.second), "{pair:?}");
+    }
+}
+
+fn has_pair(of: impl Fn(&Case) -> bool, first: u8, second: u8) -> bool {
+    pairs()
+        .iter()
+        .any(|pair| of(&pair.both) && pair.first.number == first && pair.second.number == second)
+}
+
+#[test]
+fn pairs_of_a_reports_checks() {
+    let is_judge = |case: &Case| matches!(case, Case::Judge { .. });
+    for (first, seconds) in [
+        (1, &[2, 3, 4, 5, 6][..]),
+        (2, &[1, 2, 3, 4, 5, 6, 7]),
+        (3, &[1, 2, 3, 4, 5, 6, 7]),
+        (4, &[1, 5, 6, 7]),
+        (5, &[1, 5, 6, 7]),
+        (6, &[1, 5, 6, 7]),
+    ] {
+        for &second in seconds {
+            assert!(has_pair(is_judge, first, second), "{first} {second}");
+        }
+    }
+}
+
+#[test]
+fn pairs_of_the_callers_refusals() {
+    let is_call = |case: &Case| matches!(case, Case::Calls { .. });
+    for report in 1..=7 {
+        for caller in 8..=14 {
+            assert!(has_pair(is_call, report, caller), "{report} {caller}");
+        }
+    }
+    for (first, second) in [
+        (8, 9),
+        (8, 11),
+        (8, 12),
+        (8, 14),
+        (8, 13),
+        (9, 11),
+        (11, 13),
+        (12, 14),
+        (12, 13),
+        (14, 13),
+    ] {
+        assert!(has_pair(is_call, first, second), "{first} {second}");
+    }
+}
+
+#[test]
+fn pairs_of_packs_and_freshs_checks() {
+    let is_pack = |case: &Case| matches!(case, Case::Pack { .. });
+    for (first, seconds) in [
+        (13, &[8, 9, 10, 14, 1, 5, 6][..]),
+        (8, &[9, 10, 14, 1, 5, 6, 13]),
+        (9, &[9, 10, 14, 1, 5, 6, 13]),
+        (10, &[9, 10, 14, 1, 5, 6, 13]),
+        (14, &[1, 5, 6, 13]),
+        (1, &[5, 6, 13]),
+        (5, &[1, 5, 6, 13]),
+        (6, &[1, 5, 6, 13]),
+    ] {
+        for &second in seconds {
+            assert!(has_pair(is_pack, first, second), "{first} {second}");
+        }
+    }
+    let is_fresh = |case: &Case| matches!(case, Case::Fresh { .. });
+    assert!(has_pair(is_fresh, 9, 9));
+    assert!(has_pair(is_fresh, 9, 13));
+}

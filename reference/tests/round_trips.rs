@@ -1,0 +1,127 @@
+//! Random sheets, there and back.
+
+use reference::cases::material::{
+    random_body, random_flags, random_sheet, random_text, tail_of, values_and_word,
+};
+use reference::edit::{fetch, fetch_text, put, put_text};
+use reference::flags::{is_valid, quality_code};
+use reference::judge::judge;
+use reference::outside::{pack, unpack};
+use reference::prng::Prng;
+use reference::text::{read, write};
+
+#[test]
+fn sheets_pack_and_are_read_back() {
+    let mut prng = Prng::new(1);
+    for _ in 0..400 {
+        let sheet = random_sheet(&mut prng);
+        let report = sheet.packing();
+        assert_eq!(report.len(), sheet.size());
+        let judged = judge(&report).unwrap();
+        assert_eq!(judged.sheet, sheet);
+        assert_eq!(judged.bytes, report.len());
+        let sum: u64 = sheet.codes().iter().map(|code| code.0).sum();
+        assert_eq!(judged.ck, sum % 255);
+        assert!(judge(&report[..report.len() - 1]).is_err());
+    }
+}
+
+#[test]
+fn reports_unpack_and_pack_back() {
+    let mut prng = Prng::new(2);
+    for _ in 0..400 {
+        let sheet = random_sheet(&mut prng);
+        let report = sheet.packing();
+        let mut values = [0x5555; 46];
+        let mut tail = vec![0xEE; 4000];
+        let given = unpack(&report, &mut values, &mut tail).unwrap();
+        assert_eq!((values.to_vec(), given.word), values_and_word(&sheet, 0));
+        assert_eq!(given.present, given.word.count_ones() as usize);
+        assert_eq!(tail[..given.tail], tail_of(&sheet));
+        assert!(tail[given.tail..].iter().all(|&byte| byte == 0xEE));
+        assert_eq!(given.ac, sheet.attachments.len());
+        let mut output = vec![0xEE; given.bytes];
+        let packed = pack(
+            &values,
+            given.word,
+            given.rptin,
+            &tail[..given.tail],
+            &mut output,
+        );
+        assert_eq!(packed, Ok(given.bytes));
+        assert_eq!(output, report);
+    }
+}
+
+#[test]
+fn an_accepted_report_is_the_packing_of_its_sheet() {
+    let mut prng = Prng::new(3);
+    let mut accepted = 0;
+    for _ in 0..4000 {
+        let mut report = random_sheet(&mut prng).packing();
+        for _ in 0..1 + prng.below(2) {
+            let index = prng.below(report.len());
+            report[index] ^= 1 << prng.below(8);
+        }
+        if let Ok(judged) = judge(&report) {
+            accepted += 1;
+            assert_eq!(judged.sheet.packing(), report[..judged.bytes]);
+        }
+    }
+    assert!(accepted > 100 && accepted < 3900, "{accepted}");
+}
+
+#[test]
+fn texts_go_in_and_come_out_without_trailing_spaces() {
+    let mut prng = Prng::new(4);
+    for _ in 0..3000 {
+        let pieces = prng.below(30);
+        let text = random_text(&mut prng, pieces);
+        let spaces = text.iter().rev().take_while(|&&byte| byte == b' ').count();
+        let kept = &text[..text.len() - spaces];
+        let nibbles = write(&text);
+        assert_eq!(nibbles.is_empty(), kept.is_empty());
+        assert_eq!(read(&nibbles).as_deref(), Some(kept));
+        if (1..=255).contains(&nibbles.len()) {
+            let mut buffer = random_sheet(&mut prng).packing();
+            buffer.resize(buffer.len() + 150, 0);
+            assert_eq!(put_text(&mut buffer, &text), Ok(()));
+            let mut output = vec![0xEE; kept.len() + 2];
+            assert_eq!(fetch_text(&buffer, &mut output), Ok(kept.len()));
+            assert_eq!(output, [kept, &[0xEE; 2]].concat());
+        }
+    }
+}
+
+#[test]
+fn contents_go_in_and_come_out() {
+    let mut prng = Prng::new(5);
+    for _ in 0..400 {
+        let id = 1 + prng.below(15) as u8;
+        let content = random_body(&mut prng, id);
+        let mut buffer = random_sheet(&mut prng).packing();
+        buffer.resize(buffer.len() + 150, 0xA5);
+        assert_eq!(put(&mut buffer, u64::from(id), &content), Ok(()));
+        let mut output = vec![0xEE; 256];
+        assert_eq!(
+            fetch(&buffer, u64::from(id), &mut output),
+            Ok(content.len())
+        );
+        assert_eq!(output[..content.len()], content);
+        assert!(output[content.len()..].iter().all(|&byte| byte == 0xEE));
+    }
+}
+
+#[test]
+fn only_one_quality_code_is_valid() {
+    let mut prng = Prng::new(6);
+    for _ in 0..200 {
+        let mut body = random_flags(&mut prng);
+        let sound = quality_code(&body[..14]);
+        for code in 0..=255_u8 {
+            body[14] = code / 16;
+            body[15] = code % 16;
+            assert_eq!(is_valid(&body), code == sound);
+        }
+    }
+}

@@ -1,0 +1,140 @@
+//! The two programs.
+
+mod common;
+
+use std::io::Write;
+use std::process::{Command, Stdio};
+
+use common::fresh_buffer;
+use reference::cases::{Case, fixed, random};
+use reference::line::line;
+
+fn vectors(arguments: &[&str]) -> (bool, String) {
+    let output = Command::new(env!("CARGO_BIN_EXE_vectors"))
+        .args(arguments)
+        .output()
+        .unwrap();
+    (
+        output.status.success(),
+        String::from_utf8(output.stdout).unwrap(),
+    )
+}
+
+fn list(input: &[u8]) -> String {
+    let mut child = Command::new(env!("CARGO_BIN_EXE_lister"))
+        .stdin(Stdio::piped())
+        .stdout(Stdio::piped())
+        .spawn()
+        .unwrap();
+    child.stdin.take().unwrap().write_all(input).unwrap();
+    String::from_utf8(child.wait_with_output().unwrap().stdout).unwrap()
+}
+
+#[test]
+fn the_same_seed_prints_the_same_lines() {
+    let (ok, first) = vectors(&["7", "60"]);
+    assert!(ok);
+    assert_eq!(vectors(&["7", "60"]).1, first);
+    assert_eq!(first.lines().count(), fixed().len() + 60);
+    let (_, second) = vectors(&["8", "60"]);
+    let (first, second): (Vec<&str>, Vec<&str>) =
+        (first.lines().collect(), second.lines().collect());
+    let fixed = fixed().len();
+    assert_eq!(first[..fixed], second[..fixed]);
+    assert_ne!(first[fixed..], second[fixed..]);
+}
+
+#[test]
+fn wrong_arguments_print_nothing() {
+    for arguments in [&[][..], &["1"], &["x", "1"], &["1", "-1"], &["1", "2", "3"]] {
+        assert_eq!(vectors(arguments), (false, String::new()));
+    }
+}
+
+#[test]
+fn lines_by_hand() {
+    let zeros = "00".repeat(27);
+    let report = format!("00000059440000170A{zeros}F000");
+    let case = Case::Fresh {
+        required: [1, 1900, 1, 0, 0],
+        output: vec![0xA5; 39],
+    };
+    let lent = "A5".repeat(39);
+    assert_eq!(
+        line(&case),
+        format!("fresh 1 1900 1 0 0 {lent} -> ok {report}A5")
+    );
+    let case = Case::Lister {
+        input: fresh_buffer(38),
+    };
+    assert_eq!(
+        line(&case),
+        format!("lister {report} -> 1 1,2 1900,3 1,6 0,7 0,C 240,A 0")
+    );
+    let case = Case::Judge { report: Vec::new() };
+    assert_eq!(line(&case), "judge - -> refused 1 0");
+}
+
+#[test]
+fn lists_by_hand() {
+    use reference::call::Call;
+    let case = Case::Calls {
+        buffer: fresh_buffer(38),
+        calls: vec![
+            Call::ReadField { field: 2 },
+            Call::ReadField { field: 4 },
+            Call::FetchText { output: vec![1, 2] },
+            Call::Put {
+                id: 5,
+                content: vec![1],
+            },
+        ],
+    };
+    let zeros = "00".repeat(27);
+    let report = format!("00000059440000170A{zeros}F000");
+    let calls = "read-field 2 ; read-field 4 ; fetch-text 0102 ; put 5 01";
+    let answers = format!(
+        "ok 1900 {report} ; ok missing {report} ; refused 11 0 {report} 0102 ; refused 13 0 {report}"
+    );
+    assert_eq!(
+        line(&case),
+        format!("calls {report} ; {calls} -> {answers}")
+    );
+}
+
+#[test]
+fn vectors_meet_every_refusal_and_accept() {
+    let lines: Vec<String> = fixed()
+        .iter()
+        .chain(&random::cases(3, 400).collect::<Vec<_>>())
+        .map(line)
+        .collect();
+    for number in 1..=14 {
+        let refused = format!(" refused {number} ");
+        assert!(lines.iter().any(|line| line.contains(&refused)), "{number}");
+    }
+    for kind in ["judge ", "lister ", "fresh ", "unpack ", "pack ", "calls "] {
+        let of_kind = lines.iter().filter(|line| line.starts_with(kind));
+        let accepted = of_kind
+            .clone()
+            .filter(|line| line.contains(" -> ok"))
+            .count();
+        let listed = of_kind.clone().filter(|line| line.contains(",C ")).count();
+        assert!(accepted + listed > 10, "{kind}");
+        assert!(accepted + listed < of_kind.count(), "{kind}");
+    }
+}
+
+#[test]
+fn lister_program() {
+    assert_eq!(
+        list(&fresh_buffer(50)),
+        "1 1\n2 1900\n3 1\n6 0\n7 0\nC 240\nA 0\n"
+    );
+    assert_eq!(list(&[]), "R 1 0\n");
+    let beyond = reference::cases::reports::beyond_the_lister(255);
+    assert_eq!(list(&beyond), "R 1 15\n");
+    let mut wrong = fresh_buffer(38);
+    common::set_ck(&mut wrong, 0);
+    assert_eq!(list(&wrong), "R 4 0\n");
+}
