@@ -11,5 +11,6 @@ pub mod Characters
 pub mod ShipText
 pub mod Report
 pub mod List
+pub mod Laid
 pub mod Presence
 pub mod Whole

@@ -1,0 +1,148 @@
+-- What a buffer must hold to be the layout of a sheet: the card's numbers, and the nibbles behind the card.
+-- Assumes nothing.
+use Prim.Native.Nat.{ℕ, zero, suc, _+_, _-_, _*_, _/_, _%_, _≤_, _<_, max}
+use native.Mathlib.Omega.{arith}
+use mathlib.Core.Path.{_≡_, refl, sym, ap, ap₂, _∙_}
+use mathlib.Core.Bool.{Bool, true, false, cond}
+use mathlib.Core.List.{List, [], _∷_, _++_, append-assoc}
+use mathlib.Core.Option.{Option}
+use lib.ListN.{length, getD, take, drop, set, replicate, length-append, length-set, replicate-append-replicate}
+use lib.Seq.{drop-at, set-at, set-append-left}
+use lib.Dec.{eqb}
+use borrow.Author.Tests.{eqb-true, eqb-false}
+use Rattle.format.specs.Field.{table, fieldAt, codes, codeOf}
+use Rattle.format.specs.Bits.{readFields, writeFields, total}
+use Rattle.format.specs.Nibbles.{Attachment, nibbles, padded, odd, tailNibbles}
+use Rattle.format.specs.Sheet.{Sheet, widths, checksum, cardNumbers, cardNibbles, packing, size}
+use Rattle.format.specs.Report.{numbersOf, tailOf, Verdict, judge}
+use Rattle.format.specs.Machine.{withValue, withAttachments}
+use Rattle.format.specs.Buffer.{zeros, layout}
+use Rattle.format.specs.declared.Scaled.{Scaled}
+use Rattle.laws.proofs.Bits.{Bytes, append-below}
+use Rattle.laws.proofs.Nibbles.{Nibbles, nibbles-append, nibbles-drop, nibbles-inj, nibbles-packed}
+use Rattle.laws.proofs.Card.{card-length, card-lt, card-front}
+use Rattle.laws.proofs.Fields.{noField, table-length, length-codes, codes-set}
+use Rattle.laws.proofs.Attachments.{fine-nibbles}
+use Rattle.laws.proofs.Report.{Good, size-is, size-range, Taken, judged}
+use Rattle.laws.proofs.List.{layout-same}
+
+-- ---- nibbles of a layout
+
+nibbles-zeros : (n : ℕ) → nibbles (zeros n) ≡ zeros (2 * n)
+unfolding nibbles
+nibbles-zeros zero = refl
+nibbles-zeros (suc n) = let e : 2 * suc n ≡ suc (suc (2 * n)) = omega arith in rw (e, nibbles-zeros n)
+
+pad-zeros : (n : ℕ) → cond (odd n) (0 ∷ []) [] ≡ zeros (n % 2)
+pad-zeros n = go (odd n) refl
+  where
+    go : (t : Bool) → odd n ≡ t → cond t (0 ∷ []) [] ≡ zeros (n % 2)
+    go true e = rw (eqb-true (n % 2) 1 e)
+    go false e = let h = eqb-false (n % 2) 1 e in let z : n % 2 ≡ 0 = omega arith in rw z
+
+-- the zeros behind a tail of a layout: what pads it, and those up to the end e
+gap : (n s e : ℕ) → s ≡ (n + 1) / 2 → n % 2 + 2 * (e - s) ≡ 2 * max e s - n
+gap n s e h = omega arith
+
+module _ (b : List ℕ) (e : ℕ) (s : Sheet) (lt : Nibbles (tailNibbles (s .attachments))) where
+  behind-is : cond (odd (75 + length (tailNibbles (s .attachments)))) (0 ∷ []) [] ++ nibbles (zeros (e - size s) ++ drop (max e (size s)) b)
+      ≡ zeros (2 * max e (size s) - (75 + length (tailNibbles (s .attachments)))) ++ drop (2 * max e (size s)) (nibbles b)
+  behind-is =
+      let n : ℕ = 75 + length (tailNibbles (s .attachments)) in
+      let z : zeros (n % 2) ++ zeros (2 * (e - size s)) ≡ zeros (2 * max e (size s) - n) =
+      replicate-append-replicate (n % 2) (2 * (e - size s)) 0 ∙ ap zeros (gap n (size s) e (size-is s)) in
+      ap₂ (λ (x y : List ℕ). x ++ y) (pad-zeros n)
+      (nibbles-append (zeros (e - size s)) (drop (max e (size s)) b) ∙ ap₂ (λ (x y : List ℕ). x ++ y) (nibbles-zeros (e - size s)) (nibbles-drop (max e (size s)) b))
+      ∙ sym (append-assoc (zeros (n % 2)) (zeros (2 * (e - size s))) (drop (2 * max e (size s)) (nibbles b)))
+      ∙ ap (λ (x : List ℕ). x ++ drop (2 * max e (size s)) (nibbles b)) z
+
+  pub nibbles-layout : nibbles (layout b e s)
+      ≡ cardNibbles s ++ (tailNibbles (s .attachments) ++ (zeros (2 * max e (size s) - (75 + length (tailNibbles (s .attachments)))) ++ drop (2 * max e (size s)) (nibbles b)))
+  unfolding layout packing cardNibbles
+  nibbles-layout =
+      let ns = tailNibbles (s .attachments) in
+      let x = zeros (e - size s) ++ drop (max e (size s)) b in
+      let l : length (cardNibbles s ++ tailNibbles (s .attachments)) ≡ 75 + length (tailNibbles (s .attachments)) =
+      length-append (cardNibbles s) (tailNibbles (s .attachments)) ∙ ap (λ (n : ℕ). n + length (tailNibbles (s .attachments))) (card-length (cardNumbers s)) in
+      nibbles-packed (cardNibbles s ++ tailNibbles (s .attachments)) (zeros (e - size s) ++ drop (max e (size s)) b)
+      (append-below 16 (cardNibbles s) (tailNibbles (s .attachments)) (card-lt (cardNumbers s)) lt)
+      ∙ append-assoc (cardNibbles s) (tailNibbles (s .attachments)) _
+      ∙ ap (λ (y : List ℕ). cardNibbles s ++ (tailNibbles (s .attachments) ++ y))
+      (ap (λ (n : ℕ). cond (odd n) (0 ∷ []) [] ++ nibbles (zeros (e - size s) ++ drop (max e (size s)) b)) l ∙ behind-is)
+
+  -- what a buffer must hold to be the layout
+  pub layout-is : (c : List ℕ) → Bytes c → 38 ≤ length c → numbersOf c ≡ cardNumbers s
+      → tailOf c ≡ tailNibbles (s .attachments) ++ (zeros (2 * max e (size s) - (75 + length (tailNibbles (s .attachments)))) ++ drop (2 * max e (size s)) (nibbles b))
+      → c ≡ layout b e s
+  unfolding cardNibbles
+  layout-is c bs long card behind =
+      nibbles-inj c (layout b e s)
+      (card-front c bs long
+      ∙ ap₂ (λ (vs ns : List ℕ). readFields (replicate 75 4) (writeFields widths vs) ++ ns) card behind
+      ∙ sym nibbles-layout)
+
+  -- and what a layout holds behind its card
+  pub tail-laid : tailOf (layout b e s)
+      ≡ tailNibbles (s .attachments) ++ (zeros (2 * max e (size s) - (75 + length (tailNibbles (s .attachments)))) ++ drop (2 * max e (size s)) (nibbles b))
+  unfolding cardNibbles
+  tail-laid = ap (drop 75) nibbles-layout ∙ drop-at (cardNibbles s) _ 75 (card-length (cardNumbers s))
+
+-- an accepted report, behind its card
+pub tail-taken : (b : List ℕ) (s : Sheet) → Bytes b → judge b ≡ Verdict.accepted s
+    → tailOf b ≡ tailNibbles (s .attachments) ++ (zeros (2 * size s - (75 + length (tailNibbles (s .attachments)))) ++ drop (2 * size s) (nibbles b))
+tail-taken b s bs j =
+    let m : max (size s) (size s) ≡ size s = omega arith in
+    ap tailOf (layout-same b s bs j)
+    ∙ rw m at (tail-laid b (size s) s (fine-nibbles (judged b s bs j .good .fine)))
+
+-- ---- fields
+
+-- another card before the same attachments
+pub field-laid : (b c : List ℕ) (s t : Sheet) → Bytes b → judge b ≡ Verdict.accepted s → t .attachments ≡ s .attachments
+    → Bytes c → length c ≡ length b → numbersOf c ≡ cardNumbers t → tailOf c ≡ tailOf b → c ≡ layout b (size s) t
+field-laid b c s t bs j same bc long card behind =
+    let k = judged b s bs j in
+    let sizes : size t ≡ size s = size-is t ∙ ap (λ (l : List Attachment). (75 + length (tailNibbles l) + 1) / 2) same ∙ sym (size-is s) in
+    let m : max (size s) (size t) ≡ size s = omega arith in
+    let fits : 38 ≤ length c = omega (arith, size-range s (k .good), length-append (packing s) (drop (size s) b), ap length (k .starts)) in
+    layout-is b (size s) t (rw same (fine-nibbles (k .good .fine))) c bc fits card
+    (rw (m, same) (behind ∙ tail-taken b s bs j))
+
+-- the numbers of a card with another entry at field k: its code, and the checksum of the codes so changed
+pub value-numbers : (s : Sheet) (k : ℕ) (e : Option Scaled) → length (s .values) ≡ 46 → 1 ≤ k → k ≤ 46
+    → cardNumbers (withValue s k e)
+    ≡ set (set (cardNumbers s) k (codeOf (fieldAt k) e .0)) 47 (checksum (set (codes table (s .values)) (k - 1) (codeOf (fieldAt k) e .0)))
+unfolding cardNumbers fieldAt
+value-numbers s zero e l h m = absurd (omega arith)
+value-numbers s (suc k) e l h m =
+    let cs = codes table (s .values) in
+    let c = codeOf (getD table k noField) e .0 in
+    let n = length (s .attachments) in
+    let i : suc k - 1 ≡ k = omega arith in
+    let long : length (codes table (s .values)) ≡ 46 = length-codes table (s .values) (l ∙ sym table-length) ∙ table-length in
+    let left = set-append-left (codes table (s .values)) (checksum cs ∷ n ∷ []) k c (omega arith) in
+    let sum = checksum (set (codes table (s .values)) k c) in
+    let end = set-at (set (codes table (s .values)) k c) (checksum cs) (n ∷ []) sum 46 (length-set (codes table (s .values)) k c ∙ long) in
+    rw i
+    (ap (λ (x : List ℕ). s .rptin ∷ x)
+    (ap (λ (x : List ℕ). x ++ (checksum x ∷ n ∷ [])) (codes-set table (s .values) k e) ∙ sym (ap (λ (x : List ℕ). set x 46 sum) left ∙ end)))
+
+-- the sum of a list with another element
+pub total-set : (cs : List ℕ) (i c : ℕ) → i < length cs → total (set cs i c) + getD cs i 0 ≡ total cs + c
+unfolding total
+total-set [] i c h = absurd (omega arith)
+total-set (x ∷ cs) zero c h = omega arith
+total-set (x ∷ cs) (suc i) c h = omega (arith, total-set cs i c (omega arith))
+
+-- the numbers of a card with other attachments: their count
+pub attachment-numbers : (s : Sheet) (list : List Attachment) → length (s .values) ≡ 46 → cardNumbers (withAttachments s list) ≡ set (cardNumbers s) 48 (length list)
+unfolding cardNumbers
+attachment-numbers s list l =
+    let cs = codes table (s .values) in
+    let ck = checksum (codes table (s .values)) in
+    let long : length (codes table (s .values)) ≡ 46 = length-codes table (s .values) (l ∙ sym table-length) ∙ table-length in
+    let front : length (codes table (s .values) ++ (ck ∷ [])) ≡ 47 = omega (arith, length-append (codes table (s .values)) (ck ∷ [])) in
+    ap (λ (x : List ℕ). s .rptin ∷ x)
+    (sym (append-assoc cs (ck ∷ []) (length list ∷ []))
+    ∙ sym (set-at (cs ++ (ck ∷ [])) (length (s .attachments)) [] (length list) 47 front)
+    ∙ ap (λ (x : List ℕ). set x 47 (length list)) (append-assoc cs (ck ∷ []) (length (s .attachments) ∷ [])))
