@@ -12,5 +12,6 @@ pub mod ShipText
 pub mod Report
 pub mod List
 pub mod Laid
+pub mod Effects
 pub mod Presence
 pub mod Whole

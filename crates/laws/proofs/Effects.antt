@@ -1,0 +1,71 @@
+-- What each return of each call leaves is its effect. The proofs of the calls cite these, one at each return.
+-- Assumes nothing.
+use Prim.Native.Nat.{ℕ, zero, suc, _+_, _-_, _*_, _/_, _≤_, _<_, max}
+use native.Mathlib.Omega.{arith}
+use mathlib.Core.Path.{_≡_, refl, sym, ap, ap₂, _∙_}
+use mathlib.Core.Bool.{Bool, true, false, not, _&&_, _||_}
+use mathlib.Core.List.{List, [], _∷_, _++_}
+use mathlib.Core.Option.{Option, none, some}
+use lib.ListN.{length, drop, length-append}
+use lib.Dec.{ltb}
+use borrow.Author.Tests.{le-ltb}
+use Rattle.format.specs.Order.{Refusal, Check, first}
+use Rattle.format.specs.Sheet.{Sheet, packing, size}
+use Rattle.format.specs.Report.{Verdict, judge}
+use Rattle.format.specs.Machine.{Call, next, gives, lent, writes, roomCheck, callChecks, checks, Answer, Stepped, steppedBy, step, over}
+use Rattle.format.specs.Buffer.{layout, After, after, effectOn, effect}
+use Rattle.laws.proofs.Order.{first-fits, first-append-skip, no-check, no-checks, first-nil}
+use Rattle.laws.proofs.Bits.{Bytes}
+use Rattle.laws.proofs.Report.{Taken, judged}
+use Rattle.laws.proofs.List.{layout-same}
+
+-- on a refused report
+pub effect-refused : (b : List ℕ) (r : Refusal) (c : Call) → judge b ≡ Verdict.refused r → after (Answer.refused r) b (lent c) ≡ effect b c
+unfolding effect
+effect-refused b r c j = rw j
+
+-- on an accepted one
+module _ (b : List ℕ) (s : Sheet) (c : Call) (bs : Bytes b) (j : judge b ≡ Verdict.accepted s) where
+  effect-step : (t : Stepped) → step (length b) s c ≡ t → effect b c ≡ after (t .answer) (layout b (size s) (t .sheet)) (t .out)
+  unfolding effect
+  effect-step t e = rw (j, e)
+
+  step-by : (o : Option Refusal) → first (checks (length b) s c) ≡ o → step (length b) s c ≡ steppedBy o s c
+  unfolding step
+  step-by o e = ap (λ (x : Option Refusal). steppedBy x s c) e
+
+  -- the check ch fits, and none of those before it
+  pub effect-refuses : (before : List Check) (ch : Check) (behind : List Check) → checks (length b) s c ≡ before ++ (ch ∷ behind)
+      → first before ≡ none → ch .fits ≡ true → after (Answer.refused (ch .refusal)) b (lent c) ≡ effect b c
+  effect-refuses before ch behind split passed fits =
+      let f : first (checks (length b) s c) ≡ some (ch .refusal) =
+      ap first split ∙ first-append-skip before (ch ∷ behind) passed ∙ first-fits ch behind fits in
+      sym (effect-step (steppedBy (some (ch .refusal)) s c) (step-by (some (ch .refusal)) f)
+      ∙ ap (λ (x : List ℕ). after (Answer.refused (ch .refusal)) x (lent c)) (sym (layout-same b s bs j)))
+
+  within : size s ≤ length b
+  within = let k = judged b s bs j in omega (arith, length-append (packing s) (drop (size s) b), ap length (k .starts))
+
+  none-fits : first (callChecks s c) ≡ none → roomCheck (length b) s c .fits ≡ false → first (checks (length b) s c) ≡ none
+  unfolding checks
+  none-fits passed room = no-checks (callChecks s c) (roomCheck (length b) s c ∷ []) passed (no-check (roomCheck (length b) s c) [] room first-nil)
+
+  -- no check fits: 13 last
+  pub effect-done : (d o : List ℕ) → first (callChecks s c) ≡ none → size (next s c) ≤ length b → length (writes s c) ≤ length (lent c)
+      → d ≡ layout b (size s) (next s c) → o ≡ over (writes s c) (lent c) → after (Answer.accepted (gives s c)) d o ≡ effect b c
+  effect-done d o passed room out laid wrote =
+      let r : roomCheck (length b) s c .fits ≡ false = rw (le-ltb (length b) (size (next s c)) room, le-ltb (length (lent c)) (length (writes s c)) out) in
+      let f = none-fits passed r in
+      sym (effect-step (steppedBy none s c) (step-by none f) ∙ ap₂ (λ (x y : List ℕ). after (Answer.accepted (gives s c)) x y) (sym laid) (sym wrote))
+
+  -- a step that leaves the sheet leaves the buffer
+  pub effect-same : (o : List ℕ) → next s c ≡ s → first (callChecks s c) ≡ none → length (writes s c) ≤ length (lent c)
+      → o ≡ over (writes s c) (lent c) → after (Answer.accepted (gives s c)) b o ≡ effect b c
+  effect-same o same passed out wrote =
+      effect-done b o passed (rw same within) out (layout-same b s bs j ∙ ap (layout b (size s)) (sym same)) wrote
+
+  -- every check before 13 passes, and the room is too small
+  pub effect-room : first (callChecks s c) ≡ none → roomCheck (length b) s c .fits ≡ true
+      → after (Answer.refused (record { number = 13; place = 0 })) b (lent c) ≡ effect b c
+  unfolding checks
+  effect-room passed small = effect-refuses (callChecks s c) (roomCheck (length b) s c) [] refl passed small
