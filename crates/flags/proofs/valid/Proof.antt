@@ -1,0 +1,73 @@
+-- `flags::valid` meets its contract.
+-- Assumes nothing.
+use mathlib.Core.Path.{sym, ap, _∙_}
+use native.Mathlib.Omega.{arith}
+use denote.Ref.{now}
+use Rattle.format.specs.Flags.{flagsFit, qualityCode}
+use Rattle.nibble.specs.View.{part}
+use Rattle.nibble.proofs.View.{part-length, part-at, part-take}
+use Rattle.flags.proofs.Body.{not-sixteen, unfit, coded}
+use borrow.Author.Needs.{needs}
+use Rattle.flags.proofs.valid.Statement.{statement}
+use Rattle.flags.proofs.valid.Tie as tie
+
+returns : tie.Need-returns
+returns c = not-sixteen (part (now (c .before .before .args .s)) (c .before .before .args .c) (c .before .before .args .len)) (c .before .before .args .len) (part-length (now (c .before .before .args .s)) (c .before .before .args .c) (c .before .before .args .len) (c .before .before .pre .0)) (c .if1 .taken)
+
+fit-requires : tie.Need-fit-requires
+fit-requires c κs = search needs
+
+add-nibble-at : tie.Need-add-nibble-at
+add-nibble-at c = search needs
+
+nibble-at-requires : tie.Need-nibble-at-requires
+nibble-at-requires c κs = search needs
+
+wide-requires : tie.Need-wide-requires
+wide-requires c κs = search needs
+
+add-nibble-at-2 : tie.Need-add-nibble-at-2
+add-nibble-at-2 c = search needs
+
+nibble-at-requires-2 : tie.Need-nibble-at-requires-2
+nibble-at-requires-2 c κs = search needs
+
+wide-requires-2 : tie.Need-wide-requires-2
+wide-requires-2 c κs = search needs
+
+mul-result : tie.Need-mul-result
+mul-result c = search needs
+
+add-result : tie.Need-add-result
+add-result c = search needs
+
+quality-requires : tie.Need-quality-requires
+quality-requires c κs = search needs
+
+wide-requires-3 : tie.Need-wide-requires-3
+wide-requires-3 c κs = search needs
+
+returns-2 : tie.Need-returns-2
+returns-2 c = coded (part (now (c .before .before .before .before .before .before .before .before .before .before .args .s)) (c .before .before .before .before .before .before .before .before .before .before .args .c) (c .before .before .before .before .before .before .before .before .before .before .args .len)) (c .before .before .before .before .before .before .before .before .before .before .args .len) (part-length (now (c .before .before .before .before .before .before .before .before .before .before .args .s)) (c .before .before .before .before .before .before .before .before .before .before .args .c) (c .before .before .before .before .before .before .before .before .before .before .args .len) (c .before .before .before .before .before .before .before .before .before .before .pre .0)) (c .before .before .before .before .before .before .before .before .if1 .left) _ _ _ (ap (flagsFit 1) (part-take (now (c .before .before .before .before .before .before .before .before .before .before .args .s)) (c .before .before .before .before .before .before .before .before .before .before .args .c) 14 (c .before .before .before .before .before .before .before .before .before .before .args .len) (omega arith)) ∙ sym (c .before .before .before .before .before .before .before .fit .ensures) ∙ c .before .before .before .before .before .before .if2 .taken) (c .before .before .before .before .wide .ensures .0 ∙ c .before .before .before .before .before .nibble-at .ensures ∙ sym (part-at (now (c .before .before .before .before .before .before .before .before .before .before .args .s)) (c .before .before .before .before .before .before .before .before .before .before .args .c) (c .before .before .before .before .before .before .before .before .before .before .args .len) 14 (omega arith))) (c .before .before .wide2 .ensures .0 ∙ c .before .before .before .nibble-at2 .ensures ∙ sym (part-at (now (c .before .before .before .before .before .before .before .before .before .before .args .s)) (c .before .before .before .before .before .before .before .before .before .before .args .c) (c .before .before .before .before .before .before .before .before .before .before .args .len) 15 (omega arith))) (c .wide3 .ensures .0 ∙ c .before .quality .ensures ∙ ap qualityCode (sym (part-take (now (c .before .before .before .before .before .before .before .before .before .before .args .s)) (c .before .before .before .before .before .before .before .before .before .before .args .c) 14 (c .before .before .before .before .before .before .before .before .before .before .args .len) (omega arith))))
+
+returns-3 : tie.Need-returns-3
+returns-3 c = unfit (part (now (c .before .before .before .before .args .s)) (c .before .before .before .before .args .c) (c .before .before .before .before .args .len)) (c .before .before .before .before .args .len) (part-length (now (c .before .before .before .before .args .s)) (c .before .before .before .before .args .c) (c .before .before .before .before .args .len) (c .before .before .before .before .pre .0)) (c .before .before .if1 .left) (ap (flagsFit 1) (part-take (now (c .before .before .before .before .args .s)) (c .before .before .before .before .args .c) 14 (c .before .before .before .before .args .len) (omega arith)) ∙ sym (c .before .fit .ensures) ∙ c .if2 .left)
+
+pub valid-spec : {M : Type 1} → statement M
+valid-spec =
+    tie.close
+    (tie.spec
+    returns
+    fit-requires
+    add-nibble-at
+    nibble-at-requires
+    wide-requires
+    add-nibble-at-2
+    nibble-at-requires-2
+    wide-requires-2
+    mul-result
+    add-result
+    quality-requires
+    wide-requires-3
+    returns-2
+    returns-3)

@@ -1,0 +1,86 @@
+-- Laws of a buffer's nibbles, from a cursor on and n of them.
+-- Assumes nothing.
+use Prim.Native.Nat.{ℕ, zero, suc, _+_, _-_, _*_, _/_, _≤_, _<_}
+use native.Mathlib.Nat.{add-zero}
+use native.Mathlib.Numerals.{add-one}
+use native.Mathlib.Omega.{arith}
+use mathlib.Core.Path.{_≡_, sym, ap, ap₂, _∙_}
+use mathlib.Core.Bool.{true}
+use mathlib.Core.List.{List, [], _∷_}
+use lib.ListN.{length, getD, take, drop, length-drop}
+use lib.Seq.{length-take-le, getD-take, getD-drop, take-take, drop-drop, drop-cons, take-nil}
+use lib.Dec.{ltb}
+use borrow.Author.Tests.{le-leb, lt-ltb, le-ltb, ltb-true, ltb-false}
+use Rattle.laws.proofs.Bits.{Bytes, take-below, drop-below}
+use Rattle.laws.proofs.Lists.{test-case}
+use Rattle.laws.proofs.Nibbles.{Nibbles, length-nibbles, nibbles-lt}
+use Rattle.nibble.specs.View.{view, from, part, moved, stepAt, headerAt}
+use Rattle.nibble.specs.declared.Cursor.{Cursor}
+use Rattle.nibble.specs.declared.Step.the-variants.{Nibble}
+use Rattle.nibble.specs.declared.Header.the-variants.{Head}
+
+-- a packed buffer has two nibbles a byte, each below 16
+pub packed-length : (b : List ℕ) → length (view true b) ≡ 2 * length b
+packed-length b = length-nibbles b
+
+pub packed-nibbles : (b : List ℕ) → Bytes b → Nibbles (view true b)
+packed-nibbles b h = nibbles-lt b h
+
+-- a place is inside a packed buffer where its byte is
+pub packed-inside : (b : List ℕ) (at : ℕ) → ltb (at / 2) (length b) ≡ ltb at (length (view true b))
+packed-inside b at =
+    test-case (ltb (at / 2) (length b))
+    (λ t. t ∙ sym (lt-ltb at (length (view true b)) (omega (arith, ltb-true (at / 2) (length b) t, packed-length b))))
+    (λ t. t ∙ sym (le-ltb at (length (view true b)) (omega (arith, ltb-false (at / 2) (length b) t, packed-length b))))
+
+module _ (b : List ℕ) (c : Cursor) where
+  pub from-length : length (from b c) ≡ length (view (c .packed) b) - c .at
+  from-length = length-drop (c .at) (view (c .packed) b)
+
+  pub from-at : (i : ℕ) → getD (from b c) i 0 ≡ getD (view (c .packed) b) (c .at + i) 0
+  from-at i = getD-drop (c .at) (view (c .packed) b) i 0
+
+  pub from-moved : (n : ℕ) → drop n (from b c) ≡ from b (moved c n)
+  from-moved n = drop-drop n (c .at) (view (c .packed) b)
+
+  pub part-length : (n : ℕ) → c .at + n ≤ length (view (c .packed) b) → length (part b c n) ≡ n
+  part-length n h = length-take-le n (from b c) (omega (arith, from-length))
+
+  pub part-at : (n i : ℕ) → i < n → getD (part b c n) i 0 ≡ getD (view (c .packed) b) (c .at + i) 0
+  part-at n i h = getD-take n (from b c) i 0 h ∙ from-at i
+
+  pub part-take : (m n : ℕ) → m ≤ n → take m (part b c n) ≡ part b c m
+  part-take m n h = take-take m n (from b c) h
+
+  -- the nibble at the cursor, and those behind it
+  pub part-cons : (n : ℕ) → c .at < length (view (c .packed) b) → part b c (suc n) ≡ getD (view (c .packed) b) (c .at) 0 ∷ part b (moved c 1) n
+  part-cons n h = ap (λ (l : List ℕ). take (suc n) l) (drop-cons (view (c .packed) b) (c .at) 0 h) ∙ rw (add-one (c .at))
+
+  pub from-nibbles : Nibbles (view (c .packed) b) → Nibbles (from b c)
+  from-nibbles h = drop-below 16 (c .at) (view (c .packed) b) h
+
+  pub part-nibbles : (n : ℕ) → Nibbles (view (c .packed) b) → Nibbles (part b c n)
+  part-nibbles n h = take-below 16 n (from b c) (from-nibbles h)
+
+drop-take : (m n : ℕ) (l : List ℕ) → drop m (take n l) ≡ take (n - m) (drop m l)
+drop-take zero n l = let e : n ≡ n - 0 = omega arith in ap (λ (k : ℕ). take k l) e
+drop-take (suc m) zero l = let e : 0 ≡ 0 - suc m = omega arith in ap (λ (k : ℕ). take k (drop (suc m) l)) e
+drop-take (suc m) (suc n) [] = sym (take-nil (suc n - suc m))
+drop-take (suc m) (suc n) (x ∷ l) = let e : n - m ≡ suc n - suc m = omega arith in drop-take m n l ∙ ap (λ (k : ℕ). take k (drop m l)) e
+
+-- what reading at a cursor answers
+module _ (b : List ℕ) (c k : Cursor) where
+  pub step-is : (v : ℕ) → c .at < length (view (c .packed) b) → v ≡ getD (view (c .packed) b) (c .at) 0 → k ≡ moved c 1 → Nibble v k ≡ stepAt b c
+  step-is v h e f = ap₂ Nibble e f ∙ simp (lt-ltb _ _ h)
+
+  pub header-is : (x y i : ℕ) → c .at + 2 < length (view (c .packed) b) → x ≡ getD (view (c .packed) b) (c .at) 0 → y ≡ getD (view (c .packed) b) (c .at + 1) 0
+      → i ≡ getD (view (c .packed) b) (c .at + 2) 0
+      → k ≡ moved c 3
+      → Head (x * 16 + y) i k ≡ headerAt b c
+  header-is x y i h ex ey ei ek =
+      let g : c .at + 3 ≤ length (view (c .packed) b) = omega arith in
+      rw (le-leb _ _ g, ex, ey, ei, ek, from-at b c 0, from-at b c 1, from-at b c 2, add-zero (c .at))
+
+-- k nibbles from place m on of n nibbles
+pub part-part : (b : List ℕ) (c : Cursor) (m k n : ℕ) → m + k ≤ n → take k (drop m (part b c n)) ≡ part b (moved c m) k
+part-part b c m k n h = ap (λ (l : List ℕ). take k l) (drop-take m n (from b c)) ∙ take-take k (n - m) (drop m (from b c)) (omega arith) ∙ ap (λ (l : List ℕ). take k l) (from-moved b c m)

@@ -1,0 +1,97 @@
+// Nibbles of a buffer, high half of a byte first, read by a cursor.
+ghost use mathlib.Core.Path.{_≡_};
+ghost use Prim.Native.Nat.{_+_, _≤_, _<_, _^_};
+ghost use lib.Dec.{ltb};
+ghost use lib.ListN.{length, getD};
+ghost use Rattle.nibble.specs.View.{view, stepAt, headerAt, moved, part};
+
+// A place, counted in nibbles. Packed: two nibbles a byte; else one a byte.
+pub struct Cursor {
+    pub at: usize,
+    pub packed: bool,
+}
+
+pub enum Step {
+    // A nibble, and the place behind it.
+    Nibble(u8, Cursor),
+    End,
+}
+
+pub enum Header {
+    // AL, AID, and the place of the data.
+    Head(usize, usize, Cursor),
+    Short,
+}
+
+// The nibble at a place.
+pub fn nibble_at(s: &[u8], at: usize, packed: bool) -> u8
+    requires { ⌜ at < length (view packed (now s)) ⌝ }
+    ensures { λ r. ⌜ r ≡ getD (view packed (now (s .entry))) at 0 ⌝ }
+{
+    if packed {
+        let b = s[at / 2];
+        if at % 2 == 0 {
+            return b / 16;
+        }
+        return b % 16;
+    }
+    s[at]
+}
+
+fn wide(x: u8) -> usize
+    ensures { λ r. ⌜ (r ≡ x) × (r < 256) ⌝ }
+{
+    x as usize
+}
+
+// Whether a nibble stands at a place.
+pub fn inside(s: &[u8], at: usize, packed: bool) -> bool
+    ensures { λ r. ⌜ r ≡ ltb at (length (view packed (now (s .entry)))) ⌝ }
+{
+    if packed {
+        return at / 2 < s.len();
+    }
+    at < s.len()
+}
+
+impl Cursor {
+    // The nibble at the place.
+    pub fn nibble(self, s: &[u8]) -> Step
+        requires { ⌜ self .at ≤ 2 ^ 32 ⌝ }
+        ensures { λ r. ⌜ r ≡ stepAt (now (s .entry)) self ⌝ }
+    {
+        let at = self.at;
+        let packed = self.packed;
+        if inside(s, at, packed) {
+            return Step::Nibble(nibble_at(s, at, packed), self.skip(1));
+        }
+        Step::End
+    }
+
+    // The header at the place.
+    pub fn header(self, s: &[u8]) -> Header
+        requires { ⌜ self .at ≤ 2 ^ 32 ⌝ }
+        ensures { λ r. ⌜ r ≡ headerAt (now (s .entry)) self ⌝ }
+    {
+        let at = self.at;
+        let packed = self.packed;
+        if inside(s, at + 2, packed) {
+            let high = wide(nibble_at(s, at, packed));
+            let low = wide(nibble_at(s, at + 1, packed));
+            let id = wide(nibble_at(s, at + 2, packed));
+            return Header::Head(high * 16 + low, id, self.skip(3));
+        }
+        Header::Short
+    }
+
+    // The place n nibbles further.
+    pub fn skip(self, n: usize) -> Cursor
+        requires { ⌜ (self .at ≤ 2 ^ 32) × (n ≤ 2 ^ 32) ⌝ }
+        ensures { λ r. ⌜ r ≡ moved self n ⌝ }
+    {
+        Cursor {
+            at: self.at + n,
+            packed: self.packed,
+        }
+    }
+}
