@@ -7,6 +7,7 @@ pub mod ShipText
 pub mod Sheet
 pub mod Report
 pub mod Machine
+pub mod Reply
 pub mod Buffer
 pub mod Whole
 pub mod Lister

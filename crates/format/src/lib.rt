@@ -28,3 +28,19 @@ pub enum TextStep {
     Plain(usize, u8),
     Original(usize, u8),
 }
+
+// What a call on a buffer answers.
+pub enum Reply {
+    // The refusal's number and place.
+    Refused(u8, usize),
+    // Accepted, and nothing is given.
+    Done,
+    // A field's scaled value.
+    Value(Scaled),
+    // A flag's value, 1 to 10.
+    Flag(u8),
+    // The field or the flag is missing.
+    Missing,
+    // How many bytes were given.
+    Count(usize),
+}
