@@ -7,6 +7,7 @@ pub mod card;
 pub mod cases;
 pub mod edit;
 pub mod flags;
+pub mod gate;
 pub mod judge;
 pub mod line;
 pub mod lister;

@@ -6,6 +6,8 @@ use reference::call::Call;
 use reference::cases::material::random_sheet;
 use reference::cases::random::random_call;
 use reference::cases::{Case, fixed};
+use reference::gate::script::first_call;
+use reference::gate::{SEED, list_cases};
 use reference::judge::judge;
 use reference::machine::step;
 use reference::prng::Prng;
@@ -108,4 +110,27 @@ fn fixed_lists_agree_with_the_machine() {
         }
     }
     assert!(met.len() >= 34, "{met:?}");
+}
+
+/// The calls of a script up to its end or the first entry that is none.
+fn calls_of(script: &[u8]) -> Vec<Call> {
+    let mut calls = Vec::new();
+    let mut rest = script;
+    while let Some((call, behind)) = first_call(rest) {
+        calls.push(call);
+        rest = behind;
+    }
+    calls
+}
+
+#[test]
+fn gate_lists_agree_with_the_machine() {
+    let mut met = Met::new();
+    for list in list_cases::lists(SEED) {
+        if let Ok(report) = judge(&list.buffer) {
+            let calls = calls_of(&list.script);
+            compare(&list.buffer, report.sheet, &calls, &mut met);
+        }
+    }
+    assert_eq!(met.len(), 36, "{met:?}");
 }

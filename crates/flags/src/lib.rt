@@ -6,12 +6,6 @@ ghost use Rattle.format.specs.Flags.{flagsFit, flagsValid, qualityCode, weight}
 ghost use Rattle.nibble.specs.View.{view, part};
 use nibble::Cursor;
 
-fn wide(x: u8) -> usize
-    ensures { λ r. ⌜ (r ≡ x) × (r < 256) ⌝ }
-{
-    x as usize
-}
-
 // What a flag adds to the quality code.
 fn weight_of(v: u8) -> u8
     ensures { λ r. ⌜ (r ≡ weight v) × (r ≤ 3) ⌝ }
@@ -37,7 +31,7 @@ pub fn quality(s: &[u8], c: Cursor) -> u8
     while i < 14 {
         let v = nibble::nibble_at(s, at + i, packed);
         weights += weight_of(v);
-        values += wide(v);
+        values += nibble::wide(v);
         i += 1;
     }
     if values == 0 {
@@ -74,9 +68,9 @@ pub fn valid(s: &[u8], c: Cursor, len: usize) -> bool
         return false;
     }
     if fit(s, c) {
-        let high = wide(nibble::nibble_at(s, at + 14, packed));
-        let low = wide(nibble::nibble_at(s, at + 15, packed));
-        return high * 16 + low == wide(quality(s, c));
+        let high = nibble::wide(nibble::nibble_at(s, at + 14, packed));
+        let low = nibble::wide(nibble::nibble_at(s, at + 15, packed));
+        return high * 16 + low == nibble::wide(quality(s, c));
     }
     false
 }

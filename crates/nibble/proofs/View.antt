@@ -4,20 +4,21 @@ use Prim.Native.Nat.{ℕ, zero, suc, _+_, _-_, _*_, _/_, _≤_, _<_}
 use native.Mathlib.Nat.{add-zero}
 use native.Mathlib.Numerals.{add-one}
 use native.Mathlib.Omega.{arith}
-use mathlib.Core.Path.{_≡_, sym, ap, ap₂, _∙_}
-use mathlib.Core.Bool.{true}
+use mathlib.Core.Path.{_≡_, refl, sym, ap, ap₂, _∙_}
+use mathlib.Core.Bool.{Bool, true, false, cond}
 use mathlib.Core.List.{List, [], _∷_}
 use lib.ListN.{length, getD, take, drop, length-drop}
 use lib.Seq.{length-take-le, getD-take, getD-drop, take-take, drop-drop, drop-cons, take-nil}
-use lib.Dec.{ltb}
-use borrow.Author.Tests.{le-leb, lt-ltb, le-ltb, ltb-true, ltb-false}
+use lib.Dec.{ltb, leb}
+use borrow.Author.Tests.{le-leb, leb-true, leb-false, lt-ltb, le-ltb, ltb-true, ltb-false}
+use Rattle.format.specs.Nibbles.{lengthAt, idAt}
 use Rattle.laws.proofs.Bits.{Bytes, take-below, drop-below}
 use Rattle.laws.proofs.Lists.{test-case}
 use Rattle.laws.proofs.Nibbles.{Nibbles, length-nibbles, nibbles-lt}
 use Rattle.nibble.specs.View.{view, from, part, moved, stepAt, headerAt}
 use Rattle.nibble.specs.declared.Cursor.{Cursor}
 use Rattle.nibble.specs.declared.Step.the-variants.{Nibble}
-use Rattle.nibble.specs.declared.Header.the-variants.{Head}
+use Rattle.nibble.specs.declared.Header.the-variants.{Head, Short}
 
 -- a packed buffer has two nibbles a byte, each below 16
 pub packed-length : (b : List ℕ) → length (view true b) ≡ 2 * length b
@@ -80,6 +81,30 @@ module _ (b : List ℕ) (c k : Cursor) where
   header-is x y i h ex ey ei ek =
       let g : c .at + 3 ≤ length (view (c .packed) b) = omega arith in
       rw (le-leb _ _ g, ex, ey, ei, ek, from-at b c 0, from-at b c 1, from-at b c 2, add-zero (c .at))
+
+-- what a header that was read says
+pub record IsHead (b : List ℕ) (c : Cursor) (al id : ℕ) (body : Cursor) : Type 0 where
+  pub inside : c .at + 3 ≤ length (view (c .packed) b)
+  pub read : al ≡ lengthAt (from b c)
+  pub told : id ≡ idAt (from b c)
+  pub behind : body ≡ moved c 3
+
+cond-head : (t : Bool) (x x′ y y′ : ℕ) (k k′ : Cursor) → cond t (Head x y k) Short ≡ Head x′ y′ k′ → (t ≡ true) × (x′ ≡ x) × (y′ ≡ y) × (k′ ≡ k)
+cond-head true x x′ y y′ k k′ e = (refl, cc, cc, cc)
+cond-head false x x′ y y′ k k′ e = let z : _≡_ {A = ℕ} 0 1 = cc in absurd (omega arith)
+
+cond-short : (t : Bool) (x y : ℕ) (k : Cursor) → cond t (Head x y k) Short ≡ Short → t ≡ false
+cond-short true x y k e = let z : _≡_ {A = ℕ} 0 1 = cc in absurd (omega arith)
+cond-short false x y k e = refl
+
+pub is-head : (b : List ℕ) (c : Cursor) (al id : ℕ) (body : Cursor) → headerAt b c ≡ Head al id body → IsHead b c al id body
+is-head b c al id body e =
+    let p = cond-head (leb (c .at + 3) (length (view (c .packed) b))) (lengthAt (from b c)) al (idAt (from b c)) id (moved c 3) body e in
+    record { inside = leb-true (c .at + 3) (length (view (c .packed) b)) (p .0); read = p .1; told = p .2; behind = p .3 }
+
+pub is-short : (b : List ℕ) (c : Cursor) → headerAt b c ≡ Short → length (view (c .packed) b) < c .at + 3
+is-short b c e =
+    leb-false (c .at + 3) (length (view (c .packed) b)) (cond-short (leb (c .at + 3) (length (view (c .packed) b))) (lengthAt (from b c)) (idAt (from b c)) (moved c 3) e)
 
 -- k nibbles from place m on of n nibbles
 pub part-part : (b : List ℕ) (c : Cursor) (m k n : ℕ) → m + k ≤ n → take k (drop m (part b c n)) ≡ part b (moved c m) k

@@ -38,7 +38,8 @@ pub fn nibble_at(s: &[u8], at: usize, packed: bool) -> u8
     s[at]
 }
 
-fn wide(x: u8) -> usize
+// A byte as a number.
+pub fn wide(x: u8) -> usize
     ensures { λ r. ⌜ (r ≡ x) × (r < 256) ⌝ }
 {
     x as usize

@@ -11,7 +11,7 @@ use crate::table::{Scaled, fields};
 use crate::text;
 
 /// Numbers of fields, flags and ids that would pass if they were cut short.
-const WIDE_NUMBERS: [u64; 11] = [
+pub const WIDE_NUMBERS: [u64; 11] = [
     0,
     255,
     256,
@@ -309,7 +309,7 @@ fn text_lists() -> Vec<Case> {
 }
 
 /// Single bytes, runs of 0 to 40 spaces, trailing spaces and the longest.
-fn texts() -> Vec<Vec<u8>> {
+pub fn texts() -> Vec<Vec<u8>> {
     let mut texts: Vec<Vec<u8>> = (0..=255).map(|byte| vec![byte]).collect();
     for spaces in 0..=40 {
         let run = vec![b' '; spaces];

@@ -133,7 +133,7 @@ fn pack_words() -> Vec<Case> {
 }
 
 /// Tails sound, cut, repeated, too many and with bytes that are no nibbles.
-fn tails() -> Vec<Vec<u8>> {
+pub fn tails() -> Vec<Vec<u8>> {
     let mut tails = vec![
         vec![0],
         vec![0, 1],

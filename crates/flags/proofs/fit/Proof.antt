@@ -30,7 +30,10 @@ nibble-at-requires : tie.Need-nibble-at-requires Inv-loop μ-loop
 nibble-at-requires c κs = search needs
 
 returns : tie.Need-returns Inv-loop μ-loop
-returns c = sym (fit-fails (part (now (c .before .before .before .before .before .args .s)) (c .before .before .before .before .before .args .c) 14) (c .before .before .before .loop .i) (omega (arith, part-length (now (c .before .before .before .before .before .args .s)) (c .before .before .before .before .before .args .c) 14 (c .before .before .before .before .before .pre .0))) (omega (arith, c .before .nibble-at .ensures ∙ sym (part-at (now (c .before .before .before .before .before .args .s)) (c .before .before .before .before .before .args .c) 14 (c .before .before .before .loop .i) (omega arith))))) ∙ c .before .before .before .loop .inv .1
+returns c =
+    let a = c .before .before .before .before .before .args in
+    let l = c .before .before .before .loop in
+    sym (fit-fails (part (now (a .s)) (a .c) 14) (l .i) (omega (arith, part-length (now (a .s)) (a .c) 14 (c .before .before .before .before .before .pre .0))) (omega (arith, c .before .nibble-at .ensures ∙ sym (part-at (now (a .s)) (a .c) 14 (l .i) (omega arith))))) ∙ l .inv .1
 
 add-i : tie.Need-add-i Inv-loop μ-loop
 add-i c = search needs
@@ -39,10 +42,16 @@ loop-less : tie.Need-loop-less Inv-loop μ-loop
 loop-less c = search needs
 
 loop-again : tie.Need-loop-again Inv-loop μ-loop
-loop-again c = (omega arith, sym (fit-step (part (now (c .before .before .before .before .before .args .s)) (c .before .before .before .before .before .args .c) 14) (c .before .before .before .loop .i) (omega (arith, part-length (now (c .before .before .before .before .before .args .s)) (c .before .before .before .before .before .args .c) 14 (c .before .before .before .before .before .pre .0))) (omega (arith, c .before .nibble-at .ensures ∙ sym (part-at (now (c .before .before .before .before .before .args .s)) (c .before .before .before .before .before .args .c) 14 (c .before .before .before .loop .i) (omega arith))))) ∙ c .before .before .before .loop .inv .1)
+loop-again c =
+    let a = c .before .before .before .before .before .args in
+    let l = c .before .before .before .loop in
+    (omega arith, sym (fit-step (part (now (a .s)) (a .c) 14) (l .i) (omega (arith, part-length (now (a .s)) (a .c) 14 (c .before .before .before .before .before .pre .0))) (omega (arith, c .before .nibble-at .ensures ∙ sym (part-at (now (a .s)) (a .c) 14 (l .i) (omega arith))))) ∙ l .inv .1)
 
 returns-2 : tie.Need-returns-2 Inv-loop μ-loop
-returns-2 c = sym (fit-end (part (now (c .before .before .before .args .s)) (c .before .before .before .args .c) 14) (c .before .loop .i) (omega (arith, part-length (now (c .before .before .before .args .s)) (c .before .before .before .args .c) 14 (c .before .before .before .pre .0)))) ∙ c .before .loop .inv .1
+returns-2 c =
+    let a = c .before .before .before .args in
+    let l = c .before .loop in
+    sym (fit-end (part (now (a .s)) (a .c) 14) (l .i) (omega (arith, part-length (now (a .s)) (a .c) 14 (c .before .before .before .pre .0)))) ∙ l .inv .1
 
 pub fit-spec : {M : Type 1} → statement M
 fit-spec =

@@ -32,13 +32,17 @@ weight-of-requires : tie.Need-weight-of-requires Inv-loop μ-loop
 weight-of-requires c κs = search needs
 
 add-weights : tie.Need-add-weights Inv-loop μ-loop
-add-weights c = omega (arith, part-length (now (c .before .before .before .before .before .args .s)) (c .before .before .before .before .before .args .c) 14 (c .before .before .before .before .before .pre .0))
+add-weights c =
+    let a = c .before .before .before .before .before .args in
+    omega (arith, part-length (now (a .s)) (a .c) 14 (c .before .before .before .before .before .pre .0))
 
 wide-requires : tie.Need-wide-requires Inv-loop μ-loop
 wide-requires c κs = search needs
 
 add-values : tie.Need-add-values Inv-loop μ-loop
-add-values c = omega (arith, part-length (now (c .before .before .before .before .before .before .args .s)) (c .before .before .before .before .before .before .args .c) 14 (c .before .before .before .before .before .before .pre .0))
+add-values c =
+    let a = c .before .before .before .before .before .before .args in
+    omega (arith, part-length (now (a .s)) (a .c) 14 (c .before .before .before .before .before .before .pre .0))
 
 add-i : tie.Need-add-i Inv-loop μ-loop
 add-i c = search needs
@@ -47,16 +51,27 @@ loop-less : tie.Need-loop-less Inv-loop μ-loop
 loop-less c = search needs
 
 loop-again : tie.Need-loop-again Inv-loop μ-loop
-loop-again c = sum-more (part (now (c .before .before .before .before .before .before .args .s)) (c .before .before .before .before .before .before .args .c) 14) (c .before .before .before .before .loop .i) (c .before .before .before .before .loop .weights) (c .before .before .before .before .loop .values) (c .before .weight-of .result) (c .wide .result) (omega (arith, part-length (now (c .before .before .before .before .before .before .args .s)) (c .before .before .before .before .before .before .args .c) 14 (c .before .before .before .before .before .before .pre .0))) (c .before .before .before .before .loop .inv) (c .wide .ensures .0 ∙ c .before .before .nibble-at .ensures ∙ sym (part-at (now (c .before .before .before .before .before .before .args .s)) (c .before .before .before .before .before .before .args .c) 14 (c .before .before .before .before .loop .i) (omega arith))) (c .wide .ensures .1) (c .before .weight-of .ensures .0 ∙ ap weight (sym (c .wide .ensures .0))) (c .before .weight-of .ensures .1)
+loop-again c =
+    let a = c .before .before .before .before .before .before .args in
+    let l = c .before .before .before .before .loop in
+    sum-more (part (now (a .s)) (a .c) 14) (l .i) (l .weights) (l .values) (c .before .weight-of .result) (c .wide .result) (omega (arith, part-length (now (a .s)) (a .c) 14 (c .before .before .before .before .before .before .pre .0))) (l .inv) (c .wide .ensures .0 ∙ c .before .before .nibble-at .ensures ∙ sym (part-at (now (a .s)) (a .c) 14 (l .i) (omega arith))) (c .wide .ensures .1) (c .before .weight-of .ensures .0 ∙ ap weight (sym (c .wide .ensures .0))) (c .before .weight-of .ensures .1)
 
 returns : tie.Need-returns Inv-loop μ-loop
-returns c = quality-missing (part (now (c .before .before .before .before .args .s)) (c .before .before .before .before .args .c) 14) (c .before .before .loop .i) (c .before .before .loop .weights) (c .before .before .loop .values) (omega (arith, part-length (now (c .before .before .before .before .args .s)) (c .before .before .before .before .args .c) 14 (c .before .before .before .before .pre .0))) (c .before .before .loop .inv) (c .if1 .taken)
+returns c =
+    let a = c .before .before .before .before .args in
+    let l = c .before .before .loop in
+    quality-missing (part (now (a .s)) (a .c) 14) (l .i) (l .weights) (l .values) (omega (arith, part-length (now (a .s)) (a .c) 14 (c .before .before .before .before .pre .0))) (l .inv) (c .if1 .taken)
 
 add-result : tie.Need-add-result Inv-loop μ-loop
-add-result c = omega (arith, part-length (now (c .before .before .before .before .args .s)) (c .before .before .before .before .args .c) 14 (c .before .before .before .before .pre .0))
+add-result c =
+    let a = c .before .before .before .before .args in
+    omega (arith, part-length (now (a .s)) (a .c) 14 (c .before .before .before .before .pre .0))
 
 returns-2 : tie.Need-returns-2 Inv-loop μ-loop
-returns-2 c = quality-given (part (now (c .before .before .before .before .args .s)) (c .before .before .before .before .args .c) 14) (c .before .before .loop .i) (c .before .before .loop .weights) (c .before .before .loop .values) (omega (arith, part-length (now (c .before .before .before .before .args .s)) (c .before .before .before .before .args .c) 14 (c .before .before .before .before .pre .0))) (c .before .before .loop .inv) (c .if1 .left)
+returns-2 c =
+    let a = c .before .before .before .before .args in
+    let l = c .before .before .loop in
+    quality-given (part (now (a .s)) (a .c) 14) (l .i) (l .weights) (l .values) (omega (arith, part-length (now (a .s)) (a .c) 14 (c .before .before .before .before .pre .0))) (l .inv) (c .if1 .left)
 
 pub quality-spec : {M : Type 1} → statement M
 quality-spec =

@@ -12,7 +12,9 @@ use Rattle.flags.proofs.valid.Statement.{statement}
 use Rattle.flags.proofs.valid.Tie as tie
 
 returns : tie.Need-returns
-returns c = not-sixteen (part (now (c .before .before .args .s)) (c .before .before .args .c) (c .before .before .args .len)) (c .before .before .args .len) (part-length (now (c .before .before .args .s)) (c .before .before .args .c) (c .before .before .args .len) (c .before .before .pre .0)) (c .if1 .taken)
+returns c =
+    let a = c .before .before .args in
+    not-sixteen (part (now (a .s)) (a .c) (a .len)) (a .len) (part-length (now (a .s)) (a .c) (a .len) (c .before .before .pre .0)) (c .if1 .taken)
 
 fit-requires : tie.Need-fit-requires
 fit-requires c κs = search needs
@@ -48,10 +50,14 @@ wide-requires-3 : tie.Need-wide-requires-3
 wide-requires-3 c κs = search needs
 
 returns-2 : tie.Need-returns-2
-returns-2 c = coded (part (now (c .before .before .before .before .before .before .before .before .before .before .args .s)) (c .before .before .before .before .before .before .before .before .before .before .args .c) (c .before .before .before .before .before .before .before .before .before .before .args .len)) (c .before .before .before .before .before .before .before .before .before .before .args .len) (part-length (now (c .before .before .before .before .before .before .before .before .before .before .args .s)) (c .before .before .before .before .before .before .before .before .before .before .args .c) (c .before .before .before .before .before .before .before .before .before .before .args .len) (c .before .before .before .before .before .before .before .before .before .before .pre .0)) (c .before .before .before .before .before .before .before .before .if1 .left) _ _ _ (ap (flagsFit 1) (part-take (now (c .before .before .before .before .before .before .before .before .before .before .args .s)) (c .before .before .before .before .before .before .before .before .before .before .args .c) 14 (c .before .before .before .before .before .before .before .before .before .before .args .len) (omega arith)) ∙ sym (c .before .before .before .before .before .before .before .fit .ensures) ∙ c .before .before .before .before .before .before .if2 .taken) (c .before .before .before .before .wide .ensures .0 ∙ c .before .before .before .before .before .nibble-at .ensures ∙ sym (part-at (now (c .before .before .before .before .before .before .before .before .before .before .args .s)) (c .before .before .before .before .before .before .before .before .before .before .args .c) (c .before .before .before .before .before .before .before .before .before .before .args .len) 14 (omega arith))) (c .before .before .wide2 .ensures .0 ∙ c .before .before .before .nibble-at2 .ensures ∙ sym (part-at (now (c .before .before .before .before .before .before .before .before .before .before .args .s)) (c .before .before .before .before .before .before .before .before .before .before .args .c) (c .before .before .before .before .before .before .before .before .before .before .args .len) 15 (omega arith))) (c .wide3 .ensures .0 ∙ c .before .quality .ensures ∙ ap qualityCode (sym (part-take (now (c .before .before .before .before .before .before .before .before .before .before .args .s)) (c .before .before .before .before .before .before .before .before .before .before .args .c) 14 (c .before .before .before .before .before .before .before .before .before .before .args .len) (omega arith))))
+returns-2 c =
+    let a = c .before .before .before .before .before .before .before .before .before .before .args in
+    coded (part (now (a .s)) (a .c) (a .len)) (a .len) (part-length (now (a .s)) (a .c) (a .len) (c .before .before .before .before .before .before .before .before .before .before .pre .0)) (c .before .before .before .before .before .before .before .before .if1 .left) _ _ _ (ap (flagsFit 1) (part-take (now (a .s)) (a .c) 14 (a .len) (omega arith)) ∙ sym (c .before .before .before .before .before .before .before .fit .ensures) ∙ c .before .before .before .before .before .before .if2 .taken) (c .before .before .before .before .wide .ensures .0 ∙ c .before .before .before .before .before .nibble-at .ensures ∙ sym (part-at (now (a .s)) (a .c) (a .len) 14 (omega arith))) (c .before .before .wide2 .ensures .0 ∙ c .before .before .before .nibble-at2 .ensures ∙ sym (part-at (now (a .s)) (a .c) (a .len) 15 (omega arith))) (c .wide3 .ensures .0 ∙ c .before .quality .ensures ∙ ap qualityCode (sym (part-take (now (a .s)) (a .c) 14 (a .len) (omega arith))))
 
 returns-3 : tie.Need-returns-3
-returns-3 c = unfit (part (now (c .before .before .before .before .args .s)) (c .before .before .before .before .args .c) (c .before .before .before .before .args .len)) (c .before .before .before .before .args .len) (part-length (now (c .before .before .before .before .args .s)) (c .before .before .before .before .args .c) (c .before .before .before .before .args .len) (c .before .before .before .before .pre .0)) (c .before .before .if1 .left) (ap (flagsFit 1) (part-take (now (c .before .before .before .before .args .s)) (c .before .before .before .before .args .c) 14 (c .before .before .before .before .args .len) (omega arith)) ∙ sym (c .before .fit .ensures) ∙ c .if2 .left)
+returns-3 c =
+    let a = c .before .before .before .before .args in
+    unfit (part (now (a .s)) (a .c) (a .len)) (a .len) (part-length (now (a .s)) (a .c) (a .len) (c .before .before .before .before .pre .0)) (c .before .before .if1 .left) (ap (flagsFit 1) (part-take (now (a .s)) (a .c) 14 (a .len) (omega arith)) ∙ sym (c .before .fit .ensures) ∙ c .if2 .left)
 
 pub valid-spec : {M : Type 1} → statement M
 valid-spec =

@@ -55,12 +55,15 @@ skip-requires : tie.Need-skip-requires
 skip-requires c κs = search needs
 
 returns : tie.Need-returns
-returns c = header-is (now (c .before .before .before .before .before .before .before .before .before .before .args .s)) (c .before .before .before .before .before .before .before .before .before .before .args .self) _ _ _ _ (fits (c .before .before .before .before .before .before .before)) (c .before .before .before .before .before .wide .ensures .0 ∙ c .before .before .before .before .before .before .nibble-at .ensures) (c .before .before .before .wide2 .ensures .0 ∙ c .before .before .before .before .nibble-at2 .ensures) (c .before .wide3 .ensures .0 ∙ c .before .before .nibble-at3 .ensures) (c .skip .ensures)
+returns c =
+    let a = c .before .before .before .before .before .before .before .before .before .before .args in
+    header-is (now (a .s)) (a .self) _ _ _ _ (fits (c .before .before .before .before .before .before .before)) (c .before .before .before .before .before .wide .ensures .0 ∙ c .before .before .before .before .before .before .nibble-at .ensures) (c .before .before .before .wide2 .ensures .0 ∙ c .before .before .before .before .nibble-at2 .ensures) (c .before .wide3 .ensures .0 ∙ c .before .before .nibble-at3 .ensures) (c .skip .ensures)
 
 returns-2 : tie.Need-returns-2
 returns-2 c =
-    let h = ltb-false (c .before .before .before .args .self .at + 2) (length (view (c .before .before .before .args .self .packed) (now (c .before .before .before .args .s)))) (sym (c .before .inside .ensures) ∙ c .if1 .left) in
-    let g : length (view (c .before .before .before .args .self .packed) (now (c .before .before .before .args .s))) < c .before .before .before .args .self .at + 3 = omega arith in
+    let a = c .before .before .before .args in
+    let h = ltb-false (a .self .at + 2) (length (view (a .self .packed) (now (a .s)))) (sym (c .before .inside .ensures) ∙ c .if1 .left) in
+    let g : length (view (a .self .packed) (now (a .s))) < a .self .at + 3 = omega arith in
     rw (lt-leb _ _ g)
 
 pub header-spec : {M : Type 1} → statement M

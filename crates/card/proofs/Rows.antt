@@ -1,0 +1,79 @@
+-- The rows against the field table, computed over all fields.
+-- Assumes nothing.
+use Prim.Native.Nat.{ℕ, zero, suc, _+_, _/_, _%_, _≤_, _<_}
+use native.Mathlib.Omega.{arith}
+use native.Mathlib.Decide.{ℕ-discrete}
+use mathlib.Core.Path.{_≡_, sym, ap, subst}
+use mathlib.Core.Bool.{Bool, true, _&&_}
+use lib.ListN.{getD}
+use lib.Dec.{T, leb, eqb, eqb→eq, leb→le}
+use lib.IntN.{ℤ, pos, negsuc}
+use Rattle.format.specs.Bits.{total, offset}
+use Rattle.format.specs.Field.{table, fieldAt}
+use Rattle.format.specs.Sheet.{widths}
+use Rattle.format.proofs.Test.{left, right}
+use Rattle.format.proofs.Table.{eqZ}
+use Rattle.card.specs.Rows.{rows, baseOf, Row}
+
+-- k is none of the numbers 1 to n, as a `match` on k hands it to its last arm
+abbrev pub None : ℕ → ℕ → Type 0
+None zero k = Unit {0}
+None (suc n) k = None n k × (k ≡ suc n → ⊥)
+
+pub none-lt : (n k : ℕ) → 1 ≤ k → None n k → n < k
+none-lt zero k l r = l
+none-lt (suc n) k l r = let m = none-lt n k l (r .0) in let e : k ≡ suc n → ⊥ = r .1 in omega arith
+
+eqZ-eq : (a b : ℤ) → T (eqZ a b) → a ≡ b
+unfolding eqZ
+eqZ-eq (pos a) (pos b) t = ap pos (eqb→eq a b t)
+eqZ-eq (pos a) (negsuc b) t = absurd t
+eqZ-eq (negsuc a) (pos b) t = absurd t
+eqZ-eq (negsuc a) (negsuc b) t = ap negsuc (eqb→eq a b t)
+
+-- ---- the tests of `Row`, of a row r, and of all fields up to n
+
+isRow : ℕ → ℕ → Bool
+isRow k r =
+    eqb (r / 4294967296) (offset widths k)
+    && (eqb (r / 268435456 % 16) (getD widths k 0)
+    && (eqb (r / 65536 % 4096) (fieldAt k .highest)
+    && (eqZ (baseOf r) (fieldAt k .base)
+    && (leb (offset widths k / 8 + 2) 38 && leb (offset widths k % 8 + getD widths k 0) 16))))
+
+areRows : ℕ → Bool
+areRows zero = true
+areRows (suc n) = isRow (suc n) (getD rows (suc n) 0) && areRows n
+
+all-rows : T (areRows 46)
+unfolding areRows isRow total widths table fieldAt baseOf eqZ
+all-rows = tt
+
+is-row : (n k : ℕ) → T (areRows n) → 1 ≤ k → k ≤ n → T (isRow k (getD rows k 0))
+unfolding areRows
+is-row zero k t l h = absurd (omega arith)
+is-row (suc n) k t l h =
+    go (ℕ-discrete k (suc n)) (is-row n k (right (isRow (suc n) (getD rows (suc n) 0)) (areRows n) t) l)
+  where
+    go : Dec (k ≡ suc n) → (k ≤ n → T (isRow k (getD rows k 0))) → T (isRow k (getD rows k 0))
+    go (yes e) m = subst (λ (j : ℕ). T (isRow j (getD rows j 0))) (sym e) (left (isRow (suc n) (getD rows (suc n) 0)) (areRows n) t)
+    go (no e) m = m (omega arith)
+
+tested : (k r : ℕ) → T (isRow k r) → Row k r
+unfolding isRow
+tested k r t =
+    let t₁ = right (eqb (r / 4294967296) (offset widths k)) _ t in
+    let t₂ = right (eqb (r / 268435456 % 16) (getD widths k 0)) _ t₁ in
+    let t₃ = right (eqb (r / 65536 % 4096) (fieldAt k .highest)) _ t₂ in
+    let t₄ = right (eqZ (baseOf r) (fieldAt k .base)) _ t₃ in
+    record {
+      place = eqb→eq _ _ (left (eqb (r / 4294967296) (offset widths k)) _ t);
+      bits = eqb→eq _ _ (left (eqb (r / 268435456 % 16) (getD widths k 0)) _ t₁);
+      highest = eqb→eq _ _ (left (eqb (r / 65536 % 4096) (fieldAt k .highest)) _ t₂);
+      base = eqZ-eq _ _ (left (eqZ (baseOf r) (fieldAt k .base)) _ t₃);
+      room = leb→le _ _ (left (leb (offset widths k / 8 + 2) 38) _ t₄);
+      within = leb→le _ _ (right (leb (offset widths k / 8 + 2) 38) _ t₄);
+    }
+
+pub row-is : (k : ℕ) → 1 ≤ k → k ≤ 46 → Row k (getD rows k 0)
+row-is k l h = tested k (getD rows k 0) (is-row 46 k all-rows l h)

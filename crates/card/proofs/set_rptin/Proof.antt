@@ -1,0 +1,21 @@
+-- `card::set_rptin` meets its contract.
+-- Assumes nothing.
+use native.Mathlib.Omega.{arith}
+use denote.Ref.{now}
+use Rattle.card.proofs.Numbers.{carded-rptin}
+use borrow.Author.Needs.{needs}
+use Rattle.card.proofs.set_rptin.Statement.{statement}
+use Rattle.card.proofs.set_rptin.Tie as tie
+
+write-requires : tie.Need-write-requires
+write-requires c κs = search needs
+
+same-length : tie.Need-same-length
+same-length c = search needs
+
+returns : tie.Need-returns
+returns c = let st = c .before .before .before .before .before in
+    carded-rptin (now (st .args .s)) (c .before .before .write .last .0) (st .args .v) (λ j. c .before .before .before .before .slice-known .given j .fits) (λ j. c .slice-known2 .given j .fits) (st .pre) (c .before .before .write .ensures .1) (omega arith) (c .before .before .write .ensures .0)
+
+pub set-rptin-spec : {M : Type 1} → statement M
+set-rptin-spec = tie.close (tie.spec write-requires same-length returns)

@@ -1,0 +1,190 @@
+-- Each outcome of judging, from the tests that led there; and what an outcome says of the report.
+-- Assumes nothing.
+use Prim.Native.Nat.{ℕ, _+_, _-_, _*_, _/_, _%_, _≤_, _<_}
+use native.Mathlib.Omega.{arith}
+use mathlib.Core.Path.{_≡_, refl, sym, ap, ap₂, _∙_}
+use mathlib.Core.Bool.{Bool, true, false, cond, not, _&&_}
+use mathlib.Core.List.{List, [], _∷_, _++_}
+use mathlib.Core.Option.{Option, none, some}
+use lib.ListN.{length, getD, drop, length-append, length-drop}
+use lib.Seq.{getD-drop}
+use lib.Dec.{ltb, eqb}
+use borrow.Author.Tests.{lt-ltb, le-ltb, eq-eqb, ne-eqb}
+use Rattle.format.specs.Order.{Refusal, Check, check, first}
+use Rattle.format.specs.Field.{table}
+use Rattle.format.specs.Bits.{total}
+use Rattle.format.specs.Nibbles.{Attachment, nibbles, odd, tailNibbles, attachmentsOf}
+use Rattle.format.specs.Sheet.{Sheet, checksum, size}
+use Rattle.format.specs.Report.{codesOf, checksumOf, countOf, tailOf, sheetOf, fieldChecks, attachmentChecks, tailLength, reportChecks, Verdict, refused, accepted, verdict, judge}
+use Rattle.card.specs.Answers.{checkedOf, cardCheck}
+use Rattle.card.specs.declared.CardCheck.{CardCheck}
+use Rattle.tail.specs.Walk.{tailAt, walkedBy, walked}
+use Rattle.tail.specs.declared.Tail.{Tail}
+use Rattle.tail.specs.declared.Walked.{Walked}
+use Rattle.nibble.specs.declared.Cursor.{Cursor}
+use Rattle.laws.proofs.Order.{first-skip, first-fits, first-append-skip, first-append-some}
+use Rattle.laws.proofs.Bits.{Bytes, drop-below}
+use Rattle.laws.proofs.Nibbles.{length-nibbles, nibbles-lt}
+use Rattle.laws.proofs.Attachments.{checks-fine}
+use Rattle.laws.proofs.Report.{size-is}
+use Rattle.report.specs.Answers.{judgedOf, reportOf, inspectedBy, inspected, lastOf}
+use Rattle.report.specs.declared.Judged.{Judged}
+use Rattle.report.specs.declared.Report.{Report}
+use Rattle.report.specs.declared.Inspected.{Inspected}
+
+-- a refusal of this number and place
+abbrev refusal : ℕ → ℕ → Refusal
+refusal n p = record { number = n; place = p }
+
+-- ---- what the parts answer
+
+checked-refused : (o : Option Refusal) (v n p : ℕ) → checkedOf o v ≡ CardCheck.Refused n p → o ≡ some (refusal n p)
+checked-refused none v n p e = let z : _≡_ {A = ℕ} 0 1 = cc in absurd (omega arith)
+checked-refused (some r) v n p e =
+    let a : r .number ≡ n = cc in
+    let b : r .place ≡ p = cc in
+    λ i. some (record { number = a i; place = b i })
+
+checked-sum : (o : Option Refusal) (v w : ℕ) → checkedOf o v ≡ CardCheck.Sum w → (o ≡ none) × (w ≡ v)
+checked-sum none v w e = (refl, (cc))
+checked-sum (some r) v w e = let z : _≡_ {A = ℕ} 0 1 = cc in absurd (omega arith)
+
+pub card-refused : (b : List ℕ) (n p : ℕ) (r : CardCheck) → r ≡ cardCheck b → r ≡ CardCheck.Refused n p → first (fieldChecks 1 table (codesOf b)) ≡ some (refusal n p)
+unfolding cardCheck
+card-refused b n p r is e = checked-refused (first (fieldChecks 1 table (codesOf b))) (total (codesOf b)) n p (sym is ∙ e)
+
+pub card-sum : (b : List ℕ) (w : ℕ) (r : CardCheck) → r ≡ cardCheck b → r ≡ CardCheck.Sum w → (first (fieldChecks 1 table (codesOf b)) ≡ none) × (w ≡ total (codesOf b))
+unfolding cardCheck
+card-sum b w r is e = checked-sum (first (fieldChecks 1 table (codesOf b))) (total (codesOf b)) w (sym is ∙ e)
+
+-- the cursor behind the card
+abbrev pub behindCard : Cursor
+behindCard = record { at = 75; packed = true }
+
+walked-refused : (o : Option Refusal) (t : Tail) (n p : ℕ) → walkedBy o t ≡ Walked.Refused n p → o ≡ some (refusal n p)
+walked-refused none t n p e = let z : _≡_ {A = ℕ} 0 1 = cc in absurd (omega arith)
+walked-refused (some r) t n p e =
+    let a : r .number ≡ n = cc in
+    let b : r .place ≡ p = cc in
+    λ i. some (record { number = a i; place = b i })
+
+walked-ended : (o : Option Refusal) (t u : Tail) → walkedBy o t ≡ Walked.Ended u → (o ≡ none) × (u ≡ t)
+walked-ended none t u e = (refl, (cc))
+walked-ended (some r) t u e = let z : _≡_ {A = ℕ} 0 1 = cc in absurd (omega arith)
+
+module _ (b : List ℕ) (i n : ℕ) (w : Walked) (count : n ≡ countOf b) (is : w ≡ walked b behindCard n i) where
+  whole : w ≡ walkedBy (first (attachmentChecks (countOf b) 1 [] (tailOf b))) (tailAt 75 i (attachmentsOf (countOf b) (tailOf b)))
+  unfolding walked
+  whole = is ∙ ap (λ (m : ℕ). walked b behindCard m i) count
+
+  pub tail-refused : (m p : ℕ) → w ≡ Walked.Refused m p → first (attachmentChecks (countOf b) 1 [] (tailOf b)) ≡ some (refusal m p)
+  tail-refused m p e = walked-refused _ _ m p (sym whole ∙ e)
+
+  pub tail-ended : (t : Tail) → w ≡ Walked.Ended t
+      → (first (attachmentChecks (countOf b) 1 [] (tailOf b)) ≡ none) × (t ≡ tailAt 75 i (attachmentsOf (countOf b) (tailOf b)))
+  tail-ended t e = walked-ended _ _ t (sym whole ∙ e)
+
+-- the attachments end within the buffer
+pub end-within : (b : List ℕ) → Bytes b → 38 ≤ length b → first (attachmentChecks (countOf b) 1 [] (tailOf b)) ≡ none → 75 + tailLength b ≤ 2 * length b
+end-within b bs long e =
+    let w = checks-fine (countOf b) 1 [] (tailOf b) (drop-below 16 75 (nibbles b) (nibbles-lt b bs)) e in
+    let tail = tailNibbles (attachmentsOf (countOf b) (tailOf b)) in
+    omega (arith, ap length (w .starts), length-append tail (drop (length tail) (tailOf b)), length-drop 75 (nibbles b), length-nibbles b)
+
+-- the checksum of the codes, from their sum
+pub checksum-is : (b : List ℕ) (v : ℕ) → v ≡ total (codesOf b) → checksum (codesOf b) ≡ v % 255
+unfolding checksum
+checksum-is b v e = ap (λ (n : ℕ). n % 255) (sym e)
+
+-- the two checksums are the same
+pub same-sum : (b : List ℕ) (v x : ℕ) {y : ℕ} → x ≡ checksumOf b → y ≡ v % 255 → v ≡ total (codesOf b) → x ≡ y → checksumOf b ≡ checksum (codesOf b)
+same-sum b v x ex ey ev e = sym ex ∙ e ∙ ey ∙ sym (checksum-is b v ev)
+
+-- ---- the outcomes
+
+by-cond : (t : Bool) (q : Report) → inspectedBy (cond t (some (refusal 7 0)) none) q ≡ cond t (Inspected.Refused 7 0) (Inspected.Fine q)
+by-cond true q = refl
+by-cond false q = refl
+
+module _ (b : List ℕ) (i : ℕ) where
+  by-first : (o : Option Refusal) → first (reportChecks b) ≡ o → inspectedBy o (reportOf b i (attachmentsOf (countOf b) (tailOf b))) ≡ inspected b i
+  unfolding inspected
+  by-first o e = ap (λ (x : Option Refusal). inspectedBy x (reportOf b i (attachmentsOf (countOf b) (tailOf b)))) (sym e)
+
+  pub short : length b < 38 → Inspected.Refused 1 0 ≡ inspected b i
+  unfolding reportChecks
+  short h = by-first (some (refusal 1 0)) (first-fits _ _ (lt-ltb (length b) 38 h))
+
+  module _ (long : 38 ≤ length b) where
+    pub field-refused : (n p : ℕ) → first (fieldChecks 1 table (codesOf b)) ≡ some (refusal n p) → Inspected.Refused n p ≡ inspected b i
+    unfolding reportChecks
+    field-refused n p e =
+        by-first (some (refusal n p)) (first-skip _ _ (le-ltb (length b) 38 long) ∙ first-append-some _ _ (refusal n p) e)
+
+    module _ (fields : first (fieldChecks 1 table (codesOf b)) ≡ none) where
+      pub sum-refused : (checksumOf b ≡ checksum (codesOf b) → ⊥) → Inspected.Refused 4 0 ≡ inspected b i
+      unfolding reportChecks
+      sum-refused h =
+          by-first (some (refusal 4 0))
+          (first-skip _ _ (le-ltb (length b) 38 long) ∙ first-append-skip _ _ fields ∙ first-fits _ _ (ap not (ne-eqb (checksumOf b) (checksum (codesOf b)) h)))
+
+      module _ (sum : checksumOf b ≡ checksum (codesOf b)) where
+        behind-sum : (o : Option Refusal)
+            → first (attachmentChecks (countOf b) 1 [] (tailOf b) ++ (check (odd (75 + tailLength b) && not (eqb (getD (tailOf b) (tailLength b) 0) 0)) 7 0 ∷ [])) ≡ o
+            → first (reportChecks b) ≡ o
+        unfolding reportChecks
+        behind-sum o e =
+            first-skip _ _ (le-ltb (length b) 38 long) ∙ first-append-skip _ _ fields
+            ∙ first-skip _ _ (ap not (eq-eqb (checksumOf b) (checksum (codesOf b)) sum)) ∙ e
+
+        pub attachment-refused : (n p : ℕ) → first (attachmentChecks (countOf b) 1 [] (tailOf b)) ≡ some (refusal n p) → Inspected.Refused n p ≡ inspected b i
+        attachment-refused n p e = by-first (some (refusal n p)) (behind-sum (some (refusal n p)) (first-append-some _ _ (refusal n p) e))
+
+        module _ (attachments : first (attachmentChecks (countOf b) 1 [] (tailOf b)) ≡ none) where
+          -- the last nibble decides
+          pub last-decides : (v n : ℕ) (u : Tail) → v ≡ total (codesOf b) → n ≡ countOf b → u ≡ tailAt 75 i (attachmentsOf (countOf b) (tailOf b))
+              → lastOf b v n u ≡ inspected b i
+          unfolding first
+          last-decides v n u ev en eu =
+              let at : getD (nibbles b) (75 + tailLength b) 0 ≡ getD (tailOf b) (tailLength b) 0 = sym (getD-drop 75 (nibbles b) (tailLength b) 0) in
+              let test = odd (75 + tailLength b) && not (eqb (getD (tailOf b) (tailLength b) 0) 0) in
+              rw (ev, en, eu, at)
+              (sym (by-cond test (reportOf b i (attachmentsOf (countOf b) (tailOf b))))
+              ∙ by-first (cond test (some (refusal 7 0)) none)
+              (behind-sum (cond test (some (refusal 7 0)) none) (first-append-skip (attachmentChecks (countOf b) 1 [] (tailOf b)) (check test 7 0 ∷ []) attachments)))
+
+-- ---- what an outcome says
+
+by-refused : (o : Option Refusal) (q : Report) (n p : ℕ) → inspectedBy o q ≡ Inspected.Refused n p → o ≡ some (refusal n p)
+by-refused none q n p e = let z : _≡_ {A = ℕ} 0 1 = cc in absurd (omega arith)
+by-refused (some r) q n p e =
+    let a : r .number ≡ n = cc in
+    let b : r .place ≡ p = cc in
+    λ i. some (record { number = a i; place = b i })
+
+by-fine : (o : Option Refusal) (q r : Report) → inspectedBy o q ≡ Inspected.Fine r → (o ≡ none) × (r ≡ q)
+by-fine none q r e = (refl, (cc))
+by-fine (some x) q r e = let z : _≡_ {A = ℕ} 0 1 = cc in absurd (omega arith)
+
+pub judge-refused : (b : List ℕ) (i n p : ℕ) (x : Inspected) → x ≡ inspected b i → x ≡ Inspected.Refused n p → judge b ≡ refused (refusal n p)
+unfolding inspected judge
+judge-refused b i n p x is e = ap (λ (o : Option Refusal). verdict o (sheetOf b)) (by-refused (first (reportChecks b)) (reportOf b i (attachmentsOf (countOf b) (tailOf b))) n p (sym is ∙ e))
+
+pub judge-fine : (b : List ℕ) (i : ℕ) (r : Report) (x : Inspected) → x ≡ inspected b i → x ≡ Inspected.Fine r
+    → (judge b ≡ accepted (sheetOf b)) × (r ≡ reportOf b i (sheetOf b .attachments))
+unfolding inspected judge sheetOf
+judge-fine b i r x is e =
+    let f = by-fine (first (reportChecks b)) (reportOf b i (attachmentsOf (countOf b) (tailOf b))) r (sym is ∙ e) in
+    (ap (λ (o : Option Refusal). verdict o (sheetOf b)) (f .0), f .1)
+
+-- the answer of judging, by outcome
+module _ (b : List ℕ) (i : ℕ) (x : Inspected) (is : x ≡ inspected b i) where
+  pub judged-refused : (n p : ℕ) → x ≡ Inspected.Refused n p → Judged.Refused n p ≡ judgedOf (judge b)
+  judged-refused n p e = ap judgedOf (sym (judge-refused b i n p x is e))
+
+  pub judged-fine : (r : Report) → x ≡ Inspected.Fine r → Judged.Accepted (r .end / 2 + r .end % 2) ≡ judgedOf (judge b)
+  judged-fine r e =
+      let f = judge-fine b i r x is e in
+      let end : r .end ≡ 75 + length (tailNibbles (sheetOf b .attachments)) = ap (λ (q : Report). q .end) (f .1) in
+      let half : r .end / 2 + r .end % 2 ≡ size (sheetOf b) = omega (arith, size-is (sheetOf b)) in
+      ap Judged.Accepted half ∙ ap judgedOf (sym (f .0))

@@ -1,0 +1,58 @@
+-- What judging a report answers.
+use Prim.Native.Nat.{ℕ, _+_, _≤_}
+use mathlib.Core.Path.{_≡_}
+use mathlib.Core.Bool.{cond, not, _&&_}
+use mathlib.Core.List.{List}
+use mathlib.Core.Option.{Option, none, some}
+use lib.ListN.{length, getD}
+use lib.Dec.{eqb}
+use Rattle.format.specs.Field.{table}
+use Rattle.format.specs.Order.{Refusal, first}
+use Rattle.format.specs.Bits.{total}
+use Rattle.format.specs.Nibbles.{Attachment, nibbles, odd, tailNibbles, attachmentsOf}
+use Rattle.format.specs.Sheet.{Sheet, size}
+use Rattle.format.specs.Report.{codesOf, countOf, tailOf, fieldChecks, reportChecks, Verdict, refused, accepted}
+use Rattle.format.specs.Machine.{contentOf}
+use Rattle.tail.specs.Walk.{placeOf}
+use Rattle.tail.specs.declared.Tail.{Tail}
+use Rattle.report.specs.declared.Judged.{Judged}
+use Rattle.report.specs.declared.Judged.the-variants.{Refused as JRefused, Accepted}
+use Rattle.report.specs.declared.Report.{Report}
+use Rattle.report.specs.declared.Inspected.{Inspected}
+use Rattle.report.specs.declared.Inspected.the-variants.{Refused, Fine}
+
+-- the verdict: the refusal's number and place, or the report's size in bytes
+abbrev pub judgedOf : Verdict → Judged
+judgedOf (refused r) = JRefused (r .number) (r .place)
+judgedOf (accepted s) = Accepted (size s)
+
+-- what an accepted report shows on the way: the sum of its codes, AC, its end in nibbles, and the place and AL of id i
+abbrev pub reportOf : List ℕ → ℕ → List Attachment → Report
+reportOf b i list =
+    record {
+      sum = total (codesOf b);
+      count = countOf b;
+      end = 75 + length (tailNibbles list);
+      place = placeOf 75 i list;
+      al = length (contentOf i list);
+    }
+
+abbrev pub inspectedBy : Option Refusal → Report → Inspected
+inspectedBy (some r) report = Refused (r .number) (r .place)
+inspectedBy none report = Fine report
+
+-- the first refusal that fits, or what the report shows
+unfoldable pub inspected : List ℕ → ℕ → Inspected
+inspected b i = inspectedBy (first (reportChecks b)) (reportOf b i (attachmentsOf (countOf b) (tailOf b)))
+
+-- what the last nibble decides, behind a tail
+abbrev pub lastOf : List ℕ → ℕ → ℕ → Tail → Inspected
+lastOf b sum count t =
+    cond (odd (t .end) && not (eqb (getD (nibbles b) (t .end) 0) 0)) (Refused 7 0)
+    (Fine (record { sum = sum; count = count; end = t .end; place = t .place; al = t .al }))
+
+-- the length and the fields have passed
+pub record FieldsPass (b : List ℕ) (sum : ℕ) : Type 0 where
+  pub long : 38 ≤ length b
+  pub fields : first (fieldChecks 1 table (codesOf b)) ≡ none
+  pub is : sum ≡ total (codesOf b)

@@ -1,0 +1,101 @@
+// A report judged: its length, fields, checksum, attachments and odd last nibble, in one walk.
+ghost use mathlib.Core.Path.{_≡_};
+ghost use Prim.Native.Nat.{_*_, _≤_};
+ghost use lib.ListN.{length};
+ghost use Rattle.format.specs.Report.{judge};
+ghost use Rattle.report.specs.Answers.{judgedOf, inspected, lastOf, FieldsPass};
+use card::CardCheck;
+use nibble::Cursor;
+use tail::Tail;
+use tail::Walked;
+
+pub enum Judged {
+    // The refusal's number and place.
+    Refused(u8, usize),
+    // The report's size in bytes.
+    Accepted(usize),
+}
+
+// What an accepted report shows on the way: the sum of its coded fields, AC, its end in nibbles, and for the id asked for
+// the place of its header and its AL, both 0 where it does not stand.
+pub struct Report {
+    pub sum: u64,
+    pub count: usize,
+    pub end: usize,
+    pub place: usize,
+    pub al: usize,
+}
+
+pub enum Inspected {
+    Refused(u8, usize),
+    Fine(Report),
+}
+
+// The odd last nibble is 0.
+fn last(s: &[u8], sum: u64, count: usize, t: Tail) -> Inspected
+    requires { ⌜ t .end ≤ 2 * length (now s) ⌝ }
+    ensures { λ r. ⌜ r ≡ lastOf (now (s .entry)) sum count t ⌝ }
+{
+    let end = t.end;
+    if end % 2 == 1 {
+        if nibble::nibble_at(s, end, true) != 0 {
+            return Inspected::Refused(7, 0);
+        }
+    }
+    Inspected::Fine(Report {
+        sum,
+        count,
+        end,
+        place: t.place,
+        al: t.al,
+    })
+}
+
+// The checksum, the attachments, the last nibble.
+fn inspect_tail(s: &[u8], sum: u64, want: usize) -> Inspected
+    requires { ⌜ FieldsPass (now s) sum ⌝ }
+    ensures { λ r. ⌜ r ≡ inspected (now (s .entry)) want ⌝ }
+{
+    if card::checksum(s) != card::checksum_of(sum) {
+        return Inspected::Refused(4, 0);
+    }
+    let count = card::count(s);
+    let w = tail::walk(
+        s,
+        Cursor {
+            at: 75,
+            packed: true,
+        },
+        count,
+        want,
+    );
+    match w {
+        Walked::Refused(n, p) => Inspected::Refused(n, p),
+        Walked::Ended(t) => last(s, sum, count, t),
+    }
+}
+
+// Judges the report, and says where id `want` stands in it.
+pub fn inspect(s: &[u8], want: usize) -> Inspected
+    ensures { λ r. ⌜ r ≡ inspected (now (s .entry)) want ⌝ }
+{
+    if s.len() < 38 {
+        return Inspected::Refused(1, 0);
+    }
+    let c = card::check(s);
+    match c {
+        CardCheck::Refused(n, p) => Inspected::Refused(n, p),
+        CardCheck::Sum(sum) => inspect_tail(s, sum, want),
+    }
+}
+
+// Judges the report that a buffer begins with.
+pub fn judge(s: &[u8]) -> Judged
+    ensures { λ r. ⌜ r ≡ judgedOf (judge (now (s .entry))) ⌝ }
+{
+    let i = inspect(s, 0);
+    match i {
+        Inspected::Refused(n, p) => Judged::Refused(n, p),
+        Inspected::Fine(r) => Judged::Accepted(r.end / 2 + r.end % 2),
+    }
+}

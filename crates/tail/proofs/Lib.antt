@@ -1,0 +1,4 @@
+pub mod Mask
+pub mod Checks
+pub mod Turns
+pub mod Count

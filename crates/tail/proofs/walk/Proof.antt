@@ -1,0 +1,85 @@
+-- `tail::walk` meets its contract: what is still to be walked gives the answer.
+-- Assumes nothing.
+use Prim.Native.Nat.{_-_}
+use mathlib.Core.Path.{sym, _∙_}
+use native.Mathlib.Omega.{arith}
+use denote.Ref.{now}
+use borrow.Author.Needs.{needs}
+use Rattle.tail.proofs.Checks.{passes, passed-small}
+use Rattle.tail.proofs.Turns.{Walking, here, walk-start, walk-fault, walk-more, walk-end}
+use Rattle.tail.proofs.walk.Statement.{statement}
+use Rattle.tail.proofs.walk.Tie as tie
+
+abbrev Inv-loop : tie.InvT-loop
+Inv-loop s count want packed st₀ i₀ st i = Walking s (record { at = st₀ .at; packed = packed }) count want st i
+
+abbrev μ-loop : tie.MeasureT-loop
+μ-loop s count want packed st₀ i₀ st i = count - i
+
+loop-holds : tie.Need-loop-holds Inv-loop μ-loop
+loop-holds c =
+    let a = c .before .args in
+    walk-start (now (a .s)) (a .c) (a .count) (a .want) (c .before .pre .2)
+
+look-requires : tie.Need-look-requires Inv-loop μ-loop
+look-requires c κs =
+    let l = c .before .loop in
+    (c .before .before .before .pre .0, omega (arith, l .inv .few, l .inv .low, l .inv .near))
+
+enum-known-l : tie.Need-enum-known-l Inv-loop μ-loop
+enum-known-l c = search needs
+
+add-t14 : tie.Need-add-t14 Inv-loop μ-loop
+add-t14 c = search needs
+
+returns : tie.Need-returns Inv-loop μ-loop
+returns c =
+    let a = c .before .before .before .before .before .before .before .args in
+    let l = c .before .before .before .before .before .loop in
+    walk-fault (now (a .s)) (a .c) (a .count) (a .want) (l .st) (l .i) (l .inv) (omega arith) _ (sym (c .before .before .before .look .ensures) ∙ c .before .l .given .1)
+
+enum-known-l-2 : tie.Need-enum-known-l-2 Inv-loop μ-loop
+enum-known-l-2 c = search needs
+
+passed-requires : tie.Need-passed-requires Inv-loop μ-loop
+passed-requires c κs =
+    let a = c .before .before .before .before .before .before .before .args in
+    let l = c .before .before .before .before .before .loop in
+    let s = passed-small (now (a .s)) (here (a .c) (l .st)) (l .st .mask) _ _ (c .before .before .before .before .before .before .before .pre .0) (passes _ _ _ _ _ (sym (c .before .before .before .look .ensures) ∙ c .before .l2 .given .1)) in
+    (omega (arith, l .inv .few, l .inv .low, l .inv .near), s .0, s .1)
+
+add-i : tie.Need-add-i Inv-loop μ-loop
+add-i c = search needs
+
+loop-less : tie.Need-loop-less Inv-loop μ-loop
+loop-less c = search needs
+
+loop-again : tie.Need-loop-again Inv-loop μ-loop
+loop-again c =
+    let a = c .before .before .before .before .before .before .before .before .args in
+    let l = c .before .before .before .before .before .before .loop in
+    rw (c .passed .ensures) (walk-more (now (a .s)) (a .c) (a .count) (a .want) (l .st) (l .i) (l .inv) (omega arith) _ _ (c .before .before .before .before .before .before .before .before .pre .0) (sym (c .before .before .before .before .look .ensures) ∙ c .before .before .l2 .given .1))
+
+returns-2 : tie.Need-returns-2 Inv-loop μ-loop
+returns-2 c =
+    let a = c .before .before .before .args in
+    let l = c .before .loop in
+    walk-end (now (a .s)) (a .c) (a .count) (a .want) (l .st) (l .i) (l .inv) (omega arith)
+
+pub walk-spec : {M : Type 1} → statement M
+walk-spec =
+    tie.close
+    (tie.spec
+    Inv-loop
+    μ-loop
+    loop-holds
+    look-requires
+    enum-known-l
+    add-t14
+    returns
+    enum-known-l-2
+    passed-requires
+    add-i
+    loop-less
+    loop-again
+    returns-2)

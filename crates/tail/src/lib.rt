@@ -1,0 +1,177 @@
+// The attachments behind the card: a walk that checks each, and says where they end and where one id stands.
+ghost use mathlib.Core.Path.{_≡_};
+ghost use Prim.Native.Nat.{_+_, _≤_, _<_, _^_};
+ghost use lib.ListN.{length, drop};
+ghost use Rattle.format.specs.Nibbles.{behind};
+ghost use Rattle.format.specs.Report.{bodyValid};
+ghost use Rattle.format.specs.Whole.{countIn};
+ghost use Rattle.laws.proofs.Nibbles.{Nibbles};
+ghost use Rattle.nibble.specs.View.{view, part};
+ghost use Rattle.tail.specs.Look.{judgedAt, lookedAt, passedBy};
+ghost use Rattle.tail.specs.Walk.{walked};
+use nibble::Cursor;
+use nibble::Header;
+
+// Where attachments end, and the place of the header of an id and its AL, both 0 where the id does not stand.
+pub struct Tail {
+    pub end: usize,
+    pub place: usize,
+    pub al: usize,
+}
+
+pub enum Walked {
+    // The refusal's number, and the attachment's position from 1.
+    Refused(u8, usize),
+    Ended(Tail),
+}
+
+// What a look at one attachment finds.
+enum Looked {
+    // The refusal's number.
+    Fault(u8),
+    // AL and AID.
+    Fine(usize, usize),
+}
+
+// A walk's place, the ids seen, and the place of the header of an id and its AL.
+struct State {
+    at: usize,
+    mask: u64,
+    place: usize,
+    al: usize,
+}
+
+// Whether len nibbles from a place on may stand under an id.
+pub fn body_valid(s: &[u8], c: Cursor, id: usize, len: usize) -> bool
+    requires { ⌜ (c .at + len ≤ length (view (c .packed) (now s))) × (c .at + len ≤ 2 ^ 32) × (len ≤ 4096) ⌝ }
+    ensures { λ r. ⌜ r ≡ bodyValid id (part (now (s .entry)) c len) ⌝ }
+{
+    if id == 1 {
+        return flags::valid(s, c, len);
+    }
+    if id == 4 {
+        return text::valid(s, c, len);
+    }
+    true
+}
+
+// The attachment of this AL and AID whose data begin at a place.
+fn judged(s: &[u8], c: Cursor, al: usize, id: usize, mask: u64) -> Looked
+    requires { ⌜ (c .at ≤ length (view (c .packed) (now s))) × (c .at ≤ 2 ^ 31) × (al < 256) × (id < 16) ⌝ }
+    ensures { λ r. ⌜ r ≡ judgedAt (now (s .entry)) c al id mask ⌝ }
+{
+    let last = c.at + al;
+    let packed = c.packed;
+    if al == 0 {
+        return Looked::Fault(5);
+    }
+    if id == 0 {
+        return Looked::Fault(5);
+    }
+    if (mask >> id) % 2 == 1 {
+        return Looked::Fault(5);
+    }
+    if nibble::inside(s, last - 1, packed) {
+        if body_valid(s, c, id, al) {
+            return Looked::Fine(al, id);
+        }
+        return Looked::Fault(6);
+    }
+    Looked::Fault(1)
+}
+
+// The attachment at a place.
+fn look(s: &[u8], c: Cursor, mask: u64) -> Looked
+    requires { ⌜ Nibbles (view (c .packed) (now s)) × (c .at ≤ 2 ^ 30) ⌝ }
+    ensures { λ r. ⌜ r ≡ lookedAt (now (s .entry)) c mask ⌝ }
+{
+    let h = c.header(s);
+    match h {
+        Header::Short => Looked::Fault(1),
+        Header::Head(al, id, body) => judged(s, body, al, id, mask),
+    }
+}
+
+// The state behind an attachment.
+fn passed(st: State, al: usize, id: usize, want: usize) -> State
+    requires { ⌜ (st .at ≤ 2 ^ 30) × (al < 256) × (id < 16) ⌝ }
+    ensures { λ r. ⌜ r ≡ passedBy st al id want ⌝ }
+{
+    let at = st.at + (3 + al);
+    let mask = st.mask | (1 << id);
+    if id == want {
+        return State {
+            at,
+            mask,
+            place: st.at,
+            al,
+        };
+    }
+    State {
+        at,
+        mask,
+        place: st.place,
+        al: st.al,
+    }
+}
+
+// Checks count attachments from a place on; where they end, and where an id stands among them.
+pub fn walk(s: &[u8], c: Cursor, count: usize, want: usize) -> Walked
+    requires { ⌜ Nibbles (view (c .packed) (now s)) × (c .at ≤ length (view (c .packed) (now s))) × (c .at ≤ 65536) ⌝ }
+    ensures { λ r. ⌜ r ≡ walked (now (s .entry)) c count want ⌝ }
+{
+    let packed = c.packed;
+    let mut st = State {
+        at: c.at,
+        mask: 0,
+        place: 0,
+        al: 0,
+    };
+    let mut i = 0;
+    while i < count {
+        let l = look(s, Cursor { at: st.at, packed }, st.mask);
+        match l {
+            Looked::Fault(n) => {
+                return Walked::Refused(n, i + 1);
+            }
+            Looked::Fine(al, id) => {
+                st = passed(st, al, id, want);
+            }
+        }
+        i += 1;
+    }
+    Walked::Ended(Tail {
+        end: st.at,
+        place: st.place,
+        al: st.al,
+    })
+}
+
+// The place behind the attachment at a place, one nibble a byte, or the end.
+fn next(s: &[u8], at: usize) -> usize
+    requires { ⌜ at < length (now s) ⌝ }
+    ensures { λ r. ⌜ (at < r) × (r ≤ length (now (s .entry))) × (drop r (now (s .entry)) ≡ behind (drop at (now (s .entry)))) ⌝ }
+{
+    let left = s.len() - at;
+    if left <= 3 {
+        return s.len();
+    }
+    let al = nibble::wide(s[at]) * 16 + nibble::wide(s[at + 1]);
+    if left - 3 <= al {
+        return s.len();
+    }
+    at + 3 + al
+}
+
+// How many attachments stand in a tail, one nibble a byte.
+pub fn count_in(s: &[u8]) -> usize
+    ensures { λ r. ⌜ r ≡ countIn (now (s .entry)) ⌝ }
+{
+    let mut at = 0;
+    let mut count = 0;
+    while at < s.len() {
+        at = next(s, at);
+        count += 1;
+    }
+    count
+}

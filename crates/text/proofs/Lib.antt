@@ -1,0 +1,5 @@
+pub mod Codes
+pub mod Steps
+pub mod Stores
+pub mod Bodies
+pub mod Writer

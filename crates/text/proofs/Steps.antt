@@ -1,0 +1,127 @@
+-- One law for each answer of the functions that take a nibble.
+-- Assumes nothing.
+use Prim.Native.Nat.{ℕ, _+_, _*_, _/_, _%_, _≤_, _<_}
+use native.Mathlib.Omega.{arith}
+use mathlib.Core.Path.{_≡_, refl, sym, ap, ap₂, subst, _∙_}
+use mathlib.Core.Bool.{Bool, true, false, cond, not, _&&_}
+use lib.Dec.{ltb, eqb}
+use borrow.Author.Tests.{lt-ltb, le-ltb, eq-eqb, ne-eqb}
+use Rattle.format.specs.declared.TextState.{TextState}
+use Rattle.format.specs.declared.TextState.the-variants.{Between, Run, Pair, Escape, Half, Invalid}
+use Rattle.format.specs.declared.TextStep.{TextStep}
+use Rattle.format.specs.declared.TextStep.the-variants.{On, Plain, Original}
+use Rattle.format.specs.ShipText.{charCode, short, escapable, pairByte, textStep}
+use Rattle.laws.proofs.Lists.{test-case}
+use Rattle.laws.proofs.Characters.{no-column, no-row}
+use Rattle.text.specs.Answers.{held}
+
+-- ---- between two codes
+
+pub between-digit : (s n : ℕ) → n < 10 → Plain s (48 + n) ≡ textStep (Between s) n
+unfolding textStep
+between-digit s n h = rw (lt-ltb n 10 h)
+
+pub between-space : (s n : ℕ) → n ≡ 10 → s % 18 < 2 → On (Between (s + 1)) ≡ textStep (Between s) n
+unfolding textStep
+between-space s n h k = rw (h, lt-ltb (s % 18) 2 k)
+
+pub between-crowd : (s n : ℕ) → n ≡ 10 → 2 ≤ s % 18 → On Invalid ≡ textStep (Between s) n
+unfolding textStep
+between-crowd s n h k = rw (h, le-ltb (s % 18) 2 k)
+
+pub between-run : (s n : ℕ) → n ≡ 11 → On (Run s) ≡ textStep (Between s) n
+unfolding textStep
+between-run s n h = rw h
+
+pub between-pair : (s n : ℕ) → 12 ≤ n → n < 15 → On (Pair s n) ≡ textStep (Between s) n
+unfolding textStep
+between-pair s n h k = rw (le-ltb n 10 (omega arith), ne-eqb n 10 (λ e. omega arith), ne-eqb n 11 (λ e. omega arith), lt-ltb n 15 k)
+
+pub between-escape : (s n : ℕ) → n ≡ 15 → On (Escape s) ≡ textStep (Between s) n
+unfolding textStep
+between-escape s n h = rw h
+
+pub between-over : (s n : ℕ) → 16 ≤ n → On Invalid ≡ textStep (Between s) n
+unfolding textStep
+between-over s n h =
+    rw (le-ltb n 10 (omega arith), ne-eqb n 10 (λ e. omega arith), ne-eqb n 11 (λ e. omega arith), le-ltb n 15 (omega arith), ne-eqb n 15 (λ e. omega arith))
+
+-- ---- in a run
+
+pub run-fits : (s n : ℕ) → s % 18 ≡ 0 → n < 16 → On (Between (s + (n + 3))) ≡ textStep (Run s) n
+unfolding textStep
+run-fits s n h k = rw (eq-eqb (s % 18) 0 h, lt-ltb n 16 k)
+
+pub run-over : (s n : ℕ) → s % 18 ≡ 0 → 16 ≤ n → On Invalid ≡ textStep (Run s) n
+unfolding textStep
+run-over s n h k = rw (eq-eqb (s % 18) 0 h, le-ltb n 16 k)
+
+pub run-crowd : (s n : ℕ) → (s % 18 ≡ 0 → ⊥) → On Invalid ≡ textStep (Run s) n
+unfolding textStep
+run-crowd s n h = rw (ne-eqb (s % 18) 0 h)
+
+-- ---- in a pair
+
+pub pair-column : (s z n : ℕ) → 16 ≤ z → On Invalid ≡ textStep (Pair s z) n
+unfolding textStep
+pair-column s z n h = rw (no-column z n h)
+
+pub pair-row : (s z n : ℕ) → 16 ≤ n → On Invalid ≡ textStep (Pair s z) n
+unfolding textStep
+pair-row s z n h = rw (no-row z n h)
+
+-- the byte of a pair, from the pair as one number
+pair-is : (z n b : ℕ) → n < 16 → b ≡ pairByte ((z * 16 + n) / 16) ((z * 16 + n) % 16) → b ≡ pairByte z n
+pair-is z n b h e =
+    let d : (z * 16 + n) / 16 ≡ z = omega arith in
+    let m : (z * 16 + n) % 16 ≡ n = omega arith in
+    e ∙ ap₂ pairByte d m
+
+pub pair-bad : (s z n b : ℕ) → n < 16 → b ≡ pairByte ((z * 16 + n) / 16) ((z * 16 + n) % 16) → b ≡ 0 → On Invalid ≡ textStep (Pair s z) n
+unfolding textStep
+pair-bad s z n b k e h = rw (← pair-is z n b k e, h)
+
+pub pair-good : (s z n b : ℕ) → n < 16 → b ≡ pairByte ((z * 16 + n) / 16) ((z * 16 + n) % 16) → (b ≡ 0 → ⊥) → Plain s b ≡ textStep (Pair s z) n
+unfolding textStep
+pair-good s z n b k e h = rw (← pair-is z n b k e, ne-eqb b 0 h)
+
+-- ---- in an escape
+
+pub escape-high : (s n : ℕ) → n < 16 → On (Half s n) ≡ textStep (Escape s) n
+unfolding textStep
+escape-high s n h = rw (lt-ltb n 16 h)
+
+pub escape-over : (s n : ℕ) → 16 ≤ n → On Invalid ≡ textStep (Escape s) n
+unfolding textStep
+escape-over s n h = rw (le-ltb n 16 h)
+
+pub half-over : (s h n : ℕ) → 16 ≤ n → On Invalid ≡ textStep (Half s h) n
+unfolding textStep
+half-over s h n k = rw (le-ltb n 16 k)
+
+pub half-large : (s h n : ℕ) → 16 ≤ h → On Invalid ≡ textStep (Half s h) n
+unfolding textStep escapable
+half-large s h n k =
+    test-case (ltb n 16) (λ e. rw (e, le-ltb (h * 16 + n) 256 (omega arith))) (λ e. rw e)
+
+pub half-short : (s h n v : ℕ) → h < 16 → n < 16 → v ≡ charCode (h * 16 + n) → v < 256 → On Invalid ≡ textStep (Half s h) n
+unfolding textStep escapable short
+half-short s h n v g k e l = rw (lt-ltb n 16 k, lt-ltb (h * 16 + n) 256 (omega arith), ← e, lt-ltb v 256 l)
+
+pub half-good : (s h n v : ℕ) → h < 16 → n < 16 → v ≡ charCode (h * 16 + n) → 256 ≤ v → Original s (h * 16 + n) ≡ textStep (Half s h) n
+unfolding textStep escapable short
+half-good s h n v g k e l = rw (lt-ltb n 16 k, lt-ltb (h * 16 + n) 256 (omega arith), ← e, le-ltb v 256 l)
+
+-- ---- any state
+
+pub invalid-step : (n : ℕ) → On Invalid ≡ textStep Invalid n
+unfolding textStep
+invalid-step n = refl
+
+pub held-between : (st : TextState) (s m : ℕ) → st ≡ Between s → held st ≤ m → s ≤ m
+unfolding held
+held-between st s m e h = subst (λ (u : TextState). held u ≤ m) e h
+
+pub held-run : (st : TextState) (s m : ℕ) → st ≡ Run s → held st ≤ m → s ≤ m
+unfolding held
+held-run st s m e h = subst (λ (u : TextState). held u ≤ m) e h

@@ -1,0 +1,40 @@
+-- What the code answers, from the definitions.
+use Prim.Native.Nat.{ℕ, _≤_}
+use mathlib.Core.Path.{_≡_}
+use mathlib.Core.Bool.{cond}
+use mathlib.Core.List.{List, [], _∷_, _++_, map}
+use lib.ListN.{length, replicate}
+use lib.Dec.{leb}
+use Rattle.format.specs.declared.TextState.{TextState}
+use Rattle.format.specs.declared.TextState.the-variants.{Between, Run, Pair, Escape, Half, Invalid}
+use Rattle.format.specs.declared.TextStep.{TextStep}
+use Rattle.format.specs.ShipText.{byteOf, symbolsOf, writeText}
+use Rattle.format.specs.Machine.{over}
+use Rattle.text.specs.declared.Written.{Written}
+use Rattle.text.specs.declared.Written.the-variants.{Fits, TooLong}
+
+-- the spaces that wait in a state
+unfoldable pub held : TextState → ℕ
+held (Between s) = s
+held (Run s) = s
+held (Pair s z) = s
+held (Escape s) = s
+held (Half s h) = s
+held Invalid = 0
+
+-- a byte behind s spaces
+unfoldable pub word : ℕ → ℕ → List ℕ
+word s b = replicate s 32 ++ (b ∷ [])
+
+-- the bytes that a nibble brings
+unfoldable pub bytesOf : TextStep → List ℕ
+bytesOf t = map byteOf (symbolsOf t)
+
+-- how many nibbles a text takes, of 255
+unfoldable pub writtenOf : List ℕ → Written
+writtenOf t = cond (leb (length (writeText t)) 255) (Fits (length (writeText t))) TooLong
+
+-- the answer to a text, and the array after it
+pub record Writes (t before after : List ℕ) (r : Written) : Type 0 where
+  pub answer : r ≡ writtenOf t
+  pub nibbles : length (writeText t) ≤ 255 → after ≡ over (writeText t) before

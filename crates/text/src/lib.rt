@@ -1,0 +1,411 @@
+// The ship text of attachment 4: whether a body is valid, the text of a body, the nibbles of a text.
+ghost use mathlib.Core.Path.{_≡_};
+ghost use Prim.Native.Nat.{_+_, _*_, _/_, _%_, _≤_, _<_, _^_};
+ghost use lib.ListN.{length, set};
+ghost use lib.Seq.{sets};
+ghost use Rattle.format.specs.ShipText.{charCode, pairByte, codeNibbles, fulls, rest, spaceRun, textStep, stateAfter, symbolsOf, atEnd, textValid, readText};
+ghost use Rattle.format.specs.Machine.{over};
+ghost use Rattle.laws.proofs.ShipText.{piece, waiting};
+ghost use Rattle.nibble.specs.View.{view, part};
+ghost use Rattle.text.specs.Answers.{held, word, bytesOf, Writes};
+use format::TextState;
+use format::TextStep;
+use nibble::Cursor;
+
+// ---- characters
+
+// The nibbles of a byte, as one number.
+fn char_code(b: u8) -> u16
+    ensures { λ r. ⌜ r ≡ charCode b ⌝ }
+{
+    let v = b as u16;
+    match b {
+        32 => 10,
+        38 => 202,
+        43 => 203,
+        45 => 218,
+        123 => 192,
+        125 => 208,
+        47 => 225,
+        48..=57 => v - 48,
+        65..=73 => v + 128,
+        74..=82 => v + 135,
+        83..=90 => v + 143,
+        _ => v + 3840,
+    }
+}
+
+// The byte of a pair, 0 where the pair is undefined.
+fn pair_byte(v: u8) -> u8
+    ensures { λ r. ⌜ r ≡ pairByte (v / 16) (v % 16) ⌝ }
+{
+    match v {
+        192 => 123,
+        202 => 38,
+        203 => 43,
+        208 => 125,
+        218 => 45,
+        225 => 47,
+        193..=201 => v - 128,
+        209..=217 => v - 135,
+        226..=233 => v - 143,
+        _ => 0,
+    }
+}
+
+// ---- one nibble
+
+fn between_step(s: usize, n: u8) -> TextStep
+    requires { ⌜ s ≤ 2 ^ 32 ⌝ }
+    ensures { λ r. ⌜ r ≡ textStep (TextState.Between s) n ⌝ }
+{
+    if n < 10 {
+        return TextStep::Plain(s, 48 + n);
+    }
+    if n == 10 {
+        if s % 18 < 2 {
+            return TextStep::On(TextState::Between(s + 1));
+        }
+        return TextStep::On(TextState::Invalid);
+    }
+    if n == 11 {
+        return TextStep::On(TextState::Run(s));
+    }
+    if n < 15 {
+        return TextStep::On(TextState::Pair(s, n));
+    }
+    if n == 15 {
+        return TextStep::On(TextState::Escape(s));
+    }
+    TextStep::On(TextState::Invalid)
+}
+
+fn run_step(s: usize, n: u8) -> TextStep
+    requires { ⌜ s ≤ 2 ^ 32 ⌝ }
+    ensures { λ r. ⌜ r ≡ textStep (TextState.Run s) n ⌝ }
+{
+    if s % 18 == 0 {
+        if n < 16 {
+            return TextStep::On(TextState::Between(s + (n as usize + 3)));
+        }
+        return TextStep::On(TextState::Invalid);
+    }
+    TextStep::On(TextState::Invalid)
+}
+
+fn pair_step(s: usize, z: u8, n: u8) -> TextStep
+    ensures { λ r. ⌜ r ≡ textStep (TextState.Pair s z) n ⌝ }
+{
+    if 15 < z {
+        return TextStep::On(TextState::Invalid);
+    }
+    if 15 < n {
+        return TextStep::On(TextState::Invalid);
+    }
+    let b = pair_byte(z * 16 + n);
+    if b == 0 {
+        return TextStep::On(TextState::Invalid);
+    }
+    TextStep::Plain(s, b)
+}
+
+fn escape_step(s: usize, n: u8) -> TextStep
+    ensures { λ r. ⌜ r ≡ textStep (TextState.Escape s) n ⌝ }
+{
+    if n < 16 {
+        return TextStep::On(TextState::Half(s, n));
+    }
+    TextStep::On(TextState::Invalid)
+}
+
+fn half_step(s: usize, h: u8, n: u8) -> TextStep
+    ensures { λ r. ⌜ r ≡ textStep (TextState.Half s h) n ⌝ }
+{
+    if 15 < h {
+        return TextStep::On(TextState::Invalid);
+    }
+    if 15 < n {
+        return TextStep::On(TextState::Invalid);
+    }
+    let b = h * 16 + n;
+    let v = char_code(b);
+    if v < 256 {
+        return TextStep::On(TextState::Invalid);
+    }
+    TextStep::Original(s, b)
+}
+
+// What a nibble brings.
+pub fn step(st: TextState, n: u8) -> TextStep
+    requires { ⌜ held st ≤ 2 ^ 32 ⌝ }
+    ensures { λ r. ⌜ r ≡ textStep st n ⌝ }
+{
+    match st {
+        TextState::Between(s) => between_step(s, n),
+        TextState::Run(s) => run_step(s, n),
+        TextState::Pair(s, z) => pair_step(s, z, n),
+        TextState::Escape(s) => escape_step(s, n),
+        TextState::Half(s, h) => half_step(s, h, n),
+        TextState::Invalid => TextStep::On(TextState::Invalid),
+    }
+}
+
+// ---- a whole body
+
+pub struct Move {
+    pub to: TextState,
+    pub more: usize,
+}
+
+// The state after a nibble, and how many symbols it gave.
+fn advance(st: TextState, n: u8) -> Move
+    requires { ⌜ held st ≤ 2 ^ 32 ⌝ }
+    ensures { λ r. ⌜ (r .to ≡ stateAfter (textStep st n)) × (r .more ≡ length (symbolsOf (textStep st n))) ⌝ }
+{
+    let t = step(st, n);
+    match t {
+        TextStep::On(to) => Move { to, more: 0 },
+        TextStep::Plain(s, _) => Move {
+            to: TextState::Between(0),
+            more: s + 1,
+        },
+        TextStep::Original(s, _) => Move {
+            to: TextState::Between(0),
+            more: s + 1,
+        },
+    }
+}
+
+fn at_end(st: TextState) -> bool
+    ensures { λ r. ⌜ r ≡ atEnd st ⌝ }
+{
+    match st {
+        TextState::Between(s) => s == 0,
+        TextState::Run(_) => false,
+        TextState::Pair(_, _) => false,
+        TextState::Escape(_) => false,
+        TextState::Half(_, _) => false,
+        TextState::Invalid => false,
+    }
+}
+
+// Whether the writer gives these nibbles for some text.
+pub fn valid(s: &[u8], c: Cursor, len: usize) -> bool
+    requires { ⌜ (c .at + len ≤ length (view (c .packed) (now s))) × (c .at ≤ 2 ^ 32) × (len ≤ 4096) ⌝ }
+    ensures { λ r. ⌜ r ≡ textValid (part (now (s .entry)) c len) ⌝ }
+{
+    let at = c.at;
+    let packed = c.packed;
+    let mut st = TextState::Between(0);
+    let mut i = 0;
+    while i < len {
+        let n = nibble::nibble_at(s, at + i, packed);
+        let m = advance(st, n);
+        st = m.to;
+        i += 1;
+    }
+    at_end(st)
+}
+
+// The length of the text of a body.
+pub fn text_length(s: &[u8], c: Cursor, len: usize) -> usize
+    requires { ⌜ (c .at + len ≤ length (view (c .packed) (now s))) × (c .at ≤ 2 ^ 32) × (len ≤ 4096) ⌝ }
+    ensures { λ r. ⌜ r ≡ length (readText (part (now (s .entry)) c len)) ⌝ }
+{
+    let at = c.at;
+    let packed = c.packed;
+    let mut st = TextState::Between(0);
+    let mut count = 0;
+    let mut i = 0;
+    while i < len {
+        let n = nibble::nibble_at(s, at + i, packed);
+        let m = advance(st, n);
+        st = m.to;
+        count += m.more;
+        i += 1;
+    }
+    count
+}
+
+// So many spaces and a byte, from a place on.
+fn put_word(out: &mut [u8], at: usize, s: usize, b: u8)
+    requires { ⌜ at + s < length (now out) ⌝ }
+    ensures { λ _. ⌜ now (out .exit) ≡ sets (now (out .entry)) at (word s b) ⌝ }
+{
+    let mut i = 0;
+    while i < s {
+        out[at + i] = 32;
+        i += 1;
+    }
+    out[at + s] = b;
+}
+
+// Takes a nibble, and writes the bytes that it gives.
+fn put_step(out: &mut [u8], at: usize, st: TextState, n: u8) -> Move
+    requires { ⌜ (held st ≤ 2 ^ 32) × (at + length (symbolsOf (textStep st n)) ≤ length (now out)) ⌝ }
+    ensures { λ r. ⌜ (r .to ≡ stateAfter (textStep st n)) × (r .more ≡ length (symbolsOf (textStep st n))) × (now (out .exit) ≡ sets (now (out .entry)) at (bytesOf (textStep st n))) ⌝ }
+{
+    let t = step(st, n);
+    match t {
+        TextStep::On(to) => Move { to, more: 0 },
+        TextStep::Plain(s, b) => {
+            put_word(out, at, s, b);
+            Move {
+                to: TextState::Between(0),
+                more: s + 1,
+            }
+        }
+        TextStep::Original(s, b) => {
+            put_word(out, at, s, b);
+            Move {
+                to: TextState::Between(0),
+                more: s + 1,
+            }
+        }
+    }
+}
+
+// Writes the text of a body.
+pub fn read(s: &[u8], c: Cursor, len: usize, out: &mut [u8])
+    requires { ⌜ (c .at + len ≤ length (view (c .packed) (now s))) × (c .at ≤ 2 ^ 32) × (len ≤ 4096) × (length (readText (part (now s) c len)) ≤ length (now out)) ⌝ }
+    ensures { λ _. ⌜ now (out .exit) ≡ over (readText (part (now (s .entry)) c len)) (now (out .entry)) ⌝ }
+{
+    let at = c.at;
+    let packed = c.packed;
+    let mut st = TextState::Between(0);
+    let mut count = 0;
+    let mut i = 0;
+    while i < len {
+        let n = nibble::nibble_at(s, at + i, packed);
+        let m = put_step(out, count, st, n);
+        st = m.to;
+        count += m.more;
+        i += 1;
+    }
+}
+
+// ---- the writer
+
+// Writes a nibble, unless its place is behind the end.
+fn put(out: &mut [u8], at: usize, n: u8)
+    ensures { λ _. ⌜ now (out .exit) ≡ set (now (out .entry)) at n ⌝ }
+{
+    if at < out.len() {
+        out[at] = n;
+    }
+}
+
+fn put_fulls(out: &mut [u8], at: usize, k: usize)
+    requires { ⌜ at + 2 * k < 2 ^ 64 ⌝ }
+    ensures { λ _. ⌜ now (out .exit) ≡ sets (now (out .entry)) at (fulls k) ⌝ }
+{
+    let mut i = 0;
+    while i < k {
+        put(out, at + 2 * i, 11);
+        put(out, at + 2 * i + 1, 15);
+        i += 1;
+    }
+}
+
+fn put_rest(out: &mut [u8], at: usize, r: usize) -> usize
+    requires { ⌜ (at < 2 ^ 63) × (r < 18) ⌝ }
+    ensures { λ x. ⌜ (x ≡ at + length (rest r)) × (now (out .exit) ≡ sets (now (out .entry)) at (rest r)) ⌝ }
+{
+    if r == 0 {
+        return at;
+    }
+    if r == 1 {
+        put(out, at, 10);
+        return at + 1;
+    }
+    if r == 2 {
+        put(out, at, 10);
+        put(out, at + 1, 10);
+        return at + 2;
+    }
+    put(out, at, 11);
+    put(out, at + 1, (r - 3) as u8);
+    at + 2
+}
+
+// Writes a run of spaces, and gives the place behind it.
+fn put_run(out: &mut [u8], at: usize, s: usize) -> usize
+    requires { ⌜ (at ≤ 255) × (s < 2 ^ 63) ⌝ }
+    ensures { λ x. ⌜ (x ≡ at + length (spaceRun s)) × (now (out .exit) ≡ sets (now (out .entry)) at (spaceRun s)) ⌝ }
+{
+    let k = s / 18;
+    put_fulls(out, at, k);
+    put_rest(out, at + 2 * k, s % 18)
+}
+
+// Writes a code's nibbles, and gives the place behind them.
+fn put_code(out: &mut [u8], at: usize, v: u16) -> usize
+    requires { ⌜ (at < 2 ^ 63 + 256) × (v < 4096) ⌝ }
+    ensures { λ x. ⌜ (x ≡ at + length (codeNibbles v)) × (now (out .exit) ≡ sets (now (out .entry)) at (codeNibbles v)) ⌝ }
+{
+    if v < 16 {
+        put(out, at, v as u8);
+        return at + 1;
+    }
+    if v < 256 {
+        put(out, at, (v / 16) as u8);
+        put(out, at + 1, (v % 16) as u8);
+        return at + 2;
+    }
+    put(out, at, (v / 256) as u8);
+    put(out, at + 1, (v / 16 % 16) as u8);
+    put(out, at + 2, (v % 16) as u8);
+    at + 3
+}
+
+pub struct Placed {
+    pub at: usize,
+    // The spaces that wait.
+    pub waiting: usize,
+}
+
+// Takes a byte of the text.
+fn put_byte(out: &mut [u8], at: usize, s: usize, b: u8) -> Placed
+    requires { ⌜ (at ≤ 255) × (s < 2 ^ 63) ⌝ }
+    ensures { λ r. ⌜ (r .at ≡ at + length (piece s b)) × (r .waiting ≡ waiting s b) × (now (out .exit) ≡ sets (now (out .entry)) at (piece s b)) ⌝ }
+{
+    if b == 32 {
+        return Placed { at, waiting: s + 1 };
+    }
+    let v = char_code(b);
+    let a = put_run(out, at, s);
+    let e = put_code(out, a, v);
+    Placed { at: e, waiting: 0 }
+}
+
+pub enum Written {
+    // So many nibbles.
+    Fits(usize),
+    TooLong,
+}
+
+fn put_text(t: &[u8], out: &mut [u8]) -> Written
+    requires { ⌜ length (now out) ≡ 255 ⌝ }
+    ensures { λ r. ⌜ Writes (now (t .entry)) (now (out .entry)) (now (out .exit)) r ⌝ }
+{
+    let mut at = 0;
+    let mut s = 0;
+    let mut i = 0;
+    while i < t.len() {
+        let p = put_byte(out, at, s, t[i]);
+        at = p.at;
+        s = p.waiting;
+        if 255 < at {
+            return Written::TooLong;
+        }
+        i += 1;
+    }
+    Written::Fits(at)
+}
+
+// Writes the nibbles of a text, one a byte.
+pub fn write(t: &[u8], out: &mut [u8; 255]) -> Written
+    ensures { λ r. ⌜ Writes (now (t .entry)) (now (out .entry)) (now (out .exit)) r ⌝ }
+{
+    put_text(t, out)
+}

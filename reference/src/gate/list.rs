@@ -1,0 +1,68 @@
+//! A list of calls in its script form.
+
+use crate::call::Call;
+use crate::gate::script::{Ran, record_size, run, script};
+
+/// The longest buffer, script and log.
+pub const MOST_BUFFER: usize = 2000;
+pub const MOST_SCRIPT: usize = 60_000;
+pub const MOST_LOG: usize = 60_000;
+
+#[derive(Clone, Debug, PartialEq, Eq)]
+pub struct List {
+    pub buffer: Vec<u8>,
+    pub script: Vec<u8>,
+    /// The room of the log.
+    pub room: usize,
+}
+
+impl List {
+    /// A list whose log just takes its calls.
+    pub fn of(buffer: Vec<u8>, calls: &[Call]) -> List {
+        List {
+            buffer,
+            script: script(calls),
+            room: calls.iter().map(record_size).sum(),
+        }
+    }
+
+    pub fn fits(&self) -> bool {
+        self.buffer.len() <= MOST_BUFFER
+            && self.script.len() <= MOST_SCRIPT
+            && self.room <= MOST_LOG
+    }
+
+    /// Buffer, script and room as lent.
+    pub fn lent(&self) -> Vec<u8> {
+        let length = u16::try_from(self.buffer.len()).expect("a list keeps its limits");
+        let mut bytes = length.to_be_bytes().to_vec();
+        bytes.extend(&self.buffer);
+        bytes.extend(count(self.script.len()));
+        bytes.extend(&self.script);
+        bytes.extend(count(self.room));
+        bytes
+    }
+
+    /// The buffer after the list, and what comes of it.
+    pub fn run(&self) -> (Vec<u8>, Ran) {
+        let mut buffer = self.buffer.clone();
+        let ran = run(&mut buffer, &self.script, self.room);
+        (buffer, ran)
+    }
+}
+
+/// Calls performed, script bytes taken, log bytes written, buffer and log.
+pub fn answer(after: &[u8], ran: &Ran) -> Vec<u8> {
+    let mut bytes = Vec::new();
+    for number in [ran.calls.len(), ran.taken, ran.log.len()] {
+        bytes.extend(count(number));
+    }
+    bytes.extend(after);
+    bytes.extend(&ran.log);
+    bytes
+}
+
+fn count(count: usize) -> [u8; 4] {
+    let count = u32::try_from(count).expect("a list keeps its limits");
+    count.to_be_bytes()
+}

@@ -1,0 +1,583 @@
+//! Lists of calls in script form.
+
+use crate::attachment::Attachment;
+use crate::call::Call;
+use crate::cases::Case;
+use crate::cases::calls::{WIDE_NUMBERS, texts};
+use crate::cases::material::*;
+use crate::cases::outside::edge_values;
+use crate::cases::random::random_call;
+use crate::cases::{pairs, reports};
+use crate::gate::list::List;
+use crate::gate::script::{entry, record_size, script};
+use crate::gate::sizes::{LONGEST_TAIL, sheet_of_tail};
+use crate::judge::judge;
+use crate::prng::Prng;
+use crate::sheet::Sheet;
+use crate::table::{FIELDS, Scaled, fields};
+use crate::text;
+
+/// The calls of a whole list.
+pub const CALLS: usize = 50;
+
+/// Given calls in a list, in groups of two or three; drawn ones fill it up.
+const GIVEN: usize = 48;
+
+pub fn lists(seed: u64) -> Vec<List> {
+    let mut prng = Prng::new(seed);
+    let mut lists = field_lists(&mut prng);
+    lists.extend(number_lists(&mut prng));
+    lists.extend(flag_lists(&mut prng));
+    lists.extend(put_lists(&mut prng));
+    lists.extend(body_lists(&mut prng));
+    lists.extend(text_lists(&mut prng));
+    lists.extend(pair_lists(&mut prng));
+    lists.extend(growing_lists(&mut prng));
+    lists.extend(fitting_lists(&mut prng));
+    lists.extend(drawn_lists(&mut prng));
+    lists.extend(ended_lists());
+    lists.extend(refused_lists());
+    lists
+}
+
+/// A report in a buffer with some bytes after it.
+fn buffer_of(prng: &mut Prng, sheet: &Sheet, room: usize) -> Vec<u8> {
+    with_bytes_after(sheet.packing(), &prng.bytes(room))
+}
+
+/// Calls in lists, each on a buffer of its own.
+fn in_lists(prng: &mut Prng, calls: &[Call], buffer: impl Fn(&mut Prng) -> Vec<u8>) -> Vec<List> {
+    let mut lists = Vec::new();
+    for chunk in calls.chunks(GIVEN) {
+        let buffer = buffer(prng);
+        lists.push(whole_list(prng, buffer, chunk));
+    }
+    lists
+}
+
+/// A list of fifty calls: those given, then drawn ones.
+fn whole_list(prng: &mut Prng, buffer: Vec<u8>, given: &[Call]) -> List {
+    let mut state = buffer.clone();
+    let mut calls = given.to_vec();
+    for call in given {
+        call.run(&mut state);
+    }
+    while calls.len() < CALLS {
+        let call = drawn_call(prng, &state);
+        call.run(&mut state);
+        calls.push(call);
+    }
+    List::of(buffer, &calls)
+}
+
+/// The sheet of a sound report.
+fn sheet_of(buffer: &[u8]) -> Sheet {
+    judge(buffer).expect("the report is sound").sheet
+}
+
+/// A drawn call, seldom with long contents or outputs.
+fn drawn_call(prng: &mut Prng, buffer: &[u8]) -> Call {
+    let sheet = sheet_of(buffer);
+    loop {
+        let call = random_call(prng, &sheet, buffer.len());
+        if entry(&call).len() < 80 || prng.one_in(12) {
+            return call;
+        }
+    }
+}
+
+/// Each field set, read and cleared at its edges.
+fn field_lists(prng: &mut Prng) -> Vec<List> {
+    let mut calls = Vec::new();
+    for field in fields() {
+        let number = field.number as u64;
+        for value in edge_values(field.lowest_value(), field.highest_value()) {
+            calls.push(Call::SetField {
+                field: number,
+                value,
+            });
+            calls.push(Call::ReadField { field: number });
+        }
+        calls.push(Call::ClearField { field: number });
+        calls.push(Call::ReadField { field: number });
+    }
+    in_lists(prng, &calls, |prng| {
+        let tail = prng.pick(&[0, 4, 5, 30]);
+        let room = prng.pick(&[0, 0, 1, 6]);
+        let sheet = sheet_of_tail(prng, tail);
+        buffer_of(prng, &sheet, room)
+    })
+}
+
+/// Every numbered call with numbers at their edges, with and without ids 1, 4
+/// and 15.
+fn number_lists(prng: &mut Prng) -> Vec<List> {
+    let mut numbers = vec![1, 4, 5, 14, 15, 16, 46, 47, 48, 512, 1 << 32];
+    numbers.extend(WIDE_NUMBERS);
+    numbers.extend([(1 << 63) + 1, (1 << 63) - 1]);
+    let calls: Vec<Call> = numbers.into_iter().flat_map(numbered_calls).collect();
+    let bare = fresh_sheet();
+    let held = sheet_with(&[(4, &[1]), (1, &[0; 16]), (15, &[2, 3])]);
+    let mut lists = Vec::new();
+    for sheet in [bare, held] {
+        lists.extend(in_lists(prng, &calls, |prng| buffer_of(prng, &sheet, 30)));
+    }
+    lists
+}
+
+fn numbered_calls(number: u64) -> Vec<Call> {
+    vec![
+        Call::ReadField { field: number },
+        Call::SetField {
+            field: number,
+            value: 1,
+        },
+        Call::ClearField { field: number },
+        Call::SetFlag {
+            flag: number,
+            value: 2,
+        },
+        Call::ReadFlag { flag: number },
+        Call::ClearFlag { flag: number },
+        fetch(number, 16),
+        Call::Drop { id: number },
+        put(number, &[1]),
+    ]
+}
+
+fn put(id: u64, content: &[u8]) -> Call {
+    Call::Put {
+        id,
+        content: content.to_vec(),
+    }
+}
+
+fn put_text(text: &[u8]) -> Call {
+    Call::PutText {
+        text: text.to_vec(),
+    }
+}
+
+fn fetch(id: u64, room: usize) -> Call {
+    Call::Fetch {
+        id,
+        output: vec![0xEE; room],
+    }
+}
+
+fn fetch_text(room: usize) -> Call {
+    Call::FetchText {
+        output: vec![0xEE; room],
+    }
+}
+
+/// Each flag set, read and cleared; a negative value is one of 2^63 and more.
+fn flag_lists(prng: &mut Prng) -> Vec<List> {
+    let mut calls = Vec::new();
+    for flag in 1..=14 {
+        let mut values = edge_values(Scaled(1), Scaled(10));
+        values.extend([-1, -255, i64::MIN + 1, i64::MIN + 10]);
+        calls.extend(values.iter().map(|&value| Call::SetFlag { flag, value }));
+        for value in 1..=10 {
+            calls.push(Call::SetFlag { flag, value });
+            calls.push(Call::ReadFlag { flag });
+        }
+        calls.push(fetch(1, 16));
+        calls.push(Call::ClearFlag { flag });
+        calls.push(Call::ReadFlag { flag });
+    }
+    in_lists(prng, &calls, |prng| {
+        let length = 1 + prng.below(4);
+        let before = prng.nibbles(length);
+        let flags = random_flags(prng);
+        let room = prng.pick(&[0, 1, 4]);
+        let sheet = sheet_with(&[(9, &before), (1, &flags), (4, &[7])]);
+        buffer_of(prng, &sheet, room)
+    })
+}
+
+/// Ids and content lengths at their edges, and bytes that are no nibbles.
+fn put_lists(prng: &mut Prng) -> Vec<List> {
+    let mut calls = Vec::new();
+    for id in [0, 1, 4, 5, 15, 16] {
+        for length in [0, 1, 16, 254, 255, 256, 260, 512] {
+            let drawn = prng.nibbles(length);
+            let mut over = vec![0; length];
+            if let Some(last) = over.last_mut() {
+                *last = prng.pick(&[16, 17, 128, 255]);
+            }
+            let short = prng.pick(&[0, 1, 16, length.saturating_sub(1).min(255)]);
+            calls.extend([put(id, &vec![0; length]), fetch(id, length.min(256))]);
+            calls.extend([put(id, &drawn), fetch(id, short)]);
+            calls.extend([put(id, &over), fetch(id, 1)]);
+        }
+    }
+    in_lists(prng, &calls, |prng| {
+        let room = prng.pick(&[140, 300, 420]);
+        let sheet = sheet_with(&[(2, &[1, 2, 3]), (5, &[9; 20])]);
+        buffer_of(prng, &sheet, room)
+    })
+}
+
+/// Bodies of ids 1 and 4, sound and refused.
+fn body_lists(prng: &mut Prng) -> Vec<List> {
+    let mut calls = Vec::new();
+    for (id, bodies) in [
+        (1, bad_flag_bodies()),
+        (4, bad_text_bodies()),
+        (4, good_text_bodies()),
+        (4, bad_flag_bodies()),
+    ] {
+        for body in bodies.into_iter().filter(|body| body.len() < 100) {
+            calls.extend([put(id, &body), fetch(id, body.len())]);
+            calls.push(fetch_text(40));
+        }
+    }
+    in_lists(prng, &calls, |prng| {
+        buffer_of(prng, &sheet_with(&[(6, &[1]), (4, &[2])]), 30)
+    })
+}
+
+/// Texts put and fetched back, with outputs that just fit, are one short, and
+/// are longer.
+fn text_lists(prng: &mut Prng) -> Vec<List> {
+    let mut calls = Vec::new();
+    let mut texts = texts();
+    texts.push(vec![b' '; 5000]);
+    texts.push([vec![b'Q'], vec![b' '; 3000]].concat());
+    texts.push([vec![b' '; 1000], vec![0xC3]].concat());
+    for (index, text) in texts.into_iter().enumerate() {
+        let nibbles = text::write(&text);
+        let length = text
+            .iter()
+            .rposition(|&byte| byte != b' ')
+            .map_or(0, |last| last + 1);
+        let nibble_room = [
+            nibbles.len(),
+            nibbles.len(),
+            nibbles.len().saturating_sub(1),
+        ];
+        let text_room = [length, length.saturating_sub(1), length, length + 1];
+        calls.push(put_text(&text));
+        calls.push(fetch(4, nibble_room[index % 3].min(60)));
+        calls.push(fetch_text(text_room[index % 4]));
+    }
+    in_lists(prng, &calls, |prng| {
+        buffer_of(prng, &sheet_with(&[(6, &[1])]), 150)
+    })
+}
+
+/// Calls in which two refusals fit at once, on the report of the shared pairs.
+fn pair_lists(prng: &mut Prng) -> Vec<List> {
+    let mut buffer = Vec::new();
+    let mut calls: Vec<Call> = Vec::new();
+    for pair in pairs::pairs() {
+        for case in [pair.both, pair.mended] {
+            if let Case::Calls {
+                buffer: lent,
+                calls: one,
+            } = case
+                && judge(&lent).is_ok()
+                && !calls.contains(&one[0])
+            {
+                buffer = lent;
+                calls.extend(one);
+            }
+        }
+    }
+    in_lists(prng, &calls, |_| buffer.clone())
+}
+
+/// Reports that grow from the least to the most and shrink again, in a buffer
+/// that is longer, one that just fits and one that is one byte short.
+fn growing_lists(prng: &mut Prng) -> Vec<List> {
+    let mut lists = Vec::new();
+    for length in [2000, 1853, 1852] {
+        let largest = largest_sheet();
+        let mut calls: Vec<Call> = largest.attachments.iter().map(put_again).collect();
+        calls.push(put(15, &[1; 254]));
+        calls.push(put(15, &[2; 255]));
+        calls.extend([5, 1, 9, 15].map(|id| fetch(id, 16)));
+        calls.extend((1..=15).rev().map(|id| Call::Drop { id }));
+        calls.push(Call::ReadField { field: 1 });
+        let room = length - fresh_sheet().size();
+        let buffer = buffer_of(prng, &fresh_sheet(), room);
+        lists.push(whole_list(prng, buffer, &calls));
+    }
+    lists
+}
+
+fn put_again(attachment: &Attachment) -> Call {
+    put(u64::from(attachment.id), &attachment.nibbles)
+}
+
+/// Contents that just fill the buffer or just do not, and outputs likewise.
+fn fitting_lists(prng: &mut Prng) -> Vec<List> {
+    let mut lists = Vec::new();
+    for index in 0..24 {
+        let tail = prng.pick(&[0, 4, 5, 19, 40, 41, 90]);
+        let sheet = sheet_of_tail(prng, tail);
+        let room = [0, 1, 2, 3, 5, 10, 20, 40][index % 8];
+        let buffer = buffer_of(prng, &sheet, room);
+        let mut state = buffer.clone();
+        let mut calls = Vec::new();
+        for _ in 0..GIVEN {
+            let call = fitting_call(prng, &state);
+            call.run(&mut state);
+            calls.push(call);
+        }
+        lists.push(whole_list(prng, buffer, &calls));
+    }
+    lists
+}
+
+fn fitting_call(prng: &mut Prng, buffer: &[u8]) -> Call {
+    let sheet = sheet_of(buffer);
+    let id = match prng.pick(&[0, 1]) {
+        0 if !sheet.attachments.is_empty() => prng.pick(&sheet.attachments).id,
+        _ => prng.pick(&[2, 3, 5, 8, 15]),
+    };
+    let id = u64::from(id);
+    let standing = sheet.content(id).map_or(0, <[u8]>::len);
+    match prng.below(10) {
+        0 | 1 => Call::Drop { id },
+        2 | 3 => fetch(id, one_beside(prng, standing)),
+        4 => {
+            let text = sheet.content(4).and_then(text::read);
+            fetch_text(one_beside(prng, text.map_or(0, |text| text.len())))
+        }
+        5 => {
+            let length = fitting_length(prng, &sheet, buffer.len(), 4);
+            put_text(&vec![b'5'; length])
+        }
+        _ => {
+            let length = fitting_length(prng, &sheet, buffer.len(), id);
+            put(id, &prng.nibbles(length))
+        }
+    }
+}
+
+/// A length, one less or one more.
+fn one_beside(prng: &mut Prng, length: usize) -> usize {
+    (length + prng.below(3)).saturating_sub(1)
+}
+
+/// The most nibbles that an id can have in a buffer, up to two more, or less.
+fn fitting_length(prng: &mut Prng, sheet: &Sheet, n: usize, id: u64) -> usize {
+    let others: usize = sheet
+        .attachments
+        .iter()
+        .filter(|attachment| u64::from(attachment.id) != id)
+        .map(Attachment::size)
+        .sum();
+    let most = (2 * n).saturating_sub(75 + others + 3);
+    match prng.below(6) {
+        0 => prng.below(most + 1).min(255),
+        step => (most + step).saturating_sub(3).min(257),
+    }
+}
+
+/// Drawn calls on reports of all sizes, with and without room after them.
+fn drawn_lists(prng: &mut Prng) -> Vec<List> {
+    let mut lists = Vec::new();
+    for index in 0..140 {
+        let tail = drawn_tail(prng, index);
+        let sheet = sheet_of_tail(prng, tail);
+        let room = prng.pick(&[0, 0, 1, 2, 8, 30, 120]);
+        let buffer = buffer_of(prng, &sheet, room);
+        lists.push(whole_list(prng, buffer, &[]));
+    }
+    lists
+}
+
+fn drawn_tail(prng: &mut Prng, index: usize) -> usize {
+    match index {
+        0..2 => LONGEST_TAIL,
+        2 => LONGEST_TAIL - 1,
+        3 => LONGEST_TAIL - 2,
+        4..10 => 1200 + prng.below(2400),
+        10..25 => 200 + prng.below(1000),
+        25..30 => 0,
+        _ => 4 + prng.below(150),
+    }
+}
+
+/// Lists that end before their script does.
+fn ended_lists() -> Vec<List> {
+    let mut lists = cut_off_lists();
+    lists.extend(wide_count_lists());
+    lists.extend(unknown_kind_lists());
+    lists.extend(short_log_lists());
+    lists
+}
+
+fn held_sheet() -> Sheet {
+    sheet_with(&[(4, &[1, 10, 12, 1]), (1, &[0; 16]), (5, &[3, 2, 1])])
+}
+
+fn held_buffer() -> Vec<u8> {
+    with_bytes_after(held_sheet().packing(), &[0xA5; 12])
+}
+
+/// One call of each kind, all of them accepted on the held report.
+fn one_of_each() -> Vec<Call> {
+    vec![
+        Call::ReadField { field: 2 },
+        Call::SetField {
+            field: 31,
+            value: -1,
+        },
+        Call::ClearField { field: 31 },
+        Call::ReadFlag { flag: 1 },
+        Call::SetFlag { flag: 14, value: 5 },
+        Call::ClearFlag { flag: 2 },
+        put(5, &[1, 2, 3, 4]),
+        fetch(4, 6),
+        Call::Drop { id: 5 },
+        put_text(b"SHIP 1"),
+        fetch_text(9),
+    ]
+}
+
+/// A list of raw script bytes, with room for many records.
+fn raw(script: Vec<u8>) -> List {
+    List {
+        buffer: held_buffer(),
+        script,
+        room: 1000,
+    }
+}
+
+/// Each kind cut behind its kind byte, in its first number, behind its numbers
+/// and before its last byte. Calls that are whole go before.
+fn cut_off_lists() -> Vec<List> {
+    let before = script(&[
+        Call::SetField { field: 4, value: 9 },
+        Call::SetFlag { flag: 3, value: 7 },
+    ]);
+    let mut lists = vec![raw(Vec::new())];
+    for call in one_of_each() {
+        let whole = entry(&call);
+        for length in [1, 8, 9, 16, 17, whole.len() - 1] {
+            if length < whole.len() {
+                lists.push(raw([&before[..], &whole[..length]].concat()));
+            }
+        }
+        lists.push(raw(whole[..whole.len() - 1].to_vec()));
+    }
+    lists
+}
+
+/// Counts beyond the script, some of which would fit if they were cut short.
+fn wide_count_lists() -> Vec<List> {
+    let before = entry(&Call::ReadField { field: 3 });
+    let mut lists = Vec::new();
+    for call in [put(5, &[1, 2]), fetch(5, 2), put_text(b"AB"), fetch_text(2)] {
+        let whole = entry(&call);
+        let numbers = whole.len() - 2;
+        for count in [
+            3,
+            258,
+            65_538,
+            (1 << 32) + 2,
+            1 << 63,
+            u64::MAX - 1,
+            u64::MAX,
+        ] {
+            let mut wide = whole.clone();
+            wide[numbers - 8..numbers].copy_from_slice(&u64::to_be_bytes(count));
+            lists.push(raw([before.clone(), wide].concat()));
+        }
+    }
+    lists
+}
+
+/// A kind that no call has, first and amid calls that would be sound.
+fn unknown_kind_lists() -> Vec<List> {
+    let calls = script(&one_of_each());
+    let mut lists = Vec::new();
+    for kind in [0, 12, 13, 128, 255] {
+        lists.push(raw([&[kind][..], &calls].concat()));
+        lists.push(raw([&calls[..], &[kind], &calls].concat()));
+    }
+    lists
+}
+
+/// Logs without room for the last record or for all of its output.
+fn short_log_lists() -> Vec<List> {
+    let mut lists = Vec::new();
+    let calls = one_of_each();
+    for count in 1..=calls.len() {
+        let given = &calls[..count];
+        let needed: usize = given.iter().map(record_size).sum();
+        for room in [needed - 1, needed] {
+            lists.push(List {
+                room,
+                ..List::of(held_buffer(), &calls)
+            });
+        }
+    }
+    // A shorter record behind the one that does not fit is not written either.
+    let long_first = [fetch(4, 60), Call::ReadField { field: 1 }];
+    for room in [0, 9, 10, 11, 69, 70, 79, 80, 81] {
+        lists.push(List {
+            room,
+            ..List::of(held_buffer(), &long_first)
+        });
+    }
+    lists
+}
+
+/// Every call, with sound and with bad arguments, on refused reports.
+fn refused_lists() -> Vec<List> {
+    let mut lists = Vec::new();
+    let mut calls = one_of_each();
+    calls.extend([
+        Call::ReadField { field: 0 },
+        Call::SetField {
+            field: FIELDS as u64,
+            value: i64::MAX,
+        },
+        Call::ClearField { field: 1 },
+        Call::SetFlag { flag: 15, value: 0 },
+        put(16, &[]),
+        fetch(0, 0),
+        Call::Drop { id: u64::MAX },
+        put_text(b" "),
+        fetch_text(0),
+    ]);
+    for report in reports::damaged().iter().step_by(9) {
+        if report.len() <= 400 {
+            lists.push(List::of(report.clone(), &calls));
+        }
+    }
+    let whole = List::of(vec![0; 37], &calls);
+    let room = whole.room - 1;
+    lists.push(List { room, ..whole });
+    lists.push(List {
+        script: [&script(&calls)[..], &[7, 0]].concat(),
+        ..List::of(vec![0xFF; 50], &calls)
+    });
+    lists.extend(refused_pair_lists());
+    lists
+}
+
+/// The report's refusal with each of the caller's: the calls of one report, in
+/// the order of the shared pairs, in one list.
+fn refused_pair_lists() -> Vec<List> {
+    let mut grouped: Vec<(Vec<u8>, Vec<Call>)> = Vec::new();
+    for pair in pairs::pairs() {
+        if let Case::Calls { buffer, calls } = pair.both
+            && judge(&buffer).is_err()
+        {
+            match grouped.last_mut() {
+                Some((last, together)) if *last == buffer => together.extend(calls),
+                _ => grouped.push((buffer, calls)),
+            }
+        }
+    }
+    grouped
+        .into_iter()
+        .map(|(buffer, calls)| List::of(buffer, &calls))
+        .collect()
+}

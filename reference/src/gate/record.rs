@@ -1,0 +1,144 @@
+//! A call outside the list as a record, and its answer.
+
+use crate::call::Given;
+use crate::cases::{Case, Outcome};
+use crate::gate::head::head;
+use crate::outside::Unpacked;
+
+const JUDGE: u8 = 1;
+const LISTER: u8 = 2;
+const FRESH: u8 = 3;
+const UNPACK: u8 = 4;
+const PACK: u8 = 5;
+
+/// The longest report, input or output; the most values; the longest tails.
+pub const MOST_BYTES: usize = 2000;
+pub const MOST_VALUES: usize = 60;
+pub const MOST_UNPACK_TAIL: usize = 4000;
+pub const MOST_PACK_TAIL: usize = 4200;
+
+/// Whether a case is a record and keeps its limits.
+pub fn fits(case: &Case) -> bool {
+    match case {
+        Case::Judge { report } => report.len() <= MOST_BYTES,
+        Case::Lister { input } => input.len() <= MOST_BYTES,
+        Case::Fresh { output, .. } => output.len() <= MOST_BYTES,
+        Case::Unpack {
+            report,
+            values,
+            tail,
+        } => {
+            report.len() <= MOST_BYTES
+                && values.len() <= MOST_VALUES
+                && tail.len() <= MOST_UNPACK_TAIL
+        }
+        Case::Pack {
+            values,
+            tail,
+            output,
+            ..
+        } => {
+            values.len() <= MOST_VALUES
+                && tail.len() <= MOST_PACK_TAIL
+                && output.len() <= MOST_BYTES
+        }
+        Case::Calls { .. } => false,
+    }
+}
+
+/// The kind and what is lent.
+pub fn lent(case: &Case) -> Vec<u8> {
+    match case {
+        Case::Judge { report } => [vec![JUDGE], counted(report)].concat(),
+        Case::Lister { input } => [vec![LISTER], counted(input)].concat(),
+        Case::Fresh { required, output } => {
+            [vec![FRESH], numbers(required), counted(output)].concat()
+        }
+        Case::Unpack {
+            report,
+            values,
+            tail,
+        } => [
+            vec![UNPACK],
+            counted(report),
+            counted_numbers(values),
+            counted(tail),
+        ]
+        .concat(),
+        Case::Pack {
+            values,
+            word,
+            rptin,
+            tail,
+            output,
+        } => [
+            vec![PACK],
+            counted_numbers(values),
+            word.to_be_bytes().to_vec(),
+            rptin.to_be_bytes().to_vec(),
+            counted(tail),
+            counted(output),
+        ]
+        .concat(),
+        Case::Calls { .. } => unreachable!("a list of calls is no record"),
+    }
+}
+
+/// The head, what is given, and every output as the call leaves it.
+pub fn answer(outcome: &Outcome) -> Vec<u8> {
+    match outcome {
+        Outcome::Judge(result) => match &**result {
+            Ok(report) => head(Ok(Given::Count(report.bytes))),
+            Err(refusal) => head(Err(*refusal)),
+        },
+        Outcome::Lister(lines) => lines
+            .iter()
+            .flat_map(|line| format!("{line}\n").into_bytes())
+            .collect(),
+        Outcome::Fresh { result, output } => {
+            [head(result.map(|()| Given::Nothing)), output.clone()].concat()
+        }
+        Outcome::Unpack {
+            result,
+            values,
+            tail,
+        } => {
+            let given = result.map_or(Vec::new(), |given| unpacked(&given));
+            let head = head(result.map(|_| Given::Nothing));
+            [head, given, numbers(values), tail.clone()].concat()
+        }
+        Outcome::Pack { result, output } => {
+            [head(result.map(Given::Count)), output.clone()].concat()
+        }
+        Outcome::Calls(_) => unreachable!("a list of calls is no record"),
+    }
+}
+
+fn unpacked(given: &Unpacked) -> Vec<u8> {
+    let numbers = [
+        given.word,
+        given.present as u64,
+        u64::from(given.rptin),
+        given.ac as u64,
+        given.bytes as u64,
+        given.tail as u64,
+    ];
+    numbers.iter().flat_map(|n| n.to_be_bytes()).collect()
+}
+
+fn counted(bytes: &[u8]) -> Vec<u8> {
+    [count(bytes.len()), bytes.to_vec()].concat()
+}
+
+fn counted_numbers(values: &[i64]) -> Vec<u8> {
+    [count(values.len()), numbers(values)].concat()
+}
+
+fn count(count: usize) -> Vec<u8> {
+    let count = u16::try_from(count).expect("a record keeps its limits");
+    count.to_be_bytes().to_vec()
+}
+
+fn numbers(values: &[i64]) -> Vec<u8> {
+    values.iter().flat_map(|n| n.to_be_bytes()).collect()
+}

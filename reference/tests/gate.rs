@@ -1,0 +1,510 @@
+//! The gate files' bytes, worked out by hand, and their contents.
+
+mod common;
+
+use std::collections::BTreeSet;
+use std::fs;
+use std::path::Path;
+use std::process::Command;
+
+use common::fresh_buffer;
+use reference::call::Call;
+use reference::cases::Case;
+use reference::gate::list::{self, List};
+use reference::gate::list_cases::CALLS;
+use reference::gate::script::{entry, first_call, run, script};
+use reference::gate::{self, SEED, list_cases, record, sizes, whole_cases};
+use reference::judge::judge;
+use reference::prng::Prng;
+
+/// Bytes from hex digits; spaces are for the eye.
+fn hex(digits: &str) -> Vec<u8> {
+    let digits: Vec<u8> = digits
+        .chars()
+        .filter_map(|digit| digit.to_digit(16))
+        .map(|digit| digit as u8)
+        .collect();
+    digits
+        .chunks(2)
+        .map(|pair| 16 * pair[0] + pair[1])
+        .collect()
+}
+
+/// A list of calls on the fresh report in 60 bytes: the call, its entry in the
+/// script and its record in the log.
+fn by_hand() -> Vec<(Call, &'static str, &'static str)> {
+    let mut flags = vec![0; 16];
+    flags[0] = 1;
+    flags[15] = 1;
+    vec![
+        (
+            Call::ReadField { field: 2 },
+            "01 0000000000000002",
+            "02 00 000000000000076C",
+        ),
+        (
+            Call::ReadField { field: 4 },
+            "01 0000000000000004",
+            "03 00 0000000000000000",
+        ),
+        (
+            Call::SetField {
+                field: 31,
+                value: -5,
+            },
+            "02 000000000000001F FFFFFFFFFFFFFFFB",
+            "01 00 0000000000000000",
+        ),
+        (
+            Call::ReadField { field: 31 },
+            "01 000000000000001F",
+            "02 00 FFFFFFFFFFFFFFFB",
+        ),
+        (
+            Call::SetField {
+                field: 31,
+                value: -1000,
+            },
+            "02 000000000000001F FFFFFFFFFFFFFC18",
+            "00 09 000000000000001F",
+        ),
+        (
+            Call::ClearField { field: 31 },
+            "03 000000000000001F",
+            "01 00 0000000000000000",
+        ),
+        (
+            Call::ClearField { field: 3 },
+            "03 0000000000000003",
+            "00 0A 0000000000000003",
+        ),
+        (
+            Call::ReadFlag { flag: 1 },
+            "04 0000000000000001",
+            "00 0B 0000000000000000",
+        ),
+        (
+            Call::Put {
+                id: 1,
+                content: flags,
+            },
+            "07 0000000000000001 0000000000000010
+             01000000000000000000000000000001",
+            "01 00 0000000000000000",
+        ),
+        (
+            Call::SetFlag { flag: 6, value: 6 },
+            "05 0000000000000006 0000000000000006",
+            "01 00 0000000000000000",
+        ),
+        (
+            Call::SetFlag { flag: 6, value: -1 },
+            "05 0000000000000006 FFFFFFFFFFFFFFFF",
+            "00 09 0000000000000006",
+        ),
+        (
+            Call::ReadFlag { flag: 6 },
+            "04 0000000000000006",
+            "02 00 0000000000000006",
+        ),
+        (
+            Call::Fetch {
+                id: 1,
+                output: vec![0xEE; 17],
+            },
+            "08 0000000000000001 0000000000000011
+             EEEEEEEEEEEEEEEEEEEEEEEEEEEEEEEEEE",
+            "02 00 0000000000000010
+             01000000000600000000000000000003EE",
+        ),
+        (
+            Call::ClearFlag { flag: 6 },
+            "06 0000000000000006",
+            "01 00 0000000000000000",
+        ),
+        (
+            Call::ReadFlag { flag: 6 },
+            "04 0000000000000006",
+            "03 00 0000000000000000",
+        ),
+        (
+            Call::ClearFlag { flag: u64::MAX },
+            "06 FFFFFFFFFFFFFFFF",
+            "00 08 0000000000000000",
+        ),
+        (
+            Call::Drop { id: 1 },
+            "09 0000000000000001",
+            "01 00 0000000000000000",
+        ),
+        (
+            Call::PutText {
+                text: b"A1".to_vec(),
+            },
+            "0A 0000000000000002 4131",
+            "01 00 0000000000000000",
+        ),
+        (
+            Call::FetchText { output: vec![7] },
+            "0B 0000000000000001 07",
+            "00 0D 0000000000000000 07",
+        ),
+        (
+            Call::FetchText {
+                output: vec![7, 8, 9],
+            },
+            "0B 0000000000000003 070809",
+            "02 00 0000000000000002 413109",
+        ),
+    ]
+}
+
+/// The buffer that the list by hand leaves: "A1" behind the fresh card. The
+/// flags went up to byte 46.
+fn buffer_after() -> Vec<u8> {
+    let mut buffer = fresh_buffer(60);
+    buffer[37..47].fill(0);
+    buffer[37..41].copy_from_slice(&[0x10, 0x34, 0xC1, 0x10]);
+    buffer
+}
+
+#[test]
+fn entries_by_hand_are_written_and_read() {
+    for (call, written, _) in by_hand() {
+        let bytes = hex(written);
+        assert_eq!(entry(&call), bytes, "{call:?}");
+        assert_eq!(first_call(&bytes), Some((call.clone(), &[][..])));
+        let more = [&bytes[..], &[9, 9]].concat();
+        assert_eq!(first_call(&more), Some((call.clone(), &[9, 9][..])));
+        for length in 0..bytes.len() {
+            assert_eq!(first_call(&bytes[..length]), None, "{call:?} {length}");
+        }
+    }
+}
+
+#[test]
+fn unknown_kinds_are_no_calls() {
+    for kind in [0, 12, 13, 128, 255] {
+        assert_eq!(first_call(&[kind; 40]), None);
+    }
+}
+
+#[test]
+fn counts_are_whole_numbers() {
+    for count in ["0000000100000001", "8000000000000001", "FFFFFFFFFFFFFFFF"] {
+        assert_eq!(first_call(&hex(&format!("0A {count} 41"))), None);
+    }
+}
+
+#[test]
+fn a_list_by_hand() {
+    let script: Vec<u8> = by_hand().iter().flat_map(|line| hex(line.1)).collect();
+    let log: Vec<u8> = by_hand().iter().flat_map(|line| hex(line.2)).collect();
+    let mut buffer = fresh_buffer(60);
+    let ran = run(&mut buffer, &script, 5000);
+    assert_eq!(ran.calls.len(), 20);
+    assert_eq!(ran.taken, script.len());
+    assert_eq!(ran.log, log);
+    assert_eq!(buffer, buffer_after());
+}
+
+#[test]
+fn a_log_ends_a_list_before_the_entry_that_does_not_fit() {
+    let calls: Vec<Call> = by_hand().into_iter().map(|line| line.0).collect();
+    let script = script(&calls);
+    let whole = List::of(fresh_buffer(60), &calls).room;
+    let (last, before) = (1 + 8 + 3, 10 + 3);
+    for (room, taken, log) in [
+        (whole, script.len(), whole),
+        (whole - 1, script.len() - last, whole - before),
+        (9, 0, 0),
+        (10, 9, 10),
+        (19, 9, 10),
+        (0, 0, 0),
+    ] {
+        let ran = run(&mut fresh_buffer(60), &script, room);
+        assert_eq!((ran.taken, ran.log.len()), (taken, log), "{room}");
+    }
+    // The fetch does not fit; the drop behind it would.
+    let calls = [
+        Call::Fetch {
+            id: 4,
+            output: vec![0; 2],
+        },
+        Call::Drop { id: 4 },
+    ];
+    let mut buffer = buffer_after();
+    let ran = run(&mut buffer, &reference::gate::script::script(&calls), 11);
+    assert_eq!((ran.calls.len(), ran.taken, ran.log.len()), (0, 0, 0));
+    assert_eq!(buffer, buffer_after());
+}
+
+#[test]
+fn a_refused_report_refuses_every_call() {
+    let calls = [
+        Call::ReadField { field: 99 },
+        Call::FetchText { output: vec![5, 6] },
+    ];
+    let mut buffer = vec![0; 37];
+    let ran = run(&mut buffer, &script(&calls), 100);
+    let log = hex("00 01 0000000000000000  00 01 0000000000000000 0506");
+    assert_eq!(ran.log, log);
+}
+
+#[test]
+fn a_list_and_its_answer_by_hand() {
+    let list = List {
+        buffer: fresh_buffer(38),
+        script: hex("01 0000000000000007 0C"),
+        room: 300,
+    };
+    let report = fresh_buffer(38);
+    let lent = [
+        &hex("0026")[..],
+        &report,
+        &hex("0000000A 010000000000000007 0C 0000012C"),
+    ];
+    assert_eq!(list.lent(), lent.concat());
+    let (after, ran) = list.run();
+    let answer = [
+        &hex("00000001 00000009 0000000A")[..],
+        &report,
+        &hex("02 00 0000000000000000"),
+    ];
+    assert_eq!(list::answer(&after, &ran), answer.concat());
+}
+
+/// A record and its answer.
+fn both(case: &Case) -> (Vec<u8>, Vec<u8>) {
+    (record::lent(case), record::answer(&case.run()))
+}
+
+#[test]
+fn judge_and_lister_records_by_hand() {
+    let report = fresh_buffer(40);
+    let counted = [&hex("0028")[..], &report].concat();
+    let judge = Case::Judge {
+        report: report.clone(),
+    };
+    let lent = [&[1][..], &counted].concat();
+    assert_eq!(both(&judge), (lent, hex("02 00 0000000000000026")));
+    let lister = Case::Lister { input: report };
+    let lent = [&[2][..], &counted].concat();
+    let lines = b"1 1\n2 1900\n3 1\n6 0\n7 0\nC 240\nA 0\n".to_vec();
+    assert_eq!(both(&lister), (lent, lines));
+    let empty = Case::Judge { report: Vec::new() };
+    let answer = hex("00 01 0000000000000000");
+    assert_eq!(both(&empty), (hex("01 0000"), answer));
+    let empty = Case::Lister { input: Vec::new() };
+    assert_eq!(both(&empty), (hex("02 0000"), b"R 1 0\n".to_vec()));
+}
+
+#[test]
+fn fresh_records_by_hand() {
+    let values = "0000000000000001 000000000000076C 0000000000000001
+                  0000000000000000";
+    let fresh = |y, room| Case::Fresh {
+        required: [1, 1900, 1, 0, y],
+        output: vec![0xA5; room],
+    };
+    let lent = [
+        &hex("03")[..],
+        &hex(values),
+        &hex("0000000000000000 0027"),
+        &[0xA5; 39],
+    ];
+    let answer = [&hex("01 00 0000000000000000")[..], &fresh_buffer(39)];
+    assert_eq!(both(&fresh(0, 39)), (lent.concat(), answer.concat()));
+    let lent = [
+        &hex("03")[..],
+        &hex(values),
+        &hex("FFFFFFFFFFFFFC7B 0001 A5"),
+    ];
+    let answer = hex("00 09 0000000000000007 A5");
+    assert_eq!(both(&fresh(-901, 1)), (lent.concat(), answer));
+}
+
+/// The fresh report's 46 values, 0 where missing.
+fn fresh_values() -> Vec<u8> {
+    let mut values = vec![0; 46 * 8];
+    values[7] = 1;
+    values[14..16].copy_from_slice(&[0x07, 0x6C]);
+    values[23] = 1;
+    values
+}
+
+#[test]
+fn unpack_records_by_hand() {
+    let mut report = buffer_after();
+    report.truncate(41);
+    report[..2].copy_from_slice(&[0xAB, 0xCD]);
+    let unpack = |values, tail| Case::Unpack {
+        report: report.clone(),
+        values: vec![-1; values],
+        tail: vec![0xEE; tail],
+    };
+    let lent = [
+        &hex("04 0029")[..],
+        &report,
+        &hex("002F"),
+        &[0xFF; 47 * 8],
+        &hex("0007 EEEEEEEEEEEEEE"),
+    ];
+    let answer = [
+        &hex("01 00 0000000000000000")[..],
+        &hex("00000000000000CE 0000000000000005 000000000000ABCD"),
+        &hex("0000000000000001 0000000000000029 0000000000000006"),
+        &fresh_values(),
+        &hex("FFFFFFFFFFFFFFFF 0003040C0101EE"),
+    ];
+    assert_eq!(both(&unpack(47, 7)), (lent.concat(), answer.concat()));
+    let lent = [
+        &hex("04 0029")[..],
+        &report,
+        &hex("0001 FFFFFFFFFFFFFFFF 0002 EEEE"),
+    ];
+    let answer = hex("00 0D 0000000000000000 FFFFFFFFFFFFFFFF EEEE");
+    assert_eq!(both(&unpack(1, 2)), (lent.concat(), answer));
+}
+
+#[test]
+fn pack_records_by_hand() {
+    let mut report = buffer_after();
+    report.truncate(41);
+    report[..2].copy_from_slice(&[0xAB, 0xCD]);
+    let mut values = vec![0; 46];
+    values[..3].copy_from_slice(&[1, 1900, 1]);
+    let pack = |word, room| Case::Pack {
+        values: values.clone(),
+        word,
+        rptin: 0xABCD,
+        tail: vec![0, 3, 4, 12, 1, 1],
+        output: vec![0xEE; room],
+    };
+    let lent = |word: &str, output: &str| {
+        [
+            &hex("05 002E")[..],
+            &fresh_values(),
+            &hex(word),
+            &hex("ABCD 0006 0003040C0101"),
+            &hex(output),
+        ]
+        .concat()
+    };
+    let output = format!("002A {}", "EE".repeat(42));
+    let answer = [&hex("02 00 0000000000000029")[..], &report, &[0xEE]].concat();
+    let record = both(&pack(0xCE, 42));
+    assert_eq!(record, (lent("00000000000000CE", &output), answer));
+    let record = both(&pack(0xC6, 1));
+    let answer = hex("00 0A 0000000000000003 EE");
+    assert_eq!(record, (lent("00000000000000C6", "0001 EE"), answer));
+}
+
+#[test]
+fn sheets_have_the_wanted_size_and_sum() {
+    let mut prng = Prng::new(1);
+    let tails = (4..400).chain((400..3600).step_by(7)).chain(3600..=3631);
+    for tail in [0].into_iter().chain(tails) {
+        let sheet = sizes::sheet_of_tail(&mut prng, tail);
+        let report = judge(&sheet.packing()).unwrap();
+        assert_eq!(report.nibbles, 75 + tail);
+    }
+    assert_eq!(sizes::LONGEST_TAIL, 3631);
+    for sum in [5, 6, 255, 510, 19635, 19643] {
+        let codes = sizes::sheet_of_sum(sum).codes();
+        assert_eq!(codes.iter().map(|code| code.0).sum::<u64>(), sum);
+    }
+}
+
+#[test]
+fn whole_files_meet_every_refusal_and_keep_their_limits() {
+    let cases = whole_cases::cases(SEED);
+    assert!(cases.iter().all(record::fits));
+    let files = gate::whole(&cases);
+    assert!(files.stdin.len() + files.stdout.len() < 1_200_000);
+    for (kind, refusals) in [
+        ("judge", &[0, 1, 2, 3, 4, 5, 6, 7][..]),
+        ("lister", &[0, 1, 2, 3, 4, 5, 6, 7]),
+        ("fresh", &[0, 9, 13]),
+        ("unpack", &[0, 1, 2, 3, 4, 5, 6, 7, 13]),
+        ("pack", &[0, 1, 5, 6, 8, 9, 10, 13, 14]),
+    ] {
+        let met: Vec<u8> = files.tally.refusals(kind);
+        assert_eq!(met, refusals, "{kind}");
+    }
+    let sizes: BTreeSet<usize> = cases
+        .iter()
+        .filter_map(|case| match case {
+            Case::Unpack { report, .. } => judge(report).ok(),
+            _ => None,
+        })
+        .map(|report| report.bytes)
+        .collect();
+    assert!(sizes.len() > 60);
+    assert_eq!((sizes.first(), sizes.last()), (Some(&38), Some(&1853)));
+}
+
+#[test]
+fn list_files_meet_every_refusal_and_keep_their_limits() {
+    let lists = list_cases::lists(SEED);
+    assert!(lists.iter().all(List::fits));
+    let files = gate::lists(&lists);
+    assert!(files.stdin.len() + files.stdout.len() < 800_000);
+    let whole = lists.iter().filter(|list| {
+        let (_, ran) = list.run();
+        ran.calls.len() == CALLS && judge(&list.buffer).is_ok()
+    });
+    assert!(whole.count() >= 200);
+    let report = [0, 1, 2, 3, 4, 5, 6, 7];
+    for (kind, refusals) in [
+        ("read field", &[8][..]),
+        ("set field", &[8, 9]),
+        ("clear field", &[8, 10]),
+        ("read flag", &[8, 11]),
+        ("set flag", &[8, 9, 11]),
+        ("clear flag", &[8, 11]),
+        ("put", &[8, 12, 13, 14]),
+        ("fetch", &[8, 11, 13]),
+        ("drop", &[8, 11]),
+        ("put text", &[12, 13]),
+        ("fetch text", &[11, 13]),
+    ] {
+        let expected = [&report[..], refusals].concat();
+        assert_eq!(files.tally.refusals(kind), expected, "{kind}");
+    }
+}
+
+#[test]
+fn the_same_seed_gives_the_same_files() {
+    let whole = |seed| gate::whole(&whole_cases::cases(seed));
+    let lists = |seed| gate::lists(&list_cases::lists(seed));
+    for make in [&whole as &dyn Fn(u64) -> gate::Files, &lists] {
+        let (first, again, other) = (make(SEED), make(SEED), make(SEED + 1));
+        assert_eq!(first.stdin, again.stdin);
+        assert_eq!(first.stdout, again.stdout);
+        assert_ne!(first.stdin, other.stdin);
+    }
+}
+
+#[test]
+fn the_programs_write_the_files() {
+    let programs = [
+        (
+            env!("CARGO_BIN_EXE_gate-whole"),
+            gate::whole(&whole_cases::cases(SEED)),
+        ),
+        (
+            env!("CARGO_BIN_EXE_gate-lists"),
+            gate::lists(&list_cases::lists(SEED)),
+        ),
+    ];
+    for (index, (program, files)) in programs.into_iter().enumerate() {
+        let directory = Path::new(env!("CARGO_TARGET_TMPDIR")).join(format!("gate-{index}"));
+        let run = Command::new(program).arg(&directory).output().unwrap();
+        assert!(run.status.success());
+        assert_eq!(fs::read(directory.join("stdin")).unwrap(), files.stdin);
+        assert_eq!(fs::read(directory.join("stdout")).unwrap(), files.stdout);
+        let run = Command::new(program).output().unwrap();
+        assert_eq!(run.status.code(), Some(2));
+    }
+}
