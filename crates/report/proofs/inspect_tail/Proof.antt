@@ -6,32 +6,20 @@ use Rattle.tail.specs.declared.Tail.{Tail}
 use Rattle.report.proofs.Outcomes.{sum-refused, same-sum, checksum-is, tail-refused, tail-ended, attachment-refused, last-decides, end-within}
 use Rattle.report.proofs.inspect_tail.Statement.{statement}
 use Rattle.report.proofs.inspect_tail.Tie as tie
-use Rattle.report.proofs.inspect_tail.Reads as reads
-use Rattle.report.proofs.inspect_tail.Lts as lts
-use Rattle.card.proofs.checksum.Reads as checksum-reads
-use Rattle.card.proofs.checksum_of.Reads as checksum-of-reads
-use Rattle.card.proofs.count.Reads as count-reads
-use Rattle.report.proofs.last.Reads as last-reads
-use Rattle.tail.proofs.walk.Reads as walk-reads
 
--- src/lib.rt:59:8
 checksum-requires : tie.Need-checksum-requires
 checksum-requires c κs = search needs
 
--- src/lib.rt:59:29
 checksum-of-requires : tie.Need-checksum-of-requires
 checksum-of-requires c κs = search needs
 
--- src/lib.rt:60:9
 returns : tie.Need-returns
 returns c =
     sum-refused _ _ (c .before .before .before .before .pre .long) (c .before .before .before .before .pre .fields) (λ e. c .if1 .taken (c .before .before .checksum .ensures .0 ∙ e ∙ checksum-is _ _ (c .before .before .before .before .pre .is) ∙ sym (c .before .checksum-of .ensures .0)))
 
--- src/lib.rt:62:9
 count-requires : tie.Need-count-requires
 count-requires c κs = search needs
 
--- src/lib.rt:63:9
 walk-requires : tie.Need-walk-requires
 walk-requires c κs = (
   nibbles-lt _ (λ i. omega (arith, c .before .before .before .before .shared-slice-known .given i)),
@@ -39,28 +27,23 @@ walk-requires c κs = (
   omega arith,
 )
 
--- src/lib.rt:73:25
 enum-known-w : tie.Need-enum-known-w
 enum-known-w c = search needs
 
--- src/lib.rt:74:23
 enum-known-w-2 : tie.Need-enum-known-w-2
 enum-known-w-2 c = search needs
 
--- src/lib.rt:74:29
 last-requires : tie.Need-last-requires
 last-requires c κs =
     let t = tail-ended _ _ _ _ (c .before .before .before .before .count .ensures .0) (c .before .before .before .walk .ensures) _ (c .before .w2 .given .1) in
     let within = end-within _ (λ i. omega (arith, c .before .before .before .before .before .before .before .before .shared-slice-known .given i)) (c .before .before .before .before .before .before .before .before .before .pre .long) (t .0) in
     omega (arith, ap (λ (x : Tail). x .end) (t .1))
 
--- src/lib.rt:55:1
 returns-2 : tie.Need-returns-2
 returns-2 c =
     attachment-refused _ _ (c .before .before .before .before .before .before .before .before .before .pre .long) (c .before .before .before .before .before .before .before .before .before .pre .fields) (same-sum _ _ _ (c .before .before .before .before .before .before .before .checksum .ensures .0) (c .before .before .before .before .before .before .checksum-of .ensures .0) (c .before .before .before .before .before .before .before .before .before .pre .is) (c .before .before .before .before .before .if1 .left)) _ _
     (tail-refused _ _ _ _ (c .before .before .before .before .count .ensures .0) (c .before .before .before .walk .ensures) _ _ (c .before .w .given .1))
 
--- src/lib.rt:55:1
 returns-3 : tie.Need-returns-3
 returns-3 c =
     let t = tail-ended _ _ _ _ (c .before .before .before .before .before .count .ensures .0) (c .before .before .before .before .walk .ensures) _ (c .before .before .w2 .given .1) in
