@@ -1,9 +1,21 @@
-.PHONY: test reference-test
+.PHONY: test list vectors reference-test
 
 # The same as the gate.
 test:
 	.ci/run
 
+# Lists the report that standard input begins with: make list < report
+list:
+	@command -v rt >/dev/null || { echo 'make list: the Rattle toolchain (rt) is not on the PATH' >&2; exit 1; }
+	@said=$$(rt check lister 2>&1 </dev/null) || { printf '%s\n' "$$said" >&2; exit 1; }
+	@target/bin/lister
+
+# Makes the test vectors of the gate anew, byte for byte, from the unrelated implementation.
+vectors:
+	@command -v cargo >/dev/null || { echo 'make vectors: cargo is not on the PATH' >&2; exit 1; }
+	cd reference && cargo run --release --quiet --bin gate-whole -- ../crates/vectors
+
 # The tests of the unrelated implementation.
 reference-test:
+	@command -v cargo >/dev/null || { echo 'make reference-test: cargo is not on the PATH' >&2; exit 1; }
 	cd reference && cargo test --release

@@ -4,7 +4,7 @@ use Prim.Native.Nat.{ℕ, suc, _+_, _-_, _*_, _/_, _%_, _^_, _≤_, _<_}
 use native.Mathlib.Nat.{add-comm, one-mul, mul-assoc, mod-lt, mod-eq-of-lt, lt-of-lt-of-le}
 use native.Mathlib.Numerals.{add-one, add-two}
 use native.Mathlib.Omega.{arith}
-use mathlib.Core.Path.{_≡_, refl, sym, ap, ap₂, _∙_}
+use mathlib.Core.Path.{_≡_, sym, ap, ap₂, _∙_}
 use mathlib.Core.Bool.{Bool}
 use mathlib.Core.List.{List, _∷_, _++_, append-assoc}
 use lib.Arith.{digits-lt}
@@ -42,15 +42,19 @@ patched-is n z w v =
     (omega arith, omega arith)
 
 -- `n - (f << z) + (v << z)`, for the f that stands there
-pub machine-patch : (n z w v f : ℕ) → n < 2 ^ 16 → w + z ≤ 16 → v < 2 ^ w → f ≡ n / 2 ^ z % 2 ^ w
-    → (f * 2 ^ z) % 2 ^ 64 ≤ n × (n - (f * 2 ^ z) % 2 ^ 64 + (v * 2 ^ z) % 2 ^ 64 ≡ patched n z w v) × patched n z w v < 2 ^ 16
+pub record Patch (n z w v f : ℕ) : Type 0 where
+  pub low : (f * 2 ^ z) % 2 ^ 64 ≤ n
+  pub is : n - (f * 2 ^ z) % 2 ^ 64 + (v * 2 ^ z) % 2 ^ 64 ≡ patched n z w v
+  pub small : patched n z w v < 2 ^ 16
+
+pub machine-patch : (n z w v f : ℕ) → n < 2 ^ 16 → w + z ≤ 16 → v < 2 ^ w → f ≡ n / 2 ^ z % 2 ^ w → Patch n z w v f
 machine-patch n z w v f hn h hv e =
     let p = patched-is n z w v in
     let old : f * 2 ^ z ≡ n / 2 ^ z % 2 ^ w * 2 ^ z = ap (λ (k : ℕ). k * 2 ^ z) e in
     let room : v * 2 ^ z < 2 ^ 16 = lt-of-lt-of-le (shl-lt w z hv) (pow-mono h) in
     let a : 16 - (w + z) + (w + z) ≡ 16 = omega arith in
     let lt : patched n z w v < 2 ^ 16 = rw a at (patched-lt (16 - (w + z)) w z n v (rw a hn) hv) in
-    (omega arith, omega arith, lt)
+    record { low = omega arith; is = omega arith; small = lt }
 
 -- ---- a field of w bits, r bits into a number n of m bits that stands behind the bits x: z bits of n are left
 

@@ -1,10 +1,10 @@
 -- The values that a card shows: each entry, the list that is written from the front, the presence word.
 -- Assumes nothing.
-use Prim.Native.Nat.{ℕ, zero, suc, _+_, _-_, _^_, _≤_, _<_}
+use Prim.Native.Nat.{ℕ, suc, _+_, _-_, _^_, _≤_, _<_}
 use native.Mathlib.Nat.{add-zero, pow-succ'}
 use native.Mathlib.Omega.{arith}
-use mathlib.Core.Path.{_≡_, refl, sym, ap, _∙_}
-use mathlib.Core.Bool.{Bool, true, false, cond}
+use mathlib.Core.Path.{_≡_, sym, ap, _∙_}
+use mathlib.Core.Bool.{Bool, true, false, cond, not}
 use mathlib.Core.List.{List, [], _∷_, _++_, map}
 use mathlib.Core.Option.{Option, none, some}
 use lib.Dec.{eqb}
@@ -19,18 +19,31 @@ use Rattle.format.specs.Whole.{valueOrZero, isPresent, presenceFrom}
 use Rattle.format.specs.declared.Coded.{Coded}
 use Rattle.format.specs.declared.Scaled.{Scaled}
 use Rattle.laws.proofs.Fields.{noField, field-at, table-length, length-entries, entries-at}
+use Rattle.card.specs.Rows.{scaledIn, Row}
+use Rattle.card.proofs.Scale.{scaled-row}
 use Rattle.card.proofs.Weights.{codes-length}
 
 -- ---- a field's entry
 
-module _ (f : Field) (c : Coded) where
-  pub entry-missing : c .0 ≡ 0 → entryOf f c ≡ none
-  unfolding entryOf
-  entry-missing e = rw (eq-eqb (c .0) 0 e)
+-- a field's entry, by its coded number
+pub entry-missing : (f : Field) (c : Coded) → c .0 ≡ 0 → entryOf f c ≡ none
+unfolding entryOf
+entry-missing f c e = rw (eq-eqb (c .0) 0 e)
 
-  pub entry-there : (c .0 ≡ 0 → ⊥) → entryOf f c ≡ some (scaledOf f c)
-  unfolding entryOf
-  entry-there n = rw (ne-eqb (c .0) 0 n)
+pub entry-there : (f : Field) (c : Coded) → (c .0 ≡ 0 → ⊥) → entryOf f c ≡ some (scaledOf f c)
+unfolding entryOf
+entry-there f c n = rw (ne-eqb (c .0) 0 n)
+
+-- by its row
+pub entry-row : (k r : ℕ) (c : Coded) → Row k r → cond (eqb (c .0) 0) none (some (scaledIn r c)) ≡ entryOf (fieldAt k) c
+unfolding entryOf
+entry-row k r c w = ap (λ (v : Scaled). cond (eqb (c .0) 0) none (some v)) (scaled-row k r c w)
+
+-- whether it is there
+pub present-is : (f : Field) (c : Coded) (t : Bool) → eqb (c .0) 0 ≡ t → isPresent (entryOf f c) ≡ not t
+unfolding entryOf
+present-is f c true e = rw e
+present-is f c false e = rw e
 
 -- the card's entries, and the values that are written for them
 abbrev pub entriesOf : List ℕ → List (Option Scaled)

@@ -2,7 +2,6 @@
 -- Assumes nothing.
 use Prim.Native.Nat.{ℕ, zero, suc, _+_, _≤_, _<_}
 use native.Mathlib.Nat.{add-comm, not-suc-le-zero, le-of-suc-le-suc}
-use native.Mathlib.Numerals.{add-one}
 use native.Mathlib.Omega.{arith}
 use mathlib.Core.Path.{_≡_, refl, sym, ap, ap₂, _∙_}
 use mathlib.Core.Bool.{Bool, true, false, cond, not, _&&_}
@@ -12,17 +11,15 @@ use lib.ListN.{length, getD, take, drop, set, length-append, drop-of-length-le}
 use lib.Seq.{append-snoc, drop-cons, getD-take, length-take-le, paste-zero, paste-suc, set-at, take-all}
 use lib.IntN.{ℤ, pos}
 use Rattle.format.specs.Order.{check, first}
-use Rattle.format.specs.Field.{Field, table, fieldAt, required, scaled, inRange, codedOf, codeOf, codes}
+use Rattle.format.specs.Field.{Field, table, fieldAt, required, scaled, inRange, codedOf, codeOf}
 use Rattle.format.specs.Whole.{bitAt, packChecks, entriesGiven}
 use Rattle.format.specs.Report.{numbersOf}
 use Rattle.format.specs.declared.Coded.{Coded}
 use Rattle.format.specs.declared.Scaled.{Scaled}
-use Rattle.laws.proofs.Lists.{true-false}
 use Rattle.laws.proofs.Order.{first-none}
 use Rattle.laws.proofs.Card.{numbers-length}
 use Rattle.laws.proofs.Fields.{noField, table-length, length-codes, codes-at, coded-range}
 use Rattle.card.specs.Answers.{codingOf, Carded, Packable, given, fielded}
-use Rattle.card.specs.declared.Coding.{Coding}
 use Rattle.card.specs.declared.Coding.the-variants.{Outside, Code}
 use Rattle.card.proofs.Entries.{field-is}
 

@@ -2,7 +2,7 @@
 -- Assumes nothing.
 use Prim.Native.Nat.{ℕ, zero, suc, _+_, _-_, _*_, _/_, _%_, _^_, _≤_, _<_}
 use native.Mathlib.Omega.{arith}
-use mathlib.Core.Path.{_≡_, refl, sym, ap, subst, _∙_}
+use mathlib.Core.Path.{_≡_, refl, sym, ap, ap₂, subst, _∙_}
 use mathlib.Core.Bool.{Bool}
 use mathlib.Core.List.{List, [], _∷_, _++_}
 use lib.ListN.{length, take, drop, getD, set, replicate, length-drop, length-set, take-append-drop}
@@ -19,6 +19,7 @@ use Rattle.laws.proofs.Fields.{noField, field-at, table-fits, width-at}
 use Rattle.bits.specs.Window.{patched}
 use Rattle.bits.proofs.Window.{field-byte, splice-byte}
 use Rattle.card.specs.Answers.{Carded}
+use Rattle.card.specs.Rows.{Row}
 
 -- ---- reading
 
@@ -32,6 +33,10 @@ code-at b k l h =
     let e : 1 + (k - 1) ≡ k = omega arith in
     getD-take 46 (drop 1 (numbersOf b)) (k - 1) 0 (omega arith) ∙ getD-drop 1 (numbersOf b) (k - 1) 0
     ∙ ap (λ (n : ℕ). getD (numbersOf b) n 0) e
+
+-- and stands where the row says
+pub row-at : (b : List ℕ) (k r : ℕ) → Row k r → 1 ≤ k → k ≤ 46 → bitField b (r / 4294967296) (r / 268435456 % 16) ≡ getD (codesOf b) (k - 1) 0
+row-at b k r w l h = ap₂ (bitField b) (w .place) (w .bits) ∙ number-at b k (omega arith) ∙ sym (code-at b k l h)
 
 -- the numbers that are no fields
 module _ (b : List ℕ) where

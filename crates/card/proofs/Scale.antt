@@ -1,22 +1,22 @@
 -- Coded and scaled on the machine: what its signed sums, differences and tests ask and tell.
 -- Assumes nothing.
-use Prim.Native.Nat.{ℕ, _+_, _%_, _≤_, _<_}
+use Prim.Native.Nat.{ℕ, _+_, _%_, _<_}
 use native.Mathlib.Omega.{arith}
 use mathlib.Core.Path.{_≡_, refl, sym, ap, ap₂, subst, _∙_}
 use mathlib.Core.Bool.{Bool, true, false, not, and-false}
-use lib.Dec.{ltb, leb}
+use lib.Dec.{ltb}
 use lib.IntN.{ℤ, pos, negsuc, negℤ, natAbs, subℕ, _+ℤ_, _-ℤ_, +ℤ-assoc, +ℤ-comm, +ℤ-negℤ-cancel}
 use lib.Signed.{ltZ, leZ}
 use mir.Syntax.{w64}
 use mir.Val.{SFits, toZ, ofZ}
 use mir.ValLaws.{toZ-ofZ, toZ-pos}
 use borrow.Author.Tests.{ltb-true, ltb-false, le-leb, lt-leb}
-use Rattle.format.specs.Field.{Field, coded, codedOf, scaledOf, inRange}
+use Rattle.format.specs.Field.{Field, fieldAt, coded, scaled, codedOf, scaledOf, inRange}
+use Rattle.format.specs.declared.Coded.{Coded}
 use Rattle.format.specs.declared.Scaled.{Scaled}
 use Rattle.laws.proofs.Fields.{scaled-coded}
 use Rattle.card.specs.Answers.{codingOf}
-use Rattle.card.specs.Rows.{baseOf}
-use Rattle.card.specs.declared.Coding.{Coding}
+use Rattle.card.specs.Rows.{baseOf, scaledIn, Row}
 use Rattle.card.specs.declared.Coding.the-variants.{Outside, Code}
 
 -- ---- sums with a base
@@ -59,15 +59,20 @@ base-held b r e = toZ-ofZ w64 b (subst (λ (z : ℤ). SFits w64 z) (sym e) (base
 
 -- ---- a scaled value
 
-module _ (c r : ℕ) (b : ℤ) (h : c < 65536) (e : b ≡ baseOf r) where
-  sum-is : toZ w64 c +ℤ toZ w64 (ofZ w64 b) ≡ baseOf r +ℤ pos c
-  sum-is = ap₂ _+ℤ_ (toZ-pos w64 c (omega arith)) (base-held b r e ∙ e) ∙ +ℤ-comm (pos c) (baseOf r)
+module _ (c : Coded) (r : ℕ) (b : ℤ) (h : c .0 < 65536) (e : b ≡ baseOf r) where
+  sum-is : toZ w64 (c .0) +ℤ toZ w64 (ofZ w64 b) ≡ baseOf r +ℤ pos (c .0)
+  sum-is = ap₂ _+ℤ_ (toZ-pos w64 (c .0) (omega arith)) (base-held b r e ∙ e) ∙ +ℤ-comm (pos (c .0)) (baseOf r)
 
-  pub scaled-fits : SFits w64 (toZ w64 c +ℤ toZ w64 (ofZ w64 b))
-  scaled-fits = subst (λ (z : ℤ). SFits w64 z) (sym sum-is) (base-add-fits r c h)
+  pub scaled-fits : SFits w64 (toZ w64 (c .0) +ℤ toZ w64 (ofZ w64 b))
+  scaled-fits = subst (λ (z : ℤ). SFits w64 z) (sym sum-is) (base-add-fits r (c .0) h)
 
-  pub scaled-is : toZ w64 (ofZ w64 (toZ w64 c +ℤ toZ w64 (ofZ w64 b))) ≡ pos c +ℤ baseOf r
-  scaled-is = toZ-ofZ w64 _ scaled-fits ∙ sum-is ∙ +ℤ-comm (baseOf r) (pos c)
+  pub scaled-is : scaled (toZ w64 (ofZ w64 (toZ w64 (c .0) +ℤ toZ w64 (ofZ w64 b)))) ≡ scaledIn r c
+  unfolding scaledIn
+  scaled-is = ap scaled (toZ-ofZ w64 _ scaled-fits ∙ sum-is ∙ +ℤ-comm (baseOf r) (pos (c .0)))
+
+pub scaled-row : (k r : ℕ) (c : Coded) → Row k r → scaledIn r c ≡ scaledOf (fieldAt k) c
+unfolding scaledIn scaledOf
+scaled-row k r c w = ap (λ (z : ℤ). scaled (pos (c .0) +ℤ z)) (w .base)
 
 -- ---- a coded number
 

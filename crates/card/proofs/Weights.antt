@@ -9,10 +9,10 @@ use mathlib.Core.Bool.{Bool, true, false, cond, _&&_, _||_}
 use mathlib.Core.List.{List}
 use mathlib.Core.Option.{Option, none, some}
 use lib.Dec.{ltb, eqb}
-use lib.ListN.{length, getD, take, drop, drop-of-length-le, length-drop}
+use lib.ListN.{length, getD, drop, drop-of-length-le, length-drop}
 use lib.Seq.{length-take-le}
 use lib.Pow.{pow-mono}
-use borrow.Author.Tests.{lt-ltb, le-ltb, eq-eqb, ne-eqb, ltb-false}
+use borrow.Author.Tests.{lt-ltb, le-ltb, ne-eqb}
 use Rattle.format.specs.Order.{Refusal, first}
 use Rattle.format.specs.Bits.{bitField, total, offset}
 use Rattle.format.specs.Field.{Field, table, fieldAt, required}
@@ -24,7 +24,6 @@ use Rattle.laws.proofs.Card.{numbers-length}
 use Rattle.laws.proofs.Fields.{noField, field-at, table-length, fieldRefusal, checks-at}
 use Rattle.card.specs.Answers.{checkedOf, cardCheck}
 use Rattle.card.specs.Weights.{weighed, weightAt, weights, refusalOf}
-use Rattle.card.specs.declared.CardCheck.{CardCheck}
 use Rattle.card.specs.declared.CardCheck.the-variants.{Refused, Sum}
 use Rattle.card.proofs.Rows.{row-is}
 use Rattle.card.proofs.Numbers.{number-at, code-at}
@@ -35,7 +34,7 @@ pub weighed-above : (q : Bool) (h c : ℕ) → h < c → weighed q h c ≡ c + 4
 unfolding weighed
 weighed-above q h c l = rw (lt-ltb h c l)
 
-pub weighed-missing : (h c : ℕ) → c ≡ 0 → weighed true h c ≡ 4294967296
+pub weighed-missing : (h c : ℕ) → c ≡ 0 → weighed true h c ≡ c + 4294967296
 unfolding weighed
 weighed-missing h c e = rw (e, le-ltb h 0 (omega arith))
 

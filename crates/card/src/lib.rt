@@ -4,6 +4,7 @@ ghost use mathlib.Core.Bool.{true, false, cond, not, _&&_};
 ghost use mathlib.Core.List.{[], _∷_, _++_, map};
 ghost use mathlib.Core.Option.{none, some};
 ghost use Prim.Native.Nat.{_+_, _-_, _*_, _/_, _%_, _≤_, _<_, _^_};
+ghost use lib.Dec.{eqb};
 ghost use lib.ListN.{length, getD, set};
 ghost use Rattle.format.specs.Bits.{bitField, total};
 ghost use Rattle.format.specs.Field.{table, fieldAt, required, scaled, scaledOf, inRange, entryOf, entries, codeOf};
@@ -13,7 +14,7 @@ ghost use Rattle.format.specs.Machine.{over};
 ghost use Rattle.format.specs.Whole.{valueOrZero, isPresent, presenceFrom, bitAt};
 ghost use Rattle.bits.specs.Window.{TwoBytes};
 ghost use Rattle.card.specs.Answers.{cardCheck, codingOf, Carded, Packable, given, fielded};
-ghost use Rattle.card.specs.Rows.{rows, Row, baseOf};
+ghost use Rattle.card.specs.Rows.{rows, baseOf, scaledIn, Row};
 ghost use Rattle.card.specs.Weights.{ThreeFields, weighed, weighedThree, weights, refusalOf};
 use format::Coded;
 use format::Scaled;
@@ -86,6 +87,7 @@ fn packed_row(k: usize) -> u64
     }
 }
 
+// The row of field k: the same, held to the field table.
 fn row(k: usize) -> u64
     requires { ⌜ (1 ≤ k) × (k ≤ 46) ⌝ }
     ensures { λ r. ⌜ Row k r ⌝ }
@@ -93,15 +95,22 @@ fn row(k: usize) -> u64
     packed_row(k)
 }
 
+// The coded number of the field that a row is of.
+fn code_in(s: &[u8], row: u64) -> Coded
+    requires { ⌜ TwoBytes (length (now s)) (row / 4294967296) (row / 268435456 % 16) ⌝ }
+    ensures { λ r. ⌜ r .0 ≡ bitField (now (s .entry)) (row / 4294967296) (row / 268435456 % 16) ⌝ }
+{
+    let at = (row / 4294967296) as usize;
+    let width = (row / 268435456 % 16) as usize;
+    Coded(bits::read(s, at, width) as u16)
+}
+
 // The coded number of field k.
 pub fn code(s: &[u8], k: usize) -> Coded
     requires { ⌜ (38 ≤ length (now s)) × (1 ≤ k) × (k ≤ 46) ⌝ }
     ensures { λ r. ⌜ r .0 ≡ getD (codesOf (now (s .entry))) (k - 1) 0 ⌝ }
 {
-    let r = row(k);
-    let at = (r / 4294967296) as usize;
-    let width = (r / 268435456 % 16) as usize;
-    Coded(bits::read(s, at, width) as u16)
+    code_in(s, row(k))
 }
 
 pub fn rptin(s: &[u8]) -> u16
@@ -146,13 +155,20 @@ fn base(row: u64) -> i64
     (row % 65536) as i64 - 1000
 }
 
+// The scaled value of a coded number of the field that a row is of.
+fn scaled_in(row: u64, c: Coded) -> Scaled
+    ensures { λ r. ⌜ r ≡ scaledIn row c ⌝ }
+{
+    let x = c.0;
+    Scaled(x as i64 + base(row))
+}
+
 // The scaled value of a coded number of field k.
 pub fn scaled(k: usize, c: Coded) -> Scaled
     requires { ⌜ (1 ≤ k) × (k ≤ 46) ⌝ }
     ensures { λ r. ⌜ r ≡ scaledOf (fieldAt k) c ⌝ }
 {
-    let x = c.0;
-    Scaled(x as i64 + base(row(k)))
+    scaled_in(row(k), c)
 }
 
 // The coded number of a scaled value of field k.
@@ -214,31 +230,42 @@ pub fn set_rptin(s: &mut [u8], v: u16)
     bits::write(s, 0, 16, v as u64);
 }
 
+// A coded number, and 2^32 more where it is above the highest.
+fn mark(c: u64, highest: u64) -> u64
+    requires { ⌜ c < 65536 ⌝ }
+    ensures { λ r. ⌜ (r ≡ weighed false highest c) × (r < 8589934592) ⌝ }
+{
+    if highest < c {
+        return c + 4294967296;
+    }
+    c
+}
+
+// A coded number of a required field, and 2^32 more where it is 0 or above the highest.
+fn mark_required(c: u64, highest: u64) -> u64
+    requires { ⌜ (c < 65536) × (highest < 65536) ⌝ }
+    ensures { λ r. ⌜ (r ≡ weighed true highest c) × (r < 8589934592) ⌝ }
+{
+    if highest <= (c + 65535) % 65536 {
+        return c + 4294967296;
+    }
+    c
+}
+
 // The weight of the field of width bits from bit `at` on, added to a sum.
 fn weigh(sum: u64, s: &[u8], at: usize, width: usize, highest: u64) -> u64
     requires { ⌜ TwoBytes (length (now s)) at width × (sum < 1099511627776) ⌝ }
     ensures { λ r. ⌜ (r ≡ sum + weighed false highest (bitField (now (s .entry)) at width)) × (r < sum + 8589934592) ⌝ }
 {
-    let c = bits::read(s, at, width);
-    if highest < c {
-        return sum + c + 4294967296;
-    }
-    sum + c
+    sum + mark(bits::read(s, at, width), highest)
 }
 
 // The same of a required field.
 fn weigh_required(sum: u64, s: &[u8], at: usize, width: usize, highest: u64) -> u64
-    requires { ⌜ TwoBytes (length (now s)) at width × (sum < 1099511627776) ⌝ }
+    requires { ⌜ TwoBytes (length (now s)) at width × (sum < 1099511627776) × (highest < 65536) ⌝ }
     ensures { λ r. ⌜ (r ≡ sum + weighed true highest (bitField (now (s .entry)) at width)) × (r < sum + 8589934592) ⌝ }
 {
-    let c = bits::read(s, at, width);
-    if highest < c {
-        return sum + c + 4294967296;
-    }
-    if c == 0 {
-        return sum + 4294967296;
-    }
-    sum + c
+    sum + mark_required(bits::read(s, at, width), highest)
 }
 
 // The same of three fields that are not required, one after the other from bit `at` on.
@@ -350,16 +377,15 @@ pub fn check(s: &[u8]) -> CardCheck
     walk(s)
 }
 
-// What unpacking shows of a coded number of field k: the scaled value, 0 where it is missing.
-fn value_or_zero(k: usize, c: Coded) -> i64
-    requires { ⌜ (1 ≤ k) × (k ≤ 46) ⌝ }
-    ensures { λ r. ⌜ r ≡ valueOrZero (entryOf (fieldAt k) c) ⌝ }
+// What unpacking shows of a coded number of the field that a row is of: the scaled value, 0 where it is missing.
+fn value_or_zero(row: u64, c: Coded) -> i64
+    ensures { λ r. ⌜ r ≡ valueOrZero (cond (eqb (c .0) 0) none (some (scaledIn row c))) ⌝ }
 {
     let x = c.0;
     if x == 0 {
         return 0;
     }
-    let v = scaled(k, c);
+    let v = scaled_in(row, c);
     v.0
 }
 
@@ -384,8 +410,9 @@ pub fn values(s: &[u8], out: &mut [i64]) -> u64
     let mut i = 0;
     while i < 46 {
         let k = i + 1;
-        let c = code(s, k);
-        out[i] = value_or_zero(k, c);
+        let r = row(k);
+        let c = code_in(s, r);
+        out[i] = value_or_zero(r, c);
         word += presence_bit(k, c);
         i = k;
     }

@@ -1,14 +1,14 @@
 -- More laws of lib.Seq's `paste d at x n`: d, with the n elements from `at` on replaced by x's first n.
 -- Assumes nothing.
-use Prim.Native.Nat.{ℕ, zero, suc, _+_, _-_, max, _≤_, _<_}
+use Prim.Native.Nat.{ℕ, zero, suc, _+_, _*_, _-_, _/_, _%_, max, _≤_, _<_}
+use native.Mathlib.Nat.{eq-or-lt-of-le}
 use native.Mathlib.Omega.{arith}
+use mathlib.Core.Logic.{⊎-elim}
 use mathlib.Core.Path.{_≡_, refl, sym, ap, ap₂, _∙_}
 use mathlib.Core.List.{List, _∷_, _++_, append-assoc}
-use native.Mathlib.Nat.{eq-or-lt-of-le}
-use mathlib.Core.Logic.{⊎-elim}
 use lib.ListN.{length, getD, take, drop, set, replicate, length-drop, List·getD-append, take-append-drop}
-use Rattle.laws.proofs.Lists.{drop-replicate}
 use lib.Seq.{paste, paste-zero, paste-suc, length-paste, length-paste-head, take-paste, drop-paste, length-take-le, take-append-le, take-take, drop-at, drop-drop, drop-append-le, take-add, getD-drop, getD-take, getD-append-add, set-getD}
+use Rattle.laws.proofs.Lists.{drop-replicate}
 
 -- nothing is replaced
 pub paste-none : (d : List ℕ) (at : ℕ) (x : List ℕ) (n : ℕ) → n ≡ 0 → d ≡ paste d at x n
@@ -98,7 +98,7 @@ up-then d e from to a b n sum up fits given =
 -- ---- single elements
 
 -- one stored
-pub paste-one : (d src : List ℕ) (at p v : ℕ) → at < length d → p < length src → v ≡ getD src p 0 → set d at v ≡ paste d at (drop p src) 1
+paste-one : (d src : List ℕ) (at p v : ℕ) → at < length d → p < length src → v ≡ getD src p 0 → set d at v ≡ paste d at (drop p src) 1
 paste-one d src at p v fits long e =
     let x : List ℕ = drop p src in
     let k : at + 0 ≡ at = omega arith in
@@ -117,6 +117,7 @@ paste-two d src at p u v fits long eu ev =
 
 -- ---- the ends of a run
 
+-- what is laid is read back
 inside : (d : List ℕ) (at : ℕ) (x : List ℕ) (n k : ℕ) → at ≤ length d → n ≤ length x → k < n → getD (paste d at x n) (at + k) 0 ≡ getD x k 0
 inside d at x n k fits long less =
     let front : List ℕ = take at d in
@@ -156,34 +157,29 @@ first d e x at (suc zero) m r one sum long fits given =
     ∙ paste-back d at x 1 m r (omega arith) (omega arith)
 first d e x at (suc (suc h)) m r one sum long fits given = absurd (omega arith)
 
--- a run of count elements, read from p on and laid from `at` on, of which m have been laid, from `next` on and read from q on: all but
--- h in front and at most one behind; z and w are the places of the last
-abbrev pub Ends : (at p h m count next q z w long wide : ℕ) → Type 0
-Ends at p h m count next q z w long wide =
-    (h ≤ 1) × (h + m ≤ count) × (count ≤ h + m + 1) × (0 < count) × (at + count ≤ long) × (p + count ≤ wide)
-    × (next ≡ at + h) × (q ≡ p + h) × (z + 1 ≡ at + count) × (w + 1 ≡ p + count)
-
--- then the first and the last are stored
-pub ends : (d e src : List ℕ) (at p h m count next q z w u v : ℕ) → Ends at p h m count next q z w (length d) (length src)
-    → u ≡ getD src p 0 → v ≡ getD src w 0 → e ≡ paste d next (drop q src) m → set (set e at u) z v ≡ paste d at (drop p src) count
-ends d e src at p h m count next q z w u v (one, low, high, some, fits, long, en, eq, ez, ew) eu ev given =
-    let x : List ℕ = drop p src in
-    let lx : length x ≡ length src - p = length-drop p src in
-    let r : ℕ = max (h + m) 1 in
+-- a run of count elements is read from p on and laid from `at` on. All but a first one, if x is odd, and at most a last one have given e,
+-- read from q on and laid from `next` on; then the first is stored, and the last, read at w, at z.
+pub ends : (d e src : List ℕ) (at p x count next q z w u v : ℕ) → 0 < count → at + count ≤ length d → p + count ≤ length src
+    → next ≡ at + x % 2 → q ≡ p + x % 2 → z ≡ at + (count - 1) → w ≡ p + (count - 1) → u ≡ getD src p 0 → v ≡ getD src w 0
+    → e ≡ paste d next (drop q src) (2 * ((count - x % 2) / 2)) → set (set e at u) z v ≡ paste d at (drop p src) count
+ends d e src at p x count next q z w u v some fits long en eq ez ew eu ev given =
+    let run : List ℕ = drop p src in
+    let wide : length run ≡ length src - p = length-drop p src in
+    let h : ℕ = x % 2 in
+    let m : ℕ = 2 * ((count - h) / 2) in
     let k : ℕ = count - 1 in
     let p₀ : p + 0 ≡ p = omega arith in
-    let wk : p + (count - 1) ≡ w = omega arith in
-    let zk : z ≡ at + (count - 1) = omega arith in
-    let u′ : u ≡ getD x 0 0 = eu ∙ sym (getD-drop p src 0 0 ∙ ap (λ (j : ℕ). getD src j 0) p₀) in
-    let v′ : v ≡ getD x k 0 = ev ∙ sym (getD-drop p src k 0 ∙ ap (λ (j : ℕ). getD src j 0) wk) in
-    let given′ : e ≡ paste d (at + h) (drop h x) m =
+    let u′ : u ≡ getD run 0 0 = eu ∙ sym (getD-drop p src 0 0 ∙ ap (λ (j : ℕ). getD src j 0) p₀) in
+    let v′ : v ≡ getD run k 0 = ev ∙ sym (getD-drop p src k 0 ∙ ap (λ (j : ℕ). getD src j 0) (sym ew)) in
+    let given′ : e ≡ paste d (at + h) (drop h run) m =
     given ∙ ap₂ (λ (i j : ℕ). paste d i (drop j src) m) en eq ∙ ap (λ (l : List ℕ). paste d (at + h) l m) (sym (drop-drop h p src)) in
-    ap₂ (λ (j i : ℕ). set (set e at i) z j) v′ u′
-    ∙ ap₂ (λ (l : List ℕ) (j : ℕ). set l j (getD x k 0)) (first d e x at h m r one refl (omega arith) (omega arith) given′) zk
-    ∙ stored d at x r k count (omega arith) (omega arith) (omega arith) fits
+    ap₂ (λ (i j : ℕ). set (set e at i) z j) u′ v′
+    ∙ ap₂ (λ (l : List ℕ) (j : ℕ). set l j (getD run k 0)) (first d e run at h m (max (h + m) 1) (omega arith) refl (omega arith) (omega arith) given′) ez
+    ∙ stored d at run (max (h + m) 1) k count (omega arith) (omega arith) (omega arith) fits
 
 -- ---- zeros
 
+-- any m zeros of a run of zeros are m zeros
 take-zeros : (m n : ℕ) → m ≤ n → take {A = ℕ} m (replicate n 0) ≡ replicate m 0
 take-zeros zero n h = refl
 take-zeros (suc m) zero h = absurd (omega arith)

@@ -1,9 +1,10 @@
 -- The codes of the characters, as the code gives them: tests computed over the bytes of each arm.
 -- Assumes nothing.
-use Prim.Native.Nat.{ℕ, _+_, _-_, _/_, _%_, _≤_, _<_}
+use Prim.Native.Nat.{ℕ, _+_, _-_, _*_, _/_, _%_, _≤_, _<_}
 use native.Mathlib.Omega.{arith}
-use mathlib.Core.Path.{_≡_, refl, sym, ap, _∙_}
-use mathlib.Core.Bool.{Bool, true, false, _&&_}
+use native.Mathlib.Nat.{add-comm}
+use mathlib.Core.Path.{_≡_, refl, sym, ap, ap₂, _∙_}
+use mathlib.Core.Bool.{true, false}
 use lib.Dec.{leb, eqb}
 use borrow.Author.Tests.{eqb-true, ne-eqb, leb-true}
 use Rattle.format.specs.Order.{between}
@@ -40,47 +41,71 @@ pub code-s-z : (b : ℕ) → 83 ≤ b → b < 91 → b + 143 ≡ charCode b
 unfolding charCode allBelow
 code-s-z = agree (λ b. b + 143) charCode 83 8 refl
 
-outside : (low high b : ℕ) → (low ≤ b → b ≤ high → ⊥) → between low high b ≡ false
+-- not in a range
+abbrev Outside : ℕ → ℕ → ℕ → Type 0
+Outside low high b = low ≤ b → b ≤ high → ⊥
+
+pub under : (low high b k : ℕ) → b < k → k ≤ low → Outside low high b
+under low high b k e f h g = omega arith
+
+pub beyond : (low high b : ℕ) → high < b → Outside low high b
+beyond low high b e h g = omega arith
+
+outside : (low high b : ℕ) → Outside low high b → between low high b ≡ false
 outside low high b h =
     test-case (between low high b)
     (λ e. let t = and-true (leb low b) (leb b high) e in absurd (h (leb-true low b (t .0)) (leb-true b high (t .1))))
     (λ e. e)
 
--- a byte with no short code
-pub record Other (b : ℕ) : Type 0 where
-  pub space : b ≡ 32 → ⊥
-  pub and : b ≡ 38 → ⊥
-  pub plus : b ≡ 43 → ⊥
-  pub minus : b ≡ 45 → ⊥
-  pub open-brace : b ≡ 123 → ⊥
-  pub close-brace : b ≡ 125 → ⊥
-  pub slash : b ≡ 47 → ⊥
-  pub digit : 48 ≤ b → b ≤ 57 → ⊥
-  pub letter : 65 ≤ b → b ≤ 90 → ⊥
+no-letter : (b : ℕ) → Outside 65 90 b → (between 65 73 b ≡ false) × (between 74 82 b ≡ false) × (between 83 90 b ≡ false)
+no-letter b o = (
+  outside 65 73 b (λ h g. o (omega arith) (omega arith)),
+  outside 74 82 b (λ h g. o (omega arith) (omega arith)),
+  outside 83 90 b (λ h g. o (omega arith) (omega arith)),
+)
 
-pub code-other : (b : ℕ) → Other b → b + 3840 ≡ charCode b
+-- none of the bytes that the match names
+abbrev Unnamed : ℕ → Type 0
+Unnamed b =
+    ((((((Unit {0} × (b ≡ 32 → ⊥)) × (b ≡ 38 → ⊥)) × (b ≡ 43 → ⊥)) × (b ≡ 45 → ⊥)) × (b ≡ 123 → ⊥)) × (b ≡ 125 → ⊥)) × (b ≡ 47 → ⊥)
+
+-- a byte with no short code
+pub code-other : (b : ℕ) → Unnamed b → Outside 48 57 b → Outside 65 90 b → b + 3840 ≡ charCode b
 unfolding charCode
-code-other b o =
-    let e : b + 3840 ≡ 3840 + b = omega arith in
+code-other b n digit letter =
+    let l = no-letter b letter in
     rw (
-      outside 48 57 b (o .digit),
-      ne-eqb b 32 (o .space),
-      outside 65 73 b (λ h k. o .letter h (omega arith)),
-      outside 74 82 b (λ h k. o .letter (omega arith) (omega arith)),
-      outside 83 90 b (λ h k. o .letter (omega arith) k),
-      ne-eqb b 47 (o .slash),
-      ne-eqb b 38 (o .and),
-      ne-eqb b 43 (o .plus),
-      ne-eqb b 45 (o .minus),
-      ne-eqb b 123 (o .open-brace),
-      ne-eqb b 125 (o .close-brace),
+      outside 48 57 b digit,
+      ne-eqb b 32 (n .0 .0 .0 .0 .0 .0 .1),
+      l .0,
+      l .1,
+      l .2,
+      ne-eqb b 47 (n .1),
+      ne-eqb b 38 (n .0 .0 .0 .0 .0 .1),
+      ne-eqb b 43 (n .0 .0 .0 .0 .1),
+      ne-eqb b 45 (n .0 .0 .0 .1),
+      ne-eqb b 123 (n .0 .0 .1),
+      ne-eqb b 125 (n .0 .1),
     )
-    e
+    (add-comm b 3840)
 
 -- ---- pairs
 
+-- a pair, from the pair as one number
+pub pair-is : (z n b : ℕ) → n ≤ 15 → b ≡ pairByte ((z * 16 + n) / 16) ((z * 16 + n) % 16) → b ≡ pairByte z n
+pair-is z n b h e =
+    let d : (z * 16 + n) / 16 ≡ z = omega arith in
+    let m : (z * 16 + n) % 16 ≡ n = omega arith in
+    e ∙ ap₂ pairByte d m
+
 abbrev pairAt : ℕ → ℕ
 pairAt v = pairByte (v / 16) (v % 16)
+
+pub pair-fits : (z n : ℕ) → z ≤ 15 → n ≤ 15 → z * 16 + n < 256
+pair-fits z n h k = omega arith
+
+pub pair-key : (z n k b : ℕ) → n ≤ 15 → z * 16 + n ≡ k → b ≡ pairByte (k / 16) (k % 16) → b ≡ pairByte z n
+pair-key z n k b h e f = pair-is z n b h (f ∙ ap pairAt (sym e))
 
 pub pair-a-i : (v : ℕ) → 193 ≤ v → v < 202 → v - 128 ≡ pairByte (v / 16) (v % 16)
 unfolding pairByte allBelow

@@ -1,18 +1,15 @@
 -- One law for each answer of the functions that take a nibble.
 -- Assumes nothing.
-use Prim.Native.Nat.{ℕ, _+_, _*_, _/_, _%_, _≤_, _<_}
+use Prim.Native.Nat.{ℕ, _+_, _*_, _%_, _≤_, _<_}
 use native.Mathlib.Omega.{arith}
-use mathlib.Core.Path.{_≡_, refl, sym, ap, ap₂, subst, _∙_}
-use mathlib.Core.Bool.{Bool, true, false, cond, not, _&&_}
-use lib.Dec.{ltb, eqb}
+use mathlib.Core.Path.{_≡_, refl, subst}
+use lib.Dec.{ltb}
 use borrow.Author.Tests.{lt-ltb, le-ltb, eq-eqb, ne-eqb}
 use Rattle.format.specs.declared.TextState.{TextState}
 use Rattle.format.specs.declared.TextState.the-variants.{Between, Run, Pair, Escape, Half, Invalid}
-use Rattle.format.specs.declared.TextStep.{TextStep}
 use Rattle.format.specs.declared.TextStep.the-variants.{On, Plain, Original}
 use Rattle.format.specs.ShipText.{charCode, short, escapable, pairByte, textStep}
 use Rattle.laws.proofs.Lists.{test-case}
-use Rattle.laws.proofs.Characters.{no-column, no-row}
 use Rattle.text.specs.Answers.{held}
 
 -- ---- between two codes
@@ -62,28 +59,13 @@ run-crowd s n h = rw (ne-eqb (s % 18) 0 h)
 
 -- ---- in a pair
 
-pub pair-column : (s z n : ℕ) → 16 ≤ z → On Invalid ≡ textStep (Pair s z) n
+pub pair-bad : (s z n b : ℕ) → b ≡ pairByte z n → b ≡ 0 → On Invalid ≡ textStep (Pair s z) n
 unfolding textStep
-pair-column s z n h = rw (no-column z n h)
+pair-bad s z n b e h = rw (← e, h)
 
-pub pair-row : (s z n : ℕ) → 16 ≤ n → On Invalid ≡ textStep (Pair s z) n
+pub pair-good : (s z n b : ℕ) → b ≡ pairByte z n → (b ≡ 0 → ⊥) → Plain s b ≡ textStep (Pair s z) n
 unfolding textStep
-pair-row s z n h = rw (no-row z n h)
-
--- the byte of a pair, from the pair as one number
-pair-is : (z n b : ℕ) → n < 16 → b ≡ pairByte ((z * 16 + n) / 16) ((z * 16 + n) % 16) → b ≡ pairByte z n
-pair-is z n b h e =
-    let d : (z * 16 + n) / 16 ≡ z = omega arith in
-    let m : (z * 16 + n) % 16 ≡ n = omega arith in
-    e ∙ ap₂ pairByte d m
-
-pub pair-bad : (s z n b : ℕ) → n < 16 → b ≡ pairByte ((z * 16 + n) / 16) ((z * 16 + n) % 16) → b ≡ 0 → On Invalid ≡ textStep (Pair s z) n
-unfolding textStep
-pair-bad s z n b k e h = rw (← pair-is z n b k e, h)
-
-pub pair-good : (s z n b : ℕ) → n < 16 → b ≡ pairByte ((z * 16 + n) / 16) ((z * 16 + n) % 16) → (b ≡ 0 → ⊥) → Plain s b ≡ textStep (Pair s z) n
-unfolding textStep
-pair-good s z n b k e h = rw (← pair-is z n b k e, ne-eqb b 0 h)
+pair-good s z n b e h = rw (← e, ne-eqb b 0 h)
 
 -- ---- in an escape
 

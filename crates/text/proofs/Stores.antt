@@ -5,7 +5,7 @@ use native.Mathlib.Omega.{arith}
 use native.Mathlib.Nat.{add-zero}
 use native.Mathlib.Numerals.{add-one}
 use mathlib.Core.Path.{_≡_, refl, sym, ap, ap₂, _∙_}
-use mathlib.Core.List.{List, [], _∷_, _++_, append-assoc}
+use mathlib.Core.List.{List, [], _∷_, _++_}
 use lib.ListN.{length, set, drop, replicate, length-append, length-replicate, replicate-append-replicate}
 use lib.Seq.{sets, sets-eq, length-sets}
 use borrow.Author.Tests.{lt-ltb, le-ltb}
@@ -53,18 +53,32 @@ module _ (d : List ℕ) (at : ℕ) (xs : List ℕ) where
 
 -- ---- a word
 
-spaces-more : (d o : List ℕ) (at i k a : ℕ) → o ≡ sets d at (replicate i 32) → k ≡ at + i → set o k a ≡ sets d at (replicate i 32 ++ (a ∷ []))
-spaces-more d o at i k a e f =
-    stores d o (set o k a) (replicate i 32) (a ∷ []) at k e (f ∙ ap (λ (j : ℕ). at + j) (sym (length-replicate i 32))) refl
+pub word-is : (s b : ℕ) → word (s + 1) b ≡ replicate s 32 ++ (b ∷ [])
+unfolding word
+word-is s b = rw add-one
+
+pub word-length : (n b : ℕ) → length (word n b) ≡ n
+unfolding word
+word-length zero b = refl
+word-length (suc s) b = omega (arith, length-append (replicate s 32) (b ∷ []), length-replicate {A = ℕ} s 32)
+
+pub word-none : (d : List ℕ) (at n b : ℕ) → n ≡ 0 → d ≡ sets d at (word n b)
+unfolding word
+word-none d at n b e = ap (λ (k : ℕ). sets d at (word k b)) (sym e)
+
+spaces-more : (d o : List ℕ) (at i a : ℕ) → o ≡ sets d at (replicate i 32) → set o (at + i) a ≡ sets d at (replicate i 32 ++ (a ∷ []))
+spaces-more d o at i a e =
+    let k : at + i ≡ at + length (replicate {A = ℕ} i 32) = omega (arith, length-replicate {A = ℕ} i 32) in
+    stores d o (set o (at + i) a) (replicate i 32) (a ∷ []) at (at + i) e k refl
 
 pub word-turn : (d o : List ℕ) (at i : ℕ) → o ≡ sets d at (replicate i 32) → set o (at + i) 32 ≡ sets d at (replicate (i + 1) 32)
-word-turn d o at i e = spaces-more d o at i (at + i) 32 e refl ∙ ap (sets d at) (replicate-append-replicate i 1 32)
+word-turn d o at i e = spaces-more d o at i 32 e ∙ ap (sets d at) (replicate-append-replicate i 1 32)
 
-pub word-end : (d o : List ℕ) (at s i b : ℕ) → o ≡ sets d at (replicate i 32) → i ≤ s → s ≤ i → set o (at + s) b ≡ sets d at (word s b)
-unfolding word
-word-end d o at s i b e h k =
-    let j : i ≡ s = omega arith in
-    spaces-more d o at s (at + s) b (e ∙ ap (λ (m : ℕ). sets d at (replicate m 32)) j) refl
+pub word-end : (d o : List ℕ) (at n i b : ℕ) → o ≡ sets d at (replicate i 32) → i ≤ n - 1 → n - 1 ≤ i → (n ≡ 0 → ⊥) → set o (at + (n - 1)) b ≡ sets d at (word n b)
+word-end d o at n i b e h k z =
+    let j : i ≡ n - 1 = omega arith in
+    let m : (n - 1) + 1 ≡ n = omega arith in
+    spaces-more d o at (n - 1) b (e ∙ ap (λ (x : ℕ). sets d at (replicate x 32)) j) ∙ ap (sets d at) (sym (word-is (n - 1) b) ∙ ap (λ (x : ℕ). word x b) m)
 
 -- ---- a run
 

@@ -1,23 +1,20 @@
 -- The writer: one byte, and its loop.
 -- Assumes nothing.
-use Prim.Native.Nat.{ℕ, zero, suc, _+_, _-_, _≤_, _<_}
+use Prim.Native.Nat.{ℕ, _+_, _≤_, _<_}
 use native.Mathlib.Omega.{arith}
 use native.Mathlib.Numerals.{add-one}
 use mathlib.Core.Path.{_≡_, refl, sym, ap, ap₂, _∙_}
-use mathlib.Core.Bool.{Bool, true, false, cond}
 use mathlib.Core.List.{List, [], _∷_, _++_, map, append-assoc, append-nil}
-use lib.ListN.{length, getD, drop, set, length-append, drop-of-length-le}
+use lib.ListN.{length, getD, drop, length-append, drop-of-length-le}
 use lib.Seq.{drop-cons, sets}
-use lib.Dec.{eqb, leb}
+use lib.Dec.{eqb}
 use borrow.Author.Tests.{eq-eqb, ne-eqb, le-leb, lt-leb}
 use Rattle.format.specs.ShipText.{charCode, codeNibbles, classify, spaceRun, writeFrom, writeText}
-use Rattle.format.specs.Machine.{over}
 use Rattle.laws.proofs.Lists.{cond-case}
-use Rattle.laws.proofs.ShipText.{piece, waiting, write-byte, run-length, code-length}
+use Rattle.laws.proofs.ShipText.{piece, waiting, write-byte}
 use Rattle.text.specs.Answers.{writtenOf, Writes}
-use Rattle.text.specs.declared.Written.{Written}
 use Rattle.text.specs.declared.Written.the-variants.{Fits, TooLong}
-use Rattle.text.proofs.Stores.{stores, stores-length, stores-over, store-none}
+use Rattle.text.proofs.Stores.{stores, stores-length, stores-over}
 
 -- ---- one byte
 

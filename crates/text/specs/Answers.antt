@@ -1,5 +1,5 @@
 -- What the code answers, from the definitions.
-use Prim.Native.Nat.{ℕ, _≤_}
+use Prim.Native.Nat.{ℕ, zero, suc, _≤_}
 use mathlib.Core.Path.{_≡_}
 use mathlib.Core.Bool.{cond}
 use mathlib.Core.List.{List, [], _∷_, _++_, map}
@@ -8,7 +8,7 @@ use lib.Dec.{leb}
 use Rattle.format.specs.declared.TextState.{TextState}
 use Rattle.format.specs.declared.TextState.the-variants.{Between, Run, Pair, Escape, Half, Invalid}
 use Rattle.format.specs.declared.TextStep.{TextStep}
-use Rattle.format.specs.ShipText.{byteOf, symbolsOf, writeText}
+use Rattle.format.specs.ShipText.{byteOf, stateAfter, symbolsOf, writeText}
 use Rattle.format.specs.Machine.{over}
 use Rattle.text.specs.declared.Written.{Written}
 use Rattle.text.specs.declared.Written.the-variants.{Fits, TooLong}
@@ -22,13 +22,19 @@ held (Escape s) = s
 held (Half s h) = s
 held Invalid = 0
 
--- a byte behind s spaces
+-- so many bytes: none, or spaces and one byte behind them
 unfoldable pub word : ℕ → ℕ → List ℕ
-word s b = replicate s 32 ++ (b ∷ [])
+word zero b = []
+word (suc s) b = replicate s 32 ++ (b ∷ [])
 
 -- the bytes that a nibble brings
 unfoldable pub bytesOf : TextStep → List ℕ
 bytesOf t = map byteOf (symbolsOf t)
+
+-- where a step leaves the reader, and the bytes that it gives
+pub record Moved (t : TextStep) (to : TextState) (more byte : ℕ) : Type 0 where
+  pub state : to ≡ stateAfter t
+  pub bytes : word more byte ≡ bytesOf t
 
 -- how many nibbles a text takes, of 255
 unfoldable pub writtenOf : List ℕ → Written

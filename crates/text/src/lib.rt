@@ -1,13 +1,13 @@
 // The ship text of attachment 4: whether a body is valid, the text of a body, the nibbles of a text.
 ghost use mathlib.Core.Path.{_≡_};
-ghost use Prim.Native.Nat.{_+_, _*_, _/_, _%_, _≤_, _<_, _^_};
+ghost use Prim.Native.Nat.{_+_, _*_, _≤_, _<_, _^_};
 ghost use lib.ListN.{length, set};
 ghost use lib.Seq.{sets};
-ghost use Rattle.format.specs.ShipText.{charCode, pairByte, codeNibbles, fulls, rest, spaceRun, textStep, stateAfter, symbolsOf, atEnd, textValid, readText};
+ghost use Rattle.format.specs.ShipText.{charCode, pairByte, codeNibbles, fulls, rest, spaceRun, textStep, atEnd, textValid, readText};
 ghost use Rattle.format.specs.Machine.{over};
 ghost use Rattle.laws.proofs.ShipText.{piece, waiting};
 ghost use Rattle.nibble.specs.View.{view, part};
-ghost use Rattle.text.specs.Answers.{held, word, bytesOf, Writes};
+ghost use Rattle.text.specs.Answers.{held, word, Moved, Writes};
 use format::TextState;
 use format::TextStep;
 use nibble::Cursor;
@@ -36,9 +36,16 @@ fn char_code(b: u8) -> u16
 }
 
 // The byte of a pair, 0 where the pair is undefined.
-fn pair_byte(v: u8) -> u8
-    ensures { λ r. ⌜ r ≡ pairByte (v / 16) (v % 16) ⌝ }
+fn pair_byte(z: u8, n: u8) -> u8
+    ensures { λ r. ⌜ r ≡ pairByte z n ⌝ }
 {
+    if 15 < z {
+        return 0;
+    }
+    if 15 < n {
+        return 0;
+    }
+    let v = z * 16 + n;
     match v {
         192 => 123,
         202 => 38,
@@ -55,6 +62,7 @@ fn pair_byte(v: u8) -> u8
 
 // ---- one nibble
 
+// Between two codes, behind s spaces.
 fn between_step(s: usize, n: u8) -> TextStep
     requires { ⌜ s ≤ 2 ^ 32 ⌝ }
     ensures { λ r. ⌜ r ≡ textStep (TextState.Between s) n ⌝ }
@@ -80,6 +88,7 @@ fn between_step(s: usize, n: u8) -> TextStep
     TextStep::On(TextState::Invalid)
 }
 
+// After an 11, behind full eighteens.
 fn run_step(s: usize, n: u8) -> TextStep
     requires { ⌜ s ≤ 2 ^ 32 ⌝ }
     ensures { λ r. ⌜ r ≡ textStep (TextState.Run s) n ⌝ }
@@ -93,22 +102,18 @@ fn run_step(s: usize, n: u8) -> TextStep
     TextStep::On(TextState::Invalid)
 }
 
+// After a 12, 13 or 14.
 fn pair_step(s: usize, z: u8, n: u8) -> TextStep
     ensures { λ r. ⌜ r ≡ textStep (TextState.Pair s z) n ⌝ }
 {
-    if 15 < z {
-        return TextStep::On(TextState::Invalid);
-    }
-    if 15 < n {
-        return TextStep::On(TextState::Invalid);
-    }
-    let b = pair_byte(z * 16 + n);
+    let b = pair_byte(z, n);
     if b == 0 {
         return TextStep::On(TextState::Invalid);
     }
     TextStep::Plain(s, b)
 }
 
+// After a 15.
 fn escape_step(s: usize, n: u8) -> TextStep
     ensures { λ r. ⌜ r ≡ textStep (TextState.Escape s) n ⌝ }
 {
@@ -118,6 +123,7 @@ fn escape_step(s: usize, n: u8) -> TextStep
     TextStep::On(TextState::Invalid)
 }
 
+// After a 15 and the high half of a byte.
 fn half_step(s: usize, h: u8, n: u8) -> TextStep
     ensures { λ r. ⌜ r ≡ textStep (TextState.Half s h) n ⌝ }
 {
@@ -154,28 +160,37 @@ pub fn step(st: TextState, n: u8) -> TextStep
 
 pub struct Move {
     pub to: TextState,
+    // How many bytes: none, or spaces and one byte behind them.
     pub more: usize,
+    pub byte: u8,
 }
 
-// The state after a nibble, and how many symbols it gave.
+// The state after a nibble, and the bytes that it gave.
 fn advance(st: TextState, n: u8) -> Move
     requires { ⌜ held st ≤ 2 ^ 32 ⌝ }
-    ensures { λ r. ⌜ (r .to ≡ stateAfter (textStep st n)) × (r .more ≡ length (symbolsOf (textStep st n))) ⌝ }
+    ensures { λ r. ⌜ Moved (textStep st n) (r .to) (r .more) (r .byte) ⌝ }
 {
     let t = step(st, n);
     match t {
-        TextStep::On(to) => Move { to, more: 0 },
-        TextStep::Plain(s, _) => Move {
-            to: TextState::Between(0),
-            more: s + 1,
+        TextStep::On(to) => Move {
+            to,
+            more: 0,
+            byte: 0,
         },
-        TextStep::Original(s, _) => Move {
+        TextStep::Plain(s, b) => Move {
             to: TextState::Between(0),
             more: s + 1,
+            byte: b,
+        },
+        TextStep::Original(s, b) => Move {
+            to: TextState::Between(0),
+            more: s + 1,
+            byte: b,
         },
     }
 }
 
+// Whether a body may end here.
 fn at_end(st: TextState) -> bool
     ensures { λ r. ⌜ r ≡ atEnd st ⌝ }
 {
@@ -227,42 +242,21 @@ pub fn text_length(s: &[u8], c: Cursor, len: usize) -> usize
     count
 }
 
-// So many spaces and a byte, from a place on.
-fn put_word(out: &mut [u8], at: usize, s: usize, b: u8)
-    requires { ⌜ at + s < length (now out) ⌝ }
-    ensures { λ _. ⌜ now (out .exit) ≡ sets (now (out .entry)) at (word s b) ⌝ }
+// Writes so many bytes, spaces and one byte behind them, from a place on.
+fn put_word(out: &mut [u8], at: usize, more: usize, b: u8)
+    requires { ⌜ at + more ≤ length (now out) ⌝ }
+    ensures { λ _. ⌜ now (out .exit) ≡ sets (now (out .entry)) at (word more b) ⌝ }
 {
+    if more == 0 {
+        return;
+    }
+    let s = more - 1;
     let mut i = 0;
     while i < s {
         out[at + i] = 32;
         i += 1;
     }
     out[at + s] = b;
-}
-
-// Takes a nibble, and writes the bytes that it gives.
-fn put_step(out: &mut [u8], at: usize, st: TextState, n: u8) -> Move
-    requires { ⌜ (held st ≤ 2 ^ 32) × (at + length (symbolsOf (textStep st n)) ≤ length (now out)) ⌝ }
-    ensures { λ r. ⌜ (r .to ≡ stateAfter (textStep st n)) × (r .more ≡ length (symbolsOf (textStep st n))) × (now (out .exit) ≡ sets (now (out .entry)) at (bytesOf (textStep st n))) ⌝ }
-{
-    let t = step(st, n);
-    match t {
-        TextStep::On(to) => Move { to, more: 0 },
-        TextStep::Plain(s, b) => {
-            put_word(out, at, s, b);
-            Move {
-                to: TextState::Between(0),
-                more: s + 1,
-            }
-        }
-        TextStep::Original(s, b) => {
-            put_word(out, at, s, b);
-            Move {
-                to: TextState::Between(0),
-                more: s + 1,
-            }
-        }
-    }
 }
 
 // Writes the text of a body.
@@ -277,7 +271,8 @@ pub fn read(s: &[u8], c: Cursor, len: usize, out: &mut [u8])
     let mut i = 0;
     while i < len {
         let n = nibble::nibble_at(s, at + i, packed);
-        let m = put_step(out, count, st, n);
+        let m = advance(st, n);
+        put_word(out, count, m.more, m.byte);
         st = m.to;
         count += m.more;
         i += 1;
@@ -295,6 +290,7 @@ fn put(out: &mut [u8], at: usize, n: u8)
     }
 }
 
+// Writes 11,15 so many times.
 fn put_fulls(out: &mut [u8], at: usize, k: usize)
     requires { ⌜ at + 2 * k < 2 ^ 64 ⌝ }
     ensures { λ _. ⌜ now (out .exit) ≡ sets (now (out .entry)) at (fulls k) ⌝ }
@@ -307,6 +303,7 @@ fn put_fulls(out: &mut [u8], at: usize, k: usize)
     }
 }
 
+// Writes fewer than 18 spaces, and gives the place behind them.
 fn put_rest(out: &mut [u8], at: usize, r: usize) -> usize
     requires { ⌜ (at < 2 ^ 63) × (r < 18) ⌝ }
     ensures { λ x. ⌜ (x ≡ at + length (rest r)) × (now (out .exit) ≡ sets (now (out .entry)) at (rest r)) ⌝ }
@@ -364,7 +361,7 @@ pub struct Placed {
     pub waiting: usize,
 }
 
-// Takes a byte of the text.
+// Takes a byte of the text behind s spaces.
 fn put_byte(out: &mut [u8], at: usize, s: usize, b: u8) -> Placed
     requires { ⌜ (at ≤ 255) × (s < 2 ^ 63) ⌝ }
     ensures { λ r. ⌜ (r .at ≡ at + length (piece s b)) × (r .waiting ≡ waiting s b) × (now (out .exit) ≡ sets (now (out .entry)) at (piece s b)) ⌝ }
@@ -384,6 +381,7 @@ pub enum Written {
     TooLong,
 }
 
+// Writes into 255 bytes, and stops where they are too few.
 fn put_text(t: &[u8], out: &mut [u8]) -> Written
     requires { ⌜ length (now out) ≡ 255 ⌝ }
     ensures { λ r. ⌜ Writes (now (t .entry)) (now (out .entry)) (now (out .exit)) r ⌝ }

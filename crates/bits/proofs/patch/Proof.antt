@@ -2,9 +2,14 @@
 -- Assumes nothing.
 use native.Mathlib.Omega.{arith}
 use borrow.Author.Needs.{needs}
-use Rattle.bits.proofs.Window.{machine-patch}
+use Rattle.bits.proofs.Window.{Patch, machine-patch}
 use Rattle.bits.proofs.patch.Statement.{statement}
 use Rattle.bits.proofs.patch.Tie as tie
+
+answer : (c : tie.After-cut) → Patch (c .before .args .n) (c .before .args .z) (c .before .args .width) (c .before .args .v) (c .cut .result)
+answer c =
+    let st = c .before in
+    machine-patch (st .args .n) (st .args .z) (st .args .width) (st .args .v) (c .cut .result) (st .pre .0) (st .pre .1) (st .pre .2) (c .cut .ensures)
 
 cut-requires : tie.Need-cut-requires
 cut-requires c κs = search needs
@@ -13,16 +18,16 @@ shl-result : tie.Need-shl-result
 shl-result c = search needs
 
 sub-result : tie.Need-sub-result
-sub-result c = let a = c .before .args in machine-patch (a .n) (a .z) (a .width) (a .v) (c .cut .result) (c .before .pre .0) (c .before .pre .1) (c .before .pre .2) (c .cut .ensures) .0
+sub-result c = answer c .low
 
 shl-result-2 : tie.Need-shl-result-2
 shl-result-2 c = search needs
 
 add-result : tie.Need-add-result
-add-result c = let a = c .before .args in omega (arith, machine-patch (a .n) (a .z) (a .width) (a .v) (c .cut .result) (c .before .pre .0) (c .before .pre .1) (c .before .pre .2) (c .cut .ensures))
+add-result c = omega (arith, answer c)
 
 returns : tie.Need-returns
-returns c = let a = c .before .args in let m = machine-patch (a .n) (a .z) (a .width) (a .v) (c .cut .result) (c .before .pre .0) (c .before .pre .1) (c .before .pre .2) (c .cut .ensures) in (m .1, rw (m .1) (m .2))
+returns c = (answer c .is, rw (answer c .is) (answer c .small))
 
 pub patch-spec : {M : Type 1} → statement M
 patch-spec =

@@ -17,11 +17,13 @@ weigh-17-to-46-requires : tie.Need-weigh-17-to-46-requires
 weigh-17-to-46-requires c κs = search needs
 
 add-weight : tie.Need-add-weight
-add-weight c = let s : List ℕ = now (c .before .before .before .args .s) in
+add-weight c =
+    let s : List ℕ = now (c .before .before .before .args .s) in
     omega (arith, weights-le s 16 1 (omega arith) (omega arith), weights-le s 30 17 (omega arith) (omega arith))
 
 returns : tie.Need-returns
-returns c = let a = c .before .before .weigh-1-to-16 in
+returns c =
+    let a = c .before .before .weigh-1-to-16 in
     let z = c .before .weigh-17-to-46 in
     let s : List ℕ = now (c .before .before .before .before .args .s) in
     light-card s (a .result + z .result) (weights-run s 1 16 30 (a .result) (a .result + z .result) (a .ensures) (ap (λ (n : ℕ). a .result + n) (z .ensures))) (c .if1 .taken)

@@ -15,7 +15,8 @@ read-requires : tie.Need-read-requires
 read-requires c κs = search needs
 
 returns : tie.Need-returns
-returns c = let s : List ℕ = now (c .before .before .args .s) in
+returns c =
+    let s : List ℕ = now (c .before .before .args .s) in
     (c .read .ensures .0 ∙ checksum-at s, omega (arith, bitField-lt s 282 14))
 
 pub checksum-spec : {M : Type 1} → statement M

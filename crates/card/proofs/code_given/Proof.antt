@@ -1,17 +1,15 @@
 -- `card::code_given` meets its contract.
 -- Assumes nothing.
-use Prim.Native.Nat.{ℕ, _/_, _%_, _^_}
+use Prim.Native.Nat.{_/_, _%_, _^_}
 use native.Mathlib.Omega.{arith}
-use mathlib.Core.Path.{_≡_, refl, sym, ap, _∙_}
-use mathlib.Core.Bool.{Bool, true, false, cond, not, _&&_}
-use mathlib.Core.Option.{none, some}
+use mathlib.Core.Path.{_≡_, sym, ap, _∙_}
+use mathlib.Core.Bool.{true, false, not, _&&_}
 use lib.IntN.{ℤ}
 use mir.Syntax.{w64}
 use mir.Val.{toZ, ofZ}
 use borrow.Author.Tests.{eq-eqb, ne-eqb}
 use Rattle.format.specs.Field.{Field, fieldAt, scaled, inRange, codeOf}
 use Rattle.format.specs.Whole.{bitAt}
-use Rattle.format.specs.declared.Coded.{Coded}
 use Rattle.laws.proofs.Lists.{true-false}
 use Rattle.card.specs.Answers.{codingOf}
 use Rattle.card.proofs.Given.{coding-outside, coding-code}
@@ -33,7 +31,8 @@ shr-if1 c = search needs
 
 returns : tie.Need-returns
 unfolding codeOf
-returns c = let st = c .before in
+returns c =
+    let st = c .before in
     (rw (ne-eqb (st .args .word / 2 ^ st .args .k % 2) 1 (omega arith)), omega arith)
 
 coded-requires : tie.Need-coded-requires
@@ -46,14 +45,16 @@ enum-known-g : tie.Need-enum-known-g
 enum-known-g c = search needs
 
 returns-2 : tie.Need-returns-2
-returns-2 c = let st = c .before .before .before .before in
+returns-2 c =
+    let st = c .before .before .before .before in
     let f : Field = fieldAt (st .args .k) in
     let o : inRange f (scaled (st .args .v)) ≡ false = coding-outside f (scaled (st .args .v)) (sym (c .enum-told .given .1) ∙ answer (c .before .before)) in
     absurd (true-false (bitAt (st .args .word) (st .args .k) && not (inRange f (scaled (st .args .v)))) (rw (present (c .before .before .before), o)) (st .pre .2))
 
 returns-3 : tie.Need-returns-3
 unfolding codeOf
-returns-3 c = let st = c .before .before .before .before .before in
+returns-3 c =
+    let st = c .before .before .before .before .before in
     let f : Field = fieldAt (st .args .k) in
     let q = coding-code f (scaled (st .args .v)) (c .before .g .given .0 .0) (sym (c .before .g .given .1) ∙ answer (c .before .before .before)) in
     (rw (present (c .before .before .before .before)) (q .0), q .1)

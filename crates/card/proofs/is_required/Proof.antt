@@ -29,7 +29,8 @@ returns-5 c = sym (ap required (c .match .keys5))
 
 returns-6 : tie.Need-returns-6
 unfolding required
-returns-6 c = let k : ℕ = c .before .args .k in
+returns-6 c =
+    let k : ℕ = c .before .args .k in
     let r = c .match .rest in
     rw (ne-eqb k 1 (r .0 .0 .0 .0 .1), ne-eqb k 2 (r .0 .0 .0 .1), ne-eqb k 3 (r .0 .0 .1), ne-eqb k 6 (r .0 .1), ne-eqb k 7 (r .1))
 

@@ -146,7 +146,8 @@ returns-45 : tie.Need-returns-45
 returns-45 c = search needs
 
 returns-46 : tie.Need-returns-46
-returns-46 c = let k : ℕ = c .before .args .k in
+returns-46 c =
+    let k : ℕ = c .before .args .k in
     let l = none-lt 45 k (c .before .pre .0) (c .match .rest) in
     let e : k ≡ 46 = omega arith in
     sym (ap (λ (n : ℕ). getD rows n 0) e)

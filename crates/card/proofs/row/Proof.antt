@@ -12,7 +12,8 @@ packed-row-requires : tie.Need-packed-row-requires
 packed-row-requires c κs = search needs
 
 returns : tie.Need-returns
-returns c = let k : ℕ = c .before .args .k in
+returns c =
+    let k : ℕ = c .before .args .k in
     subst (λ (r : ℕ). Row k r) (sym (c .packed-row .ensures)) (row-is k (c .before .pre .0) (c .before .pre .1))
 
 pub row-spec : {M : Type 1} → statement M

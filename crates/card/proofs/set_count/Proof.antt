@@ -28,7 +28,8 @@ same-length : tie.Need-same-length
 same-length c = search needs
 
 returns : tie.Need-returns
-returns c = let st = c .before .before .before in
+returns c =
+    let st = c .before .before .before in
     carded-count (now (st .args .s)) (st .args .n) (c .wide .result) (λ j. c .before .before .slice-known .given j .fits) (st .pre .0) (st .pre .1) (c .wide .ensures .0)
 
 pub set-count-spec : {M : Type 1} → statement M

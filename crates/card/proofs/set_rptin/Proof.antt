@@ -14,8 +14,15 @@ same-length : tie.Need-same-length
 same-length c = search needs
 
 returns : tie.Need-returns
-returns c = let st = c .before .before .before .before .before in
-    carded-rptin (now (st .args .s)) (c .before .before .write .last .0) (st .args .v) (λ j. c .before .before .before .before .slice-known .given j .fits) (λ j. c .slice-known2 .given j .fits) (st .pre) (c .before .before .write .ensures .1) (omega arith) (c .before .before .write .ensures .0)
+returns c =
+    let st = c .before .before .before .before .before in
+    carded-rptin (now (st .args .s)) (c .before .before .write .last .0) (st .args .v)
+    (λ j. c .before .before .before .before .slice-known .given j .fits)
+    (λ j. c .slice-known2 .given j .fits)
+    (st .pre)
+    (c .before .before .write .ensures .1)
+    (omega arith)
+    (c .before .before .write .ensures .0)
 
 pub set-rptin-spec : {M : Type 1} → statement M
 set-rptin-spec = tie.close (tie.spec write-requires same-length returns)

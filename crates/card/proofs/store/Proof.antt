@@ -2,14 +2,10 @@
 -- Assumes nothing.
 use Prim.Native.Nat.{ℕ, _^_, _<_}
 use native.Mathlib.Omega.{arith}
-use mathlib.Core.Path.{_≡_, sym, ap, ap₂, subst, _∙_}
-use mathlib.Core.Bool.{Bool}
+use mathlib.Core.Path.{sym, ap₂, subst, _∙_}
 use mathlib.Core.List.{List}
-use lib.ListN.{getD}
 use denote.Ref.{now}
-use Rattle.format.specs.Bits.{bits, bitsOf, splice, offset}
-use Rattle.format.specs.Sheet.{widths}
-use Rattle.laws.proofs.Fields.{field-at, table-fits, width-at}
+use Rattle.format.specs.Bits.{bits, bitsOf, splice}
 use Rattle.card.proofs.Numbers.{carded, code-lt}
 use borrow.Author.Needs.{needs}
 use Rattle.card.proofs.store.Statement.{statement}
@@ -22,7 +18,8 @@ cast-write : tie.Need-cast-write
 cast-write c = search needs
 
 write-requires : tie.Need-write-requires
-write-requires c κs = let st = c .before .before .before in
+write-requires c κs =
+    let st = c .before .before .before in
     let r = c .before .row .ensures in (
       record { room = omega arith; within = omega arith },
       subst (λ (n : ℕ). st .args .c .0 < 2 ^ n) (sym (r .bits)) (code-lt (st .args .k) (st .args .c .0) (st .pre .1) (st .pre .2) (st .pre .3)),
@@ -32,7 +29,8 @@ same-length : tie.Need-same-length
 same-length c = search needs
 
 returns : tie.Need-returns
-returns c = let w = c .before .before in
+returns c =
+    let w = c .before .before in
     let st = w .before .before .before .before in
     let s : List ℕ = now (st .args .s) in
     let k : ℕ = st .args .k in

@@ -47,7 +47,8 @@ refusal-requires : tie.Need-refusal-requires Inv-loop μ-loop
 refusal-requires c κs = search needs
 
 returns : tie.Need-returns Inv-loop μ-loop
-returns c = let l = c .before .before .before .before .loop in
+returns c =
+    let l = c .before .before .before .before .loop in
     let s : List ℕ = now (c .before .before .before .before .before .before .args .s) in
     walk-refused s (l .i) (c .before .refusal .result) (c .before .before .before .loop-test .taken) (turn (c .before)) (c .if1 .taken) (l .inv .3)
 
@@ -61,7 +62,8 @@ loop-less : tie.Need-loop-less Inv-loop μ-loop
 loop-less c = search needs
 
 loop-again : tie.Need-loop-again Inv-loop μ-loop
-loop-again c = let l = c .before .before .before .before .loop in
+loop-again c =
+    let l = c .before .before .before .before .loop in
     let s : List ℕ = now (c .before .before .before .before .before .before .args .s) in
     let h : l .i < 46 = c .before .before .before .loop-test .taken in
     let p : left s (l .i) ≡ left s (suc (l .i)) = walk-passed s (l .i) (c .before .refusal .result) h (turn (c .before)) (c .if1 .left) in
@@ -73,7 +75,8 @@ loop-again c = let l = c .before .before .before .before .loop in
     )
 
 returns-2 : tie.Need-returns-2 Inv-loop μ-loop
-returns-2 c = let l = c .before .loop in
+returns-2 c =
+    let l = c .before .loop in
     let s : List ℕ = now (c .before .before .before .args .s) in
     walk-end s (l .i) (l .sum) (omega arith) (l .inv .3) (l .inv .2)
 

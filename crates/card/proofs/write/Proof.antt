@@ -1,7 +1,7 @@
 -- `card::write` meets its contract: the fields, then the checksum, the count and RPTIN.
 -- Assumes nothing.
 use Prim.Native.Nat.{ℕ, _%_}
-use mathlib.Core.Path.{_≡_, ap, subst}
+use mathlib.Core.Path.{subst}
 use mathlib.Core.List.{List, [], _∷_, _++_}
 use denote.Ref.{now}
 use Rattle.format.specs.Report.{numbersOf}
@@ -29,7 +29,8 @@ same-length c = search needs
 
 returns : tie.Need-returns
 unfolding checksum
-returns c = let r = c .before .before in
+returns c =
+    let r = c .before .before in
     let n = r .before .before .before .before in
     let k = n .before .before .before .before in
     let f = k .before .before .before .before in

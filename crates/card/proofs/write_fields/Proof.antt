@@ -1,9 +1,9 @@
 -- `card::write_fields` meets its contract. The invariant: the first i coded fields stand on the card, and what was summed and the rest are the whole sum.
 -- Assumes nothing.
-use Prim.Native.Nat.{ℕ, suc, _+_, _-_, _*_, _≤_, _<_}
+use Prim.Native.Nat.{ℕ, _+_, _-_, _*_, _≤_, _<_}
 use native.Mathlib.Numerals.{add-one}
 use native.Mathlib.Omega.{arith}
-use mathlib.Core.Path.{_≡_, refl, sym, ap, subst, _∙_}
+use mathlib.Core.Path.{_≡_, sym, ap, subst, _∙_}
 use mathlib.Core.Bool.{false, cond, not, _&&_}
 use mathlib.Core.List.{List}
 use mathlib.Core.Option.{none, some}
@@ -55,7 +55,8 @@ found c =
     ∙ sym (given-at (now (st .args .values)) (st .args .word) (st .pre .1) i (c .before .before .loop-test .taken))
 
 loop-holds : tie.Need-loop-holds Inv-loop μ-loop
-loop-holds c = let st = c .before in
+loop-holds c =
+    let st = c .before in
     let cs : List ℕ = given (now (st .args .values)) (st .args .word) in
     (omega arith, omega arith, omega arith, fielded-none (now (st .args .s)) cs (given-length (now (st .args .values)) (st .args .word) (st .pre .1)))
 
@@ -69,7 +70,8 @@ shared-slice-copy-out-code-given : tie.Need-shared-slice-copy-out-code-given Inv
 shared-slice-copy-out-code-given c = omega (arith, c .before .before .before .pre .1 .many)
 
 code-given-requires : tie.Need-code-given-requires Inv-loop μ-loop
-code-given-requires c κs = let st = c .before .before .before .before in
+code-given-requires c κs =
+    let st = c .before .before .before .before in
     let i : ℕ = c .before .before .loop .i in
     let k : ℕ = i + 1 in (
       omega arith,
@@ -79,7 +81,8 @@ code-given-requires c κs = let st = c .before .before .before .before in
     )
 
 store-requires : tie.Need-store-requires Inv-loop μ-loop
-store-requires c κs = let l = c .before .before .before .before .loop in
+store-requires c κs =
+    let l = c .before .before .before .before .loop in
     (omega (arith, l .inv .3 .long), omega arith, omega arith, c .before .code-given .ensures .1)
 
 cast-sum : tie.Need-cast-sum Inv-loop μ-loop
@@ -92,7 +95,8 @@ loop-less : tie.Need-loop-less Inv-loop μ-loop
 loop-less c = search needs
 
 loop-again : tie.Need-loop-again Inv-loop μ-loop
-loop-again c = let g = c .before .before .before .before in
+loop-again c =
+    let g = c .before .before .before .before in
     let l = g .before .before .before .loop in
     let st = g .before .before .before .before .before in
     let s : List ℕ = now (st .args .s) in
@@ -112,7 +116,8 @@ same-length : tie.Need-same-length Inv-loop μ-loop
 same-length c = c .before .loop .inv .3 .long
 
 returns : tie.Need-returns Inv-loop μ-loop
-returns c = let l = c .before .loop in
+returns c =
+    let l = c .before .loop in
     let st = c .before .before .before in
     let s : List ℕ = now (st .args .s) in
     let cs : List ℕ = list (c .before) in

@@ -1,13 +1,14 @@
 use Prim.Native.Nat.{ℕ, _+_, _*_, _-_, _/_, _%_}
+use native.Mathlib.Nat.{zero-add}
 use native.Mathlib.Omega.{arith}
 use mathlib.Core.List.{List}
 use mathlib.Core.Path.{_≡_, refl, sym, ap, _∙_}
 use denote.Ref.{now}
 use lib.ListN.{length, set, replicate, length-replicate, getD-replicate}
+use borrow.Author.Needs.{needs}
 use Rattle.format.specs.Nibbles.{nibbles}
 use Rattle.laws.proofs.Nibbles.{length-nibbles}
 use Rattle.shift.proofs.Paste.{paste-none, paste-zeros, ends}
-use borrow.Author.Needs.{needs}
 use Rattle.shift.proofs.clear.Statement.{statement}
 use Rattle.shift.proofs.clear.Tie as tie
 
@@ -54,7 +55,7 @@ returns-2 c =
     let last : ℕ = a .count - 1 in (
       c .before .before .put2 .ensures .0
           ∙ ap (λ (l : List ℕ). set l (a .at + last) 0) (c .before .before .before .before .before .before .put .ensures .0)
-          ∙ ends n₀ n₁ zeros (a .at) 0 h m (a .count) (a .at + h) h (a .at + last) last 0 0 (search needs)
+          ∙ ends n₀ n₁ zeros (a .at) 0 (a .at) (a .count) (a .at + h) h (a .at + last) last 0 0 (omega arith) (omega arith) (omega arith) refl (sym (zero-add h)) refl (sym (zero-add last))
           (sym (getD-replicate (a .count) 0 0 0 (omega arith))) (sym (getD-replicate (a .count) last 0 0 (omega arith)))
           (c .before .before .before .before .before .before .before .before .before .before .clear-bytes .ensures ∙ paste-zeros n₀ (a .at + h) h m (a .count) (omega arith)),
       search needs,

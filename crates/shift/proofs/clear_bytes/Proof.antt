@@ -5,10 +5,10 @@ use mathlib.Core.Path.{_≡_, refl, sym, ap, _∙_}
 use denote.Ref.{now}
 use lib.ListN.{length, replicate, length-replicate, getD-replicate}
 use lib.Seq.{paste}
+use borrow.Author.Needs.{needs}
 use Rattle.format.specs.Nibbles.{nibbles}
 use Rattle.shift.proofs.Paste.{paste-none}
 use Rattle.shift.proofs.Stores.{byte-turn}
-use borrow.Author.Needs.{needs}
 use Rattle.shift.proofs.clear_bytes.Statement.{statement}
 use Rattle.shift.proofs.clear_bytes.Tie as tie
 

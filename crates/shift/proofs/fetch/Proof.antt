@@ -1,13 +1,14 @@
-use Prim.Native.Nat.{ℕ, _+_, _*_, _-_, _/_, _%_}
+use Prim.Native.Nat.{ℕ, _+_, _*_, _-_, _%_}
+use native.Mathlib.Nat.{zero-add}
 use native.Mathlib.Omega.{arith}
 use mathlib.Core.List.{List, _++_}
-use mathlib.Core.Path.{_≡_, ap, _∙_}
+use mathlib.Core.Path.{_≡_, refl, sym, ap, _∙_}
 use denote.Ref.{now}
 use lib.ListN.{length, take, length-set, drop}
+use borrow.Author.Needs.{needs}
 use Rattle.format.specs.Nibbles.{nibbles}
 use Rattle.laws.proofs.Nibbles.{length-nibbles}
 use Rattle.shift.proofs.Paste.{ends}
-use borrow.Author.Needs.{needs}
 use Rattle.shift.proofs.fetch.Statement.{statement}
 use Rattle.shift.proofs.fetch.Tie as tie
 
@@ -53,10 +54,9 @@ returns-2 c =
     let out₁ : List ℕ = c .before .before .before .before .fetch-bytes .last .1 .1 .0 in
     let h : ℕ = a .at % 2 in
     let last : ℕ = a .count - 1 in
-    let e : 0 + a .count ≡ a .count = omega arith in
-    ends out₀ out₁ n₀ 0 (a .at) h (2 * ((a .count - h) / 2)) (a .count) h (a .at + h) last (a .at + last) (c .before .nibble .result) (c .nibble2 .result)
-    (search needs) (c .before .nibble .ensures .0) (c .nibble2 .ensures .0) (c .before .before .before .before .fetch-bytes .ensures)
-    ∙ ap (λ (k : ℕ). take (a .count) (drop (a .at) n₀) ++ drop k out₀) e
+    ends out₀ out₁ n₀ 0 (a .at) (a .at) (a .count) h (a .at + h) last (a .at + last) (c .before .nibble .result) (c .nibble2 .result)
+    (omega arith) (omega arith) (omega arith) (sym (zero-add h)) refl (sym (zero-add last)) refl (c .before .nibble .ensures .0) (c .nibble2 .ensures .0) (c .before .before .before .before .fetch-bytes .ensures)
+    ∙ ap (λ (k : ℕ). take (a .count) (drop (a .at) n₀) ++ drop k out₀) (zero-add (a .count))
 
 pub fetch-spec : {M : Type 1} → statement M
 fetch-spec =

@@ -5,11 +5,11 @@ use mathlib.Core.Path.{_≡_, refl, ap, _∙_}
 use denote.Ref.{now}
 use lib.ListN.{length, drop, length-set}
 use lib.Seq.{paste}
+use borrow.Author.Needs.{needs}
 use Rattle.format.specs.Nibbles.{nibbles}
 use Rattle.laws.proofs.Nibbles.{length-nibbles}
 use Rattle.shift.proofs.Paste.{paste-none, paste-two, laid-then}
 use Rattle.shift.proofs.Stores.{high-at, low-at}
-use borrow.Author.Needs.{needs}
 use Rattle.shift.proofs.fetch_bytes.Statement.{statement}
 use Rattle.shift.proofs.fetch_bytes.Tie as tie
 

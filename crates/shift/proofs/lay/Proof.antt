@@ -1,12 +1,14 @@
-use Prim.Native.Nat.{ℕ, _+_, _*_, _-_, _/_, _%_}
+use Prim.Native.Nat.{ℕ, _+_, _*_, _-_, _%_}
+use native.Mathlib.Nat.{zero-add}
+use native.Mathlib.Omega.{arith}
 use mathlib.Core.List.{List}
-use mathlib.Core.Path.{_≡_, refl, ap, _∙_}
+use mathlib.Core.Path.{_≡_, refl, sym, ap, _∙_}
 use denote.Ref.{now}
 use lib.ListN.{length, getD, set}
+use borrow.Author.Needs.{needs}
 use Rattle.format.specs.Nibbles.{nibbles}
 use Rattle.laws.proofs.Nibbles.{length-nibbles}
 use Rattle.shift.proofs.Paste.{paste-none, ends}
-use borrow.Author.Needs.{needs}
 use Rattle.shift.proofs.lay.Statement.{statement}
 use Rattle.shift.proofs.lay.Tie as tie
 
@@ -57,8 +59,8 @@ returns-2 c =
     let last : ℕ = length x - 1 in (
       c .before .before .put2 .ensures .0
           ∙ ap (λ (l : List ℕ). set l (a .at + last) (getD x last 0)) (c .before .before .before .before .before .before .before .put .ensures .0)
-          ∙ ends n₀ n₁ x (a .at) 0 h (2 * ((length x - h) / 2)) (length x) (a .at + h) h (a .at + last) last (getD x 0 0) (getD x last 0)
-          (search needs) refl refl (c .before .before .before .before .before .before .before .before .before .before .before .before .lay-bytes .ensures),
+          ∙ ends n₀ n₁ x (a .at) 0 (a .at) (length x) (a .at + h) h (a .at + last) last (getD x 0 0) (getD x last 0)
+          (omega arith) (omega arith) (omega arith) refl (sym (zero-add h)) refl (sym (zero-add last)) refl refl (c .before .before .before .before .before .before .before .before .before .before .before .before .lay-bytes .ensures),
       search needs,
     )
 

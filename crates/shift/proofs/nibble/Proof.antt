@@ -1,9 +1,9 @@
 use Prim.Native.Nat.{_/_}
+use native.Mathlib.Omega.{arith}
 use mathlib.Core.Path.{sym}
 use denote.Ref.{now}
-use Rattle.laws.proofs.Nibbles.{getD-even, getD-odd}
-use native.Mathlib.Omega.{arith}
 use borrow.Author.Needs.{needs}
+use Rattle.laws.proofs.Nibbles.{getD-even, getD-odd}
 use Rattle.shift.proofs.nibble.Statement.{statement}
 use Rattle.shift.proofs.nibble.Tie as tie
 

@@ -1,8 +1,8 @@
 use Prim.Native.Nat.{_+_, _*_}
-use denote.Ref.{now}
-use Rattle.shift.proofs.Stores.{byte-moved, halves-moved}
 use native.Mathlib.Omega.{arith}
+use denote.Ref.{now}
 use borrow.Author.Needs.{needs}
+use Rattle.shift.proofs.Stores.{byte-moved, halves-moved}
 use Rattle.shift.proofs.pair.Statement.{statement}
 use Rattle.shift.proofs.pair.Tie as tie
 

@@ -5,9 +5,9 @@ use mathlib.Core.Path.{_≡_, sym, ap, _∙_}
 use denote.Ref.{now}
 use lib.ListN.{drop}
 use lib.Seq.{paste}
+use borrow.Author.Needs.{needs}
 use Rattle.format.specs.Nibbles.{nibbles}
 use Rattle.shift.proofs.Paste.{paste-self}
-use borrow.Author.Needs.{needs}
 use Rattle.shift.proofs.pairs.Statement.{statement}
 use Rattle.shift.proofs.pairs.Tie as tie
 

@@ -1,15 +1,15 @@
 use Prim.Native.Nat.{ℕ, _+_, _*_, _-_, _≤_}
+use native.Mathlib.Omega.{arith}
 use mathlib.Core.List.{List}
 use mathlib.Core.Path.{_≡_, refl, ap, _∙_}
 use denote.Ref.{now}
 use lib.ListN.{length, drop}
 use lib.Seq.{paste}
+use borrow.Author.Needs.{needs}
 use Rattle.format.specs.Nibbles.{nibbles}
 use Rattle.laws.proofs.Nibbles.{length-nibbles}
 use Rattle.shift.proofs.Paste.{paste-none, down-then}
 use Rattle.shift.proofs.Stores.{pair-at}
-use borrow.Author.Needs.{needs}
-use native.Mathlib.Omega.{arith}
 use Rattle.shift.proofs.pairs_down.Statement.{statement}
 use Rattle.shift.proofs.pairs_down.Tie as tie
 

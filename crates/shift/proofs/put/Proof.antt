@@ -1,8 +1,8 @@
 use Prim.Native.Nat.{_/_}
-use denote.Ref.{now}
-use Rattle.shift.proofs.Stores.{high-put, low-put}
 use native.Mathlib.Omega.{arith}
+use denote.Ref.{now}
 use borrow.Author.Needs.{needs}
+use Rattle.shift.proofs.Stores.{high-put, low-put}
 use Rattle.shift.proofs.put.Statement.{statement}
 use Rattle.shift.proofs.put.Tie as tie
 

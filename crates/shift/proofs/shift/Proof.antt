@@ -1,12 +1,13 @@
-use Prim.Native.Nat.{ℕ, _+_, _*_, _-_, _/_, _%_}
+use Prim.Native.Nat.{ℕ, _+_, _*_, _-_, _%_}
+use native.Mathlib.Omega.{arith}
 use mathlib.Core.List.{List}
 use mathlib.Core.Path.{_≡_, refl, ap, _∙_}
 use denote.Ref.{now}
 use lib.ListN.{length, set, drop}
+use borrow.Author.Needs.{needs}
 use Rattle.format.specs.Nibbles.{nibbles}
 use Rattle.laws.proofs.Nibbles.{length-nibbles}
 use Rattle.shift.proofs.Paste.{paste-none, ends}
-use borrow.Author.Needs.{needs}
 use Rattle.shift.proofs.shift.Statement.{statement}
 use Rattle.shift.proofs.shift.Tie as tie
 
@@ -62,8 +63,8 @@ returns-2 c =
     let last : ℕ = a .count - 1 in (
       c .before .before .put2 .ensures .0
           ∙ ap (λ (l : List ℕ). set l (a .to + last) (c .before .before .before .before .before .before .before .before .before .before .before .before .nibble2 .result)) (c .before .before .before .before .before .before .put .ensures .0)
-          ∙ ends n₀ n₁ n₀ (a .to) (a .from) h (2 * ((a .count - h) / 2)) (a .count) (a .to + h) (a .from + h) (a .to + last) (a .from + last) (c .before .before .before .before .before .before .before .before .before .before .before .before .before .before .nibble .result) (c .before .before .before .before .before .before .before .before .before .before .before .before .nibble2 .result)
-          (search needs) (c .before .before .before .before .before .before .before .before .before .before .before .before .before .before .nibble .ensures .0) (c .before .before .before .before .before .before .before .before .before .before .before .before .nibble2 .ensures .0) (c .before .before .before .before .before .before .before .before .before .before .pairs .ensures),
+          ∙ ends n₀ n₁ n₀ (a .to) (a .from) (a .to) (a .count) (a .to + h) (a .from + h) (a .to + last) (a .from + last) (c .before .before .before .before .before .before .before .before .before .before .before .before .before .before .nibble .result) (c .before .before .before .before .before .before .before .before .before .before .before .before .nibble2 .result)
+          (omega arith) (omega arith) (omega arith) refl refl refl refl (c .before .before .before .before .before .before .before .before .before .before .before .before .before .before .nibble .ensures .0) (c .before .before .before .before .before .before .before .before .before .before .before .before .nibble2 .ensures .0) (c .before .before .before .before .before .before .before .before .before .before .pairs .ensures),
       search needs,
     )
 

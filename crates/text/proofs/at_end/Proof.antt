@@ -1,62 +1,48 @@
-use Rattle.format.specs.ShipText.{atEnd}
+-- `text::at_end` meets its contract.
+-- Assumes nothing.
 use mathlib.Core.Path.{sym, ap}
-use native.Mathlib.Omega.{arith}
-use borrow.Author.Needs.{needs}
+use Rattle.format.specs.ShipText.{atEnd}
 use Rattle.text.proofs.at_end.Statement.{statement}
 use Rattle.text.proofs.at_end.Tie as tie
-use Rattle.text.proofs.at_end.Reads as reads
-use Rattle.text.proofs.at_end.Lts as lts
 
--- src/lib.rt:180:28
 enum-known-st : tie.Need-enum-known-st
-enum-known-st c = search needs
+enum-known-st c = c .match .keys1
 
--- src/lib.rt:181:30
 enum-told : tie.Need-enum-told
-enum-told c = search needs
+enum-told c = c .match .keys2
 
--- src/lib.rt:182:34
 enum-told-2 : tie.Need-enum-told-2
-enum-told-2 c = search needs
+enum-told-2 c = c .match .keys3
 
--- src/lib.rt:183:33
 enum-told-3 : tie.Need-enum-told-3
-enum-told-3 c = search needs
+enum-told-3 c = c .match .keys4
 
--- src/lib.rt:184:34
 enum-told-4 : tie.Need-enum-told-4
-enum-told-4 c = search needs
+enum-told-4 c = c .match .keys5
 
--- src/lib.rt:185:31
 enum-told-5 : tie.Need-enum-told-5
-enum-told-5 c = search needs
+enum-told-5 c = c .match .keys6
 
--- src/lib.rt:176:1
 returns : tie.Need-returns
 unfolding atEnd
 returns c = ap atEnd (sym (c .before .st .given .1))
 
--- src/lib.rt:176:1
 returns-2 : tie.Need-returns-2
 unfolding atEnd
 returns-2 c = ap atEnd (sym (c .enum-told .given .1))
 
--- src/lib.rt:176:1
 returns-3 : tie.Need-returns-3
 unfolding atEnd
 returns-3 c = ap atEnd (sym (c .enum-told2 .given .1))
 
--- src/lib.rt:176:1
 returns-4 : tie.Need-returns-4
 unfolding atEnd
 returns-4 c = ap atEnd (sym (c .enum-told3 .given .1))
 
--- src/lib.rt:176:1
 returns-5 : tie.Need-returns-5
 unfolding atEnd
 returns-5 c = ap atEnd (sym (c .enum-told4 .given .1))
 
--- src/lib.rt:176:1
 returns-6 : tie.Need-returns-6
 unfolding atEnd
 returns-6 c = ap atEnd (sym (c .enum-told5 .given .1))

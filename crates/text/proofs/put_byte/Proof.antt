@@ -1,41 +1,32 @@
+-- `text::put_byte` meets its contract.
+-- Assumes nothing.
+use Prim.{tt}
+use native.Mathlib.Omega.{arith}
+use borrow.Author.Needs.{needs}
 use Rattle.laws.proofs.ShipText.{run-length}
 use Rattle.laws.proofs.Characters.{code-bound}
 use Rattle.text.proofs.Writer.{byte-space, byte-code}
-use native.Mathlib.Omega.{arith}
-use borrow.Author.Needs.{needs}
 use Rattle.text.proofs.put_byte.Statement.{statement}
 use Rattle.text.proofs.put_byte.Tie as tie
-use Rattle.text.proofs.put_byte.Reads as reads
-use Rattle.text.proofs.put_byte.Lts as lts
-use Rattle.text.proofs.char_code.Reads as char-code-reads
-use Rattle.text.proofs.put_code.Reads as put-code-reads
-use Rattle.text.proofs.put_run.Reads as put-run-reads
 
--- src/lib.rt:373:38
 add-t9 : tie.Need-add-t9
-add-t9 c = search needs
+add-t9 c = omega arith
 
--- src/lib.rt:373:9
 returns : tie.Need-returns
 returns c = byte-space _ _ _ _ (c .if1 .taken)
 
--- src/lib.rt:375:9
 char-code-requires : tie.Need-char-code-requires
-char-code-requires c κs = search needs
+char-code-requires c κs = tt
 
--- src/lib.rt:376:9
 put-run-requires : tie.Need-put-run-requires
 put-run-requires c κs = search needs
 
--- src/lib.rt:377:9
 put-code-requires : tie.Need-put-code-requires
 put-code-requires c κs = (omega (arith, c .before .before .before .put-run .ensures .0, run-length (c .before .before .before .before .before .before .before .before .args .s)), omega (arith, c .before .before .before .before .before .char-code .ensures, code-bound (c .before .before .before .before .before .before .before .before .args .b) (search needs)))
 
--- src/lib.rt:368:1
 same-length : tie.Need-same-length
 same-length c = search needs
 
--- src/lib.rt:368:1
 returns-2 : tie.Need-returns-2
 returns-2 c = byte-code _ _ _ _ _ _ _ _ _ (c .before .before .before .before .before .before .before .before .before .if1 .left) (c .before .before .before .before .before .before .before .before .char-code .ensures) (c .before .before .before .before .before .before .put-run .ensures) (c .before .before .put-code .ensures)
 

@@ -1,105 +1,81 @@
-use Rattle.text.proofs.Stores.{store-one, store-two, store-three, code-one, code-two, code-three}
+-- `text::put_code` meets its contract.
+-- Assumes nothing.
+use Prim.{tt}
 use native.Mathlib.Omega.{arith}
 use borrow.Author.Needs.{needs}
+use Rattle.text.proofs.Stores.{store-one, store-two, store-three, code-one, code-two, code-three}
 use Rattle.text.proofs.put_code.Statement.{statement}
 use Rattle.text.proofs.put_code.Tie as tie
-use Rattle.text.proofs.put_code.Reads as reads
-use Rattle.text.proofs.put_code.Lts as lts
-use Rattle.text.proofs.put.Reads as put-reads
 
--- src/lib.rt:347:22
 cast-put : tie.Need-cast-put
-cast-put c = search needs
+cast-put c = omega arith
 
--- src/lib.rt:347:9
 put-requires : tie.Need-put-requires
-put-requires c κs = search needs
+put-requires c κs = tt
 
--- src/lib.rt:348:16
 add-result : tie.Need-add-result
-add-result c = search needs
+add-result c = omega arith
 
--- src/lib.rt:348:9
 same-length : tie.Need-same-length
 same-length c = search needs
 
--- src/lib.rt:348:9
 returns : tie.Need-returns
 returns c = store-one _ _ _ _ _ (code-one (c .before .before .before .before .before .before .args .v) (search needs)) (c .before .before .put .ensures)
 
--- src/lib.rt:351:22
 cast-put-2 : tie.Need-cast-put-2
-cast-put-2 c = search needs
+cast-put-2 c = omega arith
 
--- src/lib.rt:351:9
 put-requires-2 : tie.Need-put-requires-2
-put-requires-2 c κs = search needs
+put-requires-2 c κs = tt
 
--- src/lib.rt:352:18
 add-put : tie.Need-add-put
-add-put c = search needs
+add-put c = omega arith
 
--- src/lib.rt:352:26
 cast-put-3 : tie.Need-cast-put-3
-cast-put-3 c = search needs
+cast-put-3 c = omega arith
 
--- src/lib.rt:352:9
 put-requires-3 : tie.Need-put-requires-3
-put-requires-3 c κs = search needs
+put-requires-3 c κs = tt
 
--- src/lib.rt:353:16
 add-result-2 : tie.Need-add-result-2
-add-result-2 c = search needs
+add-result-2 c = omega arith
 
--- src/lib.rt:353:9
 same-length-2 : tie.Need-same-length-2
 same-length-2 c = search needs
 
--- src/lib.rt:353:9
 returns-2 : tie.Need-returns-2
 returns-2 c = store-two _ _ _ _ _ _ _ (code-two (c .before .before .before .before .before .before .before .before .before .before .before .args .v) (search needs) (search needs)) (c .before .before .before .before .before .before .put2 .ensures) (c .before .before .put3 .ensures)
 
--- src/lib.rt:355:18
 cast-put-4 : tie.Need-cast-put-4
-cast-put-4 c = search needs
+cast-put-4 c = omega arith
 
--- src/lib.rt:355:5
 put-requires-4 : tie.Need-put-requires-4
-put-requires-4 c κs = search needs
+put-requires-4 c κs = tt
 
--- src/lib.rt:356:14
 add-put-2 : tie.Need-add-put-2
-add-put-2 c = search needs
+add-put-2 c = omega arith
 
--- src/lib.rt:356:22
 cast-put-5 : tie.Need-cast-put-5
-cast-put-5 c = search needs
+cast-put-5 c = omega arith
 
--- src/lib.rt:356:5
 put-requires-5 : tie.Need-put-requires-5
-put-requires-5 c κs = search needs
+put-requires-5 c κs = tt
 
--- src/lib.rt:357:14
 add-put-3 : tie.Need-add-put-3
-add-put-3 c = search needs
+add-put-3 c = omega arith
 
--- src/lib.rt:357:22
 cast-put-6 : tie.Need-cast-put-6
-cast-put-6 c = search needs
+cast-put-6 c = omega arith
 
--- src/lib.rt:357:5
 put-requires-6 : tie.Need-put-requires-6
-put-requires-6 c κs = search needs
+put-requires-6 c κs = tt
 
--- src/lib.rt:358:5
 add-result-3 : tie.Need-add-result-3
-add-result-3 c = search needs
+add-result-3 c = omega arith
 
--- src/lib.rt:342:1
 same-length-3 : tie.Need-same-length-3
 same-length-3 c = search needs
 
--- src/lib.rt:342:1
 returns-3 : tie.Need-returns-3
 returns-3 c = store-three _ _ _ _ _ _ _ _ _ (code-three (c .before .before .before .before .before .before .before .before .before .before .before .before .before .before .before .args .v) (search needs)) (c .before .before .before .before .before .before .before .before .before .before .put4 .ensures) (c .before .before .before .before .before .before .put5 .ensures) (c .before .before .put6 .ensures)
 

@@ -1,14 +1,13 @@
-use lib.ListN.{length}
-use mathlib.Core.Path.{refl, _∙_}
+-- `text::put_text` meets its contract.
+-- Assumes nothing.
 use Prim.Native.Nat.{_-_}
-use Rattle.text.proofs.Writer.{Writing, writing-none, writing-length, writing-more, writing-long, writing-end}
-use borrow.Author.Needs.{needs}
 use native.Mathlib.Omega.{arith}
+use mathlib.Core.Path.{refl, _∙_}
+use lib.ListN.{length}
+use borrow.Author.Needs.{needs}
+use Rattle.text.proofs.Writer.{Writing, writing-none, writing-length, writing-more, writing-long, writing-end}
 use Rattle.text.proofs.put_text.Statement.{statement}
 use Rattle.text.proofs.put_text.Tie as tie
-use Rattle.text.proofs.put_text.Reads as reads
-use Rattle.text.proofs.put_text.Lts as lts
-use Rattle.text.proofs.put_byte.Reads as put-byte-reads
 
 abbrev Inv-loop : tie.InvT-loop
 Inv-loop t out₀ at₀ s₀ i₀ out at s i = Writing t out₀ at s i out
@@ -16,43 +15,33 @@ Inv-loop t out₀ at₀ s₀ i₀ out at s i = Writing t out₀ at s i out
 abbrev μ-loop : tie.MeasureT-loop
 μ-loop t out₀ at₀ s₀ i₀ out at s i = length t - i
 
--- src/lib.rt:394:5
 loop-holds : tie.Need-loop-holds Inv-loop μ-loop
 loop-holds c = writing-none _ _
 
--- src/lib.rt:395:38
 shared-slice-read-put-byte : tie.Need-shared-slice-read-put-byte Inv-loop μ-loop
 shared-slice-read-put-byte c = search needs
 
--- src/lib.rt:395:13
 put-byte-requires : tie.Need-put-byte-requires Inv-loop μ-loop
 put-byte-requires c κs = (c .before .before .before .loop .inv .room, omega (arith, c .before .before .before .loop .inv .few, c .before .before .before .before .before .before .good .0 .1))
 
--- src/lib.rt:399:13
 same-length : tie.Need-same-length Inv-loop μ-loop
 same-length c = c .before .before .before .put-byte .kept .0 ∙ writing-length _ _ _ _ _ _ (c .before .before .before .before .before .before .before .loop .inv)
 
--- src/lib.rt:399:13
 returns : tie.Need-returns Inv-loop μ-loop
 returns c = writing-long _ _ _ _ _ _ _ _ _ _ (c .before .before .before .before .before .before .before .loop .inv) (search needs) refl (omega (arith, c .before .before .before .before .shared-slice-known2 .given (c .before .before .before .before .before .before .before .loop .i))) (c .before .before .before .put-byte .ensures) (c .if1 .taken)
 
--- src/lib.rt:401:9
 add-i : tie.Need-add-i Inv-loop μ-loop
-add-i c = search needs
+add-i c = omega arith
 
--- src/lib.rt:394:5
 loop-less : tie.Need-loop-less Inv-loop μ-loop
 loop-less c = search needs
 
--- src/lib.rt:394:5
 loop-again : tie.Need-loop-again Inv-loop μ-loop
 loop-again c = writing-more _ _ _ _ _ _ _ _ _ _ (c .before .before .before .before .before .before .before .loop .inv) (search needs) refl (omega (arith, c .before .before .before .before .shared-slice-known2 .given (c .before .before .before .before .before .before .before .loop .i))) (c .before .before .before .put-byte .ensures) (c .if1 .left)
 
--- src/lib.rt:387:1
 same-length-2 : tie.Need-same-length-2 Inv-loop μ-loop
 same-length-2 c = writing-length _ _ _ _ _ _ (c .before .loop .inv)
 
--- src/lib.rt:387:1
 returns-2 : tie.Need-returns-2 Inv-loop μ-loop
 returns-2 c = writing-end _ _ _ _ _ _ (c .before .loop .inv) (search needs) (c .before .before .before .before .pre)
 

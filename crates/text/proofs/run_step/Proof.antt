@@ -1,28 +1,23 @@
-use Rattle.text.proofs.Steps.{run-fits, run-over, run-crowd}
+-- `text::run_step` meets its contract.
+-- Assumes nothing.
 use native.Mathlib.Omega.{arith}
 use borrow.Author.Needs.{needs}
+use Rattle.text.proofs.Steps.{run-fits, run-over, run-crowd}
 use Rattle.text.proofs.run_step.Statement.{statement}
 use Rattle.text.proofs.run_step.Tie as tie
-use Rattle.text.proofs.run_step.Reads as reads
-use Rattle.text.proofs.run_step.Lts as lts
 
--- src/lib.rt:86:57
 add-t7 : tie.Need-add-t7
-add-t7 c = search needs
+add-t7 c = omega arith
 
--- src/lib.rt:86:52
 add-t8 : tie.Need-add-t8
-add-t8 c = search needs
+add-t8 c = omega arith
 
--- src/lib.rt:86:13
 returns : tie.Need-returns
 returns c = run-fits _ _ (search needs) (search needs)
 
--- src/lib.rt:88:9
 returns-2 : tie.Need-returns-2
 returns-2 c = run-over _ _ (search needs) (search needs)
 
--- src/lib.rt:80:1
 returns-3 : tie.Need-returns-3
 returns-3 c = run-crowd _ _ (search needs)
 

@@ -1,0 +1,199 @@
+-- Fields: what is read of one, and the layout that a code stored in one leaves.
+-- Assumes nothing.
+use Prim.Native.Nat.{ℕ, suc, _+_, _-_, _*_, _%_, _≤_, _<_}
+use native.Mathlib.Omega.{arith}
+use mathlib.Core.Path.{_≡_, refl, sym, ap, ap₂, _∙_}
+use mathlib.Core.Bool.{Bool, true, false, cond, not}
+use lib.Dec.{eqb}
+use borrow.Author.Tests.{eqb-true, eqb-false}
+use mathlib.Core.List.{List, [], _∷_, _++_, append-assoc}
+use mathlib.Core.Option.{Option, none, some}
+use native.Mathlib.Decide.{decLt}
+use native.Mathlib.Nat.{mul-suc}
+use lib.ListN.{List·getD-eq-default, length, getD, take, drop, set, take-append-drop}
+use lib.Seq.{take-take, drop-drop, set-getD}
+use Rattle.format.specs.Bits.{total}
+use Rattle.format.specs.Field.{Field, table, fieldAt, isField, required, inRange, coded, scaledOf, codedOf, entryOf, codeOf, entries, codes}
+use Rattle.format.specs.Nibbles.{nibbles}
+use Rattle.format.specs.Sheet.{checksum, cardNumbers, size}
+use Rattle.format.specs.Report.{numbersOf, rptinOf, codesOf, checksumOf, countOf, tailOf, sheetOf}
+use Rattle.format.specs.Machine.{readField, setField, clearField, valueAt, withValue, valueNumber, fieldNumberCheck, valueCheck, requiredCheck, callChecks, next, gives, Answer}
+use Rattle.format.specs.Reply.{refusal, answerOf}
+use Rattle.format.specs.declared.Reply.the-variants.{Done, Value, Missing}
+use Rattle.format.specs.Buffer.{layout, after, effect}
+use Rattle.format.specs.declared.Coded.{Coded}
+use Rattle.format.specs.declared.Scaled.{Scaled}
+use Rattle.laws.proofs.Bits.{Bytes, drop-below}
+use Rattle.laws.proofs.Nibbles.{nibbles-lt}
+use Rattle.laws.proofs.Fields.{table-length, codes-entries, fair-at, noField, codes-at}
+use Rattle.laws.proofs.Attachments.{checks-fine}
+use Rattle.laws.proofs.Report.{judged, passes}
+use Rattle.laws.proofs.Laid.{field-laid, value-numbers, total-set}
+use Rattle.card.specs.Answers.{Carded, fielded, codingOf}
+use Rattle.card.proofs.Rows.{row-is}
+use Rattle.card.proofs.Weights.{codes-length}
+use Rattle.card.proofs.Entries.{entry-missing, entry-there, entry-is, entries-length, field-is}
+use Rattle.card.proofs.Given.{coding-outside, coding-code, carded-whole}
+use Rattle.card.specs.declared.Coding.the-variants.{Outside, Code}
+use Rattle.laws.proofs.Order.{first-nil, no-check}
+use Rattle.fields.proofs.Calls.{call-refuses, call-reads, call-stores, between-in, number-passes, quiet-read-field, quiet-set-field, quiet-clear-field}
+use Rattle.fields.specs.Accepted.{Accepted, Summed, replaced}
+
+-- the value of field k is the entry of its code
+pub value-is : (b : List ℕ) (k : ℕ) (c : Coded) → 1 ≤ k → k ≤ 46 → c .0 ≡ getD (codesOf b) (k - 1) 0 → valueAt (sheetOf b) k ≡ entryOf (fieldAt k) c
+unfolding sheetOf
+value-is b k c l h e =
+    let at : k - 1 + 1 ≡ k = omega arith in
+    entry-is b (k - 1) c (omega arith) e ∙ ap (λ (n : ℕ). entryOf (fieldAt n) c) at
+
+-- ---- the numbers of an accepted card
+
+numbers-parts : (b : List ℕ) → numbersOf b ≡ rptinOf b ∷ (codesOf b ++ (checksumOf b ∷ countOf b ∷ []))
+numbers-parts b =
+    let whole : fielded (numbersOf b) (codesOf b) 46 ≡ numbersOf b =
+    append-assoc (take 1 (numbersOf b)) (take 46 (codesOf b)) (drop 47 (numbersOf b))
+    ∙ ap₂ (λ (x y : List ℕ). take 1 (numbersOf b) ++ (x ++ y)) (take-take 46 46 (drop 1 (numbersOf b)) (omega arith)) (sym (drop-drop 46 1 (numbersOf b)))
+    ∙ ap (λ (x : List ℕ). take 1 (numbersOf b) ++ x) (take-append-drop 46 (drop 1 (numbersOf b)))
+    ∙ take-append-drop 1 (numbersOf b) in
+    let sets : numbersOf b ≡ set (set (set (fielded (numbersOf b) (codesOf b) 46) 47 (checksumOf b)) 48 (countOf b)) 0 (rptinOf b) =
+    sym (ap (λ (x : List ℕ). set (set (set x 47 (checksumOf b)) 48 (countOf b)) 0 (rptinOf b)) whole
+    ∙ ap (λ (x : List ℕ). set (set x 48 (countOf b)) 0 (rptinOf b)) (set-getD (numbersOf b) 47 0)
+    ∙ ap (λ (x : List ℕ). set x 0 (rptinOf b)) (set-getD (numbersOf b) 48 0)
+    ∙ set-getD (numbersOf b) 0 0) in
+    carded-whole b b (codesOf b) (checksumOf b) (countOf b) (rptinOf b) (codes-length b) (record { card = sets; behind = refl; long = refl }) .card
+
+codes-back : (b : List ℕ) → codes table (entries table (codesOf b)) ≡ codesOf b
+codes-back b = codes-entries table (codesOf b) (codes-length b ∙ sym table-length)
+
+pub numbers-taken : (b : List ℕ) → Bytes b → Accepted b → numbersOf b ≡ cardNumbers (sheetOf b)
+unfolding cardNumbers sheetOf
+numbers-taken b bs j =
+    let p = passes b (sheetOf b) j .0 in
+    let w = checks-fine (countOf b) 1 [] (tailOf b) (drop-below 16 75 (nibbles b) (nibbles-lt b bs)) (p .attachments) in
+    numbers-parts b ∙ rw (codes-back b, w .count, ← p .sum) refl
+
+-- ---- the code of a value
+
+coding-in : (f : Field) (v : Scaled) (c : Coded) → Code c ≡ codingOf f v → inRange f v ≡ true
+unfolding codingOf
+coding-in f v c = go (inRange f v)
+  where
+    go : (t : Bool) → Code c ≡ cond t (Code (codedOf f v)) Outside → t ≡ true
+    go true e = refl
+    go false e = let z : _≡_ {A = ℕ} 0 1 = cc in absurd (omega arith)
+
+-- ---- a code stored
+
+module _ (b : List ℕ) (bs : Bytes b) (k : ℕ) (low : 1 ≤ k) (high : k ≤ 46) where
+  -- it is that of the entry e: the buffer is the layout of the sheet with e
+  pub value-laid : (d : List ℕ) (e : Option Scaled) (c : Coded) → Accepted b → Bytes d → c ≡ codeOf (fieldAt k) e
+      → Carded b d (replaced b k (c .0)) → d ≡ layout b (size (sheetOf b)) (withValue (sheetOf b) k e)
+  unfolding sheetOf
+  value-laid d e c j bd is r =
+      let long : length (entries table (codesOf b)) ≡ 46 = entries-length b in
+      let code : c .0 ≡ codeOf (fieldAt k) e .0 = ap (λ (x : Coded). x .0) is in
+      let card : replaced b k (c .0) ≡ cardNumbers (withValue (sheetOf b) k e) =
+      sym (value-numbers (sheetOf b) k e long low high
+      ∙ rw (← code, codes-back b, ← numbers-taken b bs j) refl) in
+      field-laid b d (sheetOf b) (withValue (sheetOf b) k e) bs j refl bd (r .long) (r .card ∙ card) (r .behind)
+
+-- ---- the sum of the codes
+
+total-le : (n : ℕ) (cs : List ℕ) → ((i : ℕ) → getD cs i 0 ≤ n) → total cs ≤ n * length cs
+unfolding total
+total-le n [] h = omega arith
+total-le n (c ∷ cs) h =
+    let e : n * suc (length cs) ≡ n + n * length cs = rw (mul-suc n (length cs)) (omega arith) in
+    omega (arith, h 0, total-le n cs (λ i. h (suc i)))
+
+-- a code is at most its field's highest, and that is a row's number of three digits of 16
+highest-le : (k : ℕ) → 1 ≤ k → k ≤ 46 → fieldAt k .highest ≤ 4095
+highest-le k l h = omega (arith, row-is k l h .highest)
+
+module _ (b : List ℕ) (bs : Bytes b) (j : Accepted b) where
+  code-le : (i : ℕ) → getD (codesOf b) i 0 ≤ 4095
+  unfolding sheetOf
+  code-le i = go (decLt i 46)
+    where
+      go : Dec (i < 46) → getD (codesOf b) i 0 ≤ 4095
+      go (no h) = omega (arith, List·getD-eq-default (codesOf b) 0 {n = i} (omega (arith, codes-length b)))
+      go (yes h) =
+          let f = fair-at (judged b (sheetOf b) bs j .good .fair) i .low in
+          let e : getD (codesOf b) i 0 ≡ codeOf (getD table i noField) (getD (entries table (codesOf b)) i none) .0 =
+          ap (λ (l : List ℕ). getD l i 0) (sym (codes-back b)) ∙ codes-at table (entries table (codesOf b)) i (rw table-length h) in
+          omega (arith, highest-le (i + 1) (omega arith) (omega arith), ap (λ (x : Field). x .highest) (field-is i))
+
+  pub sum-le : total (codesOf b) ≤ 4095 * 46
+  sum-le = rw (codes-length b) at (total-le 4095 (codesOf b) code-le)
+
+-- ---- the returns of the calls on fields, where k is a field
+
+module _ (b : List ℕ) (bs : Bytes b) (j : Accepted b) (k : ℕ) (t : Bool) (is : t ≡ isField k) (h : not t ≡ false) where
+  known : (1 ≤ k) × (k ≤ 46)
+  known = between-in 1 46 k t is h
+
+  known-passes : not (isField k) ≡ false
+  known-passes = number-passes 1 46 k t is h
+
+  field-gives : (c : Coded) → c .0 ≡ getD (codesOf b) (k - 1) 0 → (e : Option Scaled) → entryOf (fieldAt k) c ≡ e
+      → after (Answer.accepted (valueNumber e ∷ [])) b [] ≡ effect b (readField k)
+  unfolding callChecks next gives
+  field-gives c at e there =
+      call-reads b (sheetOf b) (readField k) (quiet-read-field k) bs j refl (no-check (fieldNumberCheck k) [] known-passes first-nil) (valueNumber e ∷ [])
+      (ap (λ (x : Option Scaled). valueNumber x ∷ []) (value-is b k c (known .0) (known .1) at ∙ there))
+
+  module _ (c : Coded) (at : c .0 ≡ getD (codesOf b) (k - 1) 0) (m : Bool) (missing : m ≡ eqb (c .0) 0) where
+    pub field-missing : m ≡ true → after (answerOf Missing) b [] ≡ effect b (readField k)
+    field-missing e = field-gives c at none (entry-missing (fieldAt k) c (eqb-true (c .0) 0 (sym missing ∙ e)))
+
+    pub field-read : m ≡ false → (v : Scaled) → v ≡ scaledOf (fieldAt k) c → after (answerOf (Value v)) b [] ≡ effect b (readField k)
+    field-read e v is = field-gives c at (some v) (entry-there (fieldAt k) c (eqb-false (c .0) 0 (sym missing ∙ e)) ∙ ap some (sym is))
+
+  -- set and clear: a code stored, and the checks before 13 passed
+  module _ (d : List ℕ) (bd : Bytes d) where
+    pub field-set : (v : Scaled) (c : Coded) → Code c ≡ codingOf (fieldAt k) v → Carded b d (replaced b k (c .0))
+        → after (answerOf Done) d [] ≡ effect b (setField k v)
+    unfolding callChecks next gives codeOf
+    field-set v c e r =
+        let q = coding-code (fieldAt k) v c e in
+        call-stores b (sheetOf b) (setField k v) (quiet-set-field k v) bs j d refl
+        (no-check (fieldNumberCheck k) (valueCheck k v ∷ []) known-passes (no-check (valueCheck k v) [] (ap not (coding-in (fieldAt k) v c e)) first-nil))
+        refl (value-laid b bs k (known .0) (known .1) d (some v) c j bd (q .0) r)
+
+    pub field-cleared : (q : Bool) → q ≡ required k → q ≡ false → (c : Coded) → c ≡ coded 0 → Carded b d (replaced b k (c .0))
+        → after (answerOf Done) d [] ≡ effect b (clearField k)
+    unfolding callChecks next gives codeOf
+    field-cleared q eq free c e r =
+        call-stores b (sheetOf b) (clearField k) (quiet-clear-field k) bs j d refl
+        (no-check (fieldNumberCheck k) (requiredCheck k ∷ []) known-passes (no-check (requiredCheck k) [] (sym eq ∙ free) first-nil))
+        refl (value-laid b bs k (known .0) (known .1) d none c j bd e r)
+
+  pub field-outside : (v : Scaled) → Outside ≡ codingOf (fieldAt k) v → after (refusal 9 k) b [] ≡ effect b (setField k v)
+  unfolding callChecks
+  field-outside v e =
+      call-refuses b (sheetOf b) (setField k v) (quiet-set-field k v) bs j (fieldNumberCheck k ∷ []) (valueCheck k v) [] refl
+      (no-check (fieldNumberCheck k) [] known-passes first-nil) (ap not (coding-outside (fieldAt k) v e))
+
+  pub field-required : (q : Bool) → q ≡ required k → q ≡ true → after (refusal 10 k) b [] ≡ effect b (clearField k)
+  unfolding callChecks
+  field-required q eq must =
+      call-refuses b (sheetOf b) (clearField k) (quiet-clear-field k) bs j (fieldNumberCheck k ∷ []) (requiredCheck k) [] refl
+      (no-check (fieldNumberCheck k) [] known-passes first-nil) (sym eq ∙ must)
+
+-- ---- the sum that seals
+
+module _ (b : List ℕ) (sum k : ℕ) (c : Coded) (bs : Bytes b) (h : Summed b sum) (low : 1 ≤ k) (high : k ≤ 46) where
+  set-total : (n : ℕ) → total (set (codesOf b) (k - 1) n) + getD (codesOf b) (k - 1) 0 ≡ sum + n
+  set-total n = total-set (codesOf b) (k - 1) n (rw (codes-length b) (omega arith)) ∙ ap (λ (x : ℕ). x + n) (sym (h .is))
+
+  pub old-le : (o : Coded) → o .0 ≡ getD (codesOf b) (k - 1) 0 → o .0 ≤ sum
+  old-le o e = omega (arith, set-total 0)
+
+  pub sum-fits : sum ≤ 4095 * 46
+  sum-fits = rw (h .is) (sum-le b bs (h .report))
+
+  pub sealed : (o : Coded) → o .0 ≡ getD (codesOf b) (k - 1) 0 → (sum - o .0 + c .0) % 255 ≡ checksum (set (codesOf b) (k - 1) (c .0))
+  unfolding checksum
+  sealed o e =
+      let m : sum - o .0 + c .0 ≡ total (set (codesOf b) (k - 1) (c .0)) = omega (arith, set-total (c .0), old-le o e) in
+      ap (λ (n : ℕ). n % 255) m

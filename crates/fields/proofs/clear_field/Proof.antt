@@ -1,0 +1,44 @@
+-- `fields::clear_field` meets its contract.
+-- Assumes nothing.
+use Rattle.format.specs.Machine.{clearField}
+use Rattle.fields.proofs.Calls.{report-refuses, summed, quiet-clear-field}
+use borrow.Author.Needs.{needs}
+use Rattle.fields.proofs.clear_field.Statement.{statement}
+use Rattle.fields.proofs.clear_field.Tie as tie
+
+inspect-requires : tie.Need-inspect-requires
+inspect-requires c κs = search needs
+
+enum-known-i : tie.Need-enum-known-i
+enum-known-i c = search needs
+
+enum-known-i-2 : tie.Need-enum-known-i-2
+enum-known-i-2 c = search needs
+
+clear-field-of-requires : tie.Need-clear-field-of-requires
+clear-field-of-requires c κs = summed _ _ _ (c .before .before .before .before .inspect .ensures) (c .before .before .i2 .given .1)
+
+same-length : tie.Need-same-length
+same-length c = search needs
+
+returns : tie.Need-returns
+returns c = report-refuses _ (clearField (c .before .before .before .before .before .before .args .k)) 0 _ _ _ (quiet-clear-field (c .before .before .before .before .before .before .args .k)) (c .before .before .before .inspect .ensures) (c .before .i .given .1)
+
+same-length-2 : tie.Need-same-length-2
+same-length-2 c = search needs
+
+returns-2 : tie.Need-returns-2
+returns-2 c = search needs
+
+pub clear-field-spec : {M : Type 1} → statement M
+clear-field-spec =
+    tie.close
+    (tie.spec
+    inspect-requires
+    enum-known-i
+    enum-known-i-2
+    clear-field-of-requires
+    same-length
+    returns
+    same-length-2
+    returns-2)

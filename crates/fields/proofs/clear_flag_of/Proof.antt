@@ -1,0 +1,54 @@
+-- `fields::clear_flag_of` meets its contract.
+-- Assumes nothing.
+use mathlib.Core.Path.{refl}
+use mathlib.Core.List.{[], _∷_}
+use denote.Ref.{now}
+use Rattle.format.specs.Report.{sheetOf}
+use Rattle.laws.proofs.Order.{first-nil, no-check}
+use Rattle.format.specs.Machine.{clearFlag, flagNumberCheck, callChecks}
+use Rattle.fields.proofs.Calls.{number-refuses, number-passes, between-in, quiet-clear-flag}
+use Rattle.fields.proofs.Bodies.{absent-refuses, body-within, body-low, flag-cleared}
+use native.Mathlib.Omega.{arith}
+use borrow.Author.Needs.{needs}
+use Rattle.fields.proofs.clear_flag_of.Statement.{statement}
+use Rattle.fields.proofs.clear_flag_of.Tie as tie
+
+within-requires : tie.Need-within-requires
+within-requires c κs = search needs
+
+returns : tie.Need-returns
+unfolding callChecks
+returns c = number-refuses _ (sheetOf (now (c .before .before .before .args .s))) (clearFlag (c .before .before .before .args .j)) (quiet-clear-flag (c .before .before .before .args .j)) (λ i. c .before .before .slice-known .given i .fits) (c .before .before .before .pre .report)
+    1 14 (c .before .before .before .args .j) _ refl _ (c .before .within .ensures) (c .if1 .taken)
+
+returns-2 : tie.Need-returns-2
+unfolding callChecks
+returns-2 c = absent-refuses _ (λ i. c .before .before .before .slice-known .given i .fits) _ (c .before .before .before .before .pre) (clearFlag (c .before .before .before .before .args .j)) (quiet-clear-flag (c .before .before .before .before .args .j)) (flagNumberCheck (c .before .before .before .before .args .j) ∷ []) refl
+    (no-check (flagNumberCheck (c .before .before .before .before .args .j)) [] (number-passes 1 14 (c .before .before .before .before .args .j) _ (c .before .before .within .ensures) (c .before .if1 .left)) first-nil) (c .if2 .taken)
+
+add-store-flag : tie.Need-add-store-flag
+add-store-flag c = let l = body-low _ (λ i. c .before .before .before .before .slice-known .given i .fits) _ (c .before .before .before .before .before .pre) (c .before .if2 .left) in search needs
+
+store-flag-requires : tie.Need-store-flag-requires
+store-flag-requires c κs = let w = body-within _ (λ i. c .before .before .before .before .slice-known .given i .fits) _ (c .before .before .before .before .before .pre) (c .before .if2 .left) in
+    let l = body-low _ (λ i. c .before .before .before .before .slice-known .given i .fits) _ (c .before .before .before .before .before .pre) (c .before .if2 .left) in
+    let h = between-in 1 14 (c .before .before .before .before .before .args .j) _ (c .before .before .before .within .ensures) (c .before .before .if1 .left) in
+    (omega arith, omega arith, h .0, h .1, omega arith)
+
+same-length : tie.Need-same-length
+same-length c = search needs
+
+returns-3 : tie.Need-returns-3
+returns-3 c = flag-cleared _ (λ i. c .before .before .before .before .before .before .before .slice-known .given i .fits) _ (c .before .before .before .before .before .before .before .before .pre) (c .before .before .before .before .if2 .left) (c .before .before .before .before .before .before .before .before .args .j) _ (c .before .before .before .before .before .before .within .ensures) (c .before .before .before .before .before .if1 .left) _ (λ i. c .slice-known2 .given i .fits) (c .before .before .store-flag .ensures .1) _ (c .before .before .store-flag .ensures .0) refl
+
+pub clear-flag-of-spec : {M : Type 1} → statement M
+clear-flag-of-spec =
+    tie.close
+    (tie.spec
+    within-requires
+    returns
+    returns-2
+    add-store-flag
+    store-flag-requires
+    same-length
+    returns-3)

@@ -1,0 +1,31 @@
+-- `fields::read_field` meets its contract.
+-- Assumes nothing.
+use Rattle.format.specs.Machine.{readField}
+use Rattle.report.proofs.Outcomes.{judge-fine}
+use Rattle.fields.proofs.Calls.{report-refuses, quiet-read-field}
+use borrow.Author.Needs.{needs}
+use Rattle.fields.proofs.read_field.Statement.{statement}
+use Rattle.fields.proofs.read_field.Tie as tie
+
+inspect-requires : tie.Need-inspect-requires
+inspect-requires c κs = search needs
+
+enum-known-i : tie.Need-enum-known-i
+enum-known-i c = search needs
+
+enum-told : tie.Need-enum-told
+enum-told c = search needs
+
+field-of-requires : tie.Need-field-of-requires
+field-of-requires c κs = judge-fine _ _ _ _ (c .before .before .inspect .ensures) (c .enum-told .given .1) .0
+
+returns : tie.Need-returns
+returns c = report-refuses _ (readField (c .before .before .before .before .before .args .k)) 0 _ _ _ (quiet-read-field (c .before .before .before .before .before .args .k)) (c .before .before .before .inspect .ensures) (c .before .i .given .1)
+
+returns-2 : tie.Need-returns-2
+returns-2 c = search needs
+
+pub read-field-spec : {M : Type 1} → statement M
+read-field-spec =
+    tie.close
+    (tie.spec inspect-requires enum-known-i enum-told field-of-requires returns returns-2)

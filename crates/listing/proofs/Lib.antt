@@ -1,0 +1,4 @@
+pub mod Decimal
+pub mod Puts
+pub mod Signed
+pub mod Lines

@@ -1,0 +1,47 @@
+-- What the parts of unpack and pack know and answer.
+use Prim.Native.Nat.{ℕ, _≤_}
+use mathlib.Core.Path.{_≡_}
+use mathlib.Core.Bool.{true, false, cond, not, _&&_}
+use mathlib.Core.List.{List, []}
+use mathlib.Core.Option.{Option, none, some}
+use lib.ListN.{length}
+use lib.IntN.{ℤ}
+use Rattle.format.specs.Order.{Refusal, first}
+use Rattle.format.specs.Field.{table, fieldAt, required, inRange, scaled}
+use Rattle.format.specs.Report.{Verdict, sheetOf, attachmentChecks, judge}
+use Rattle.format.specs.Machine.{allNibbles}
+use Rattle.format.specs.Whole.{bitAt, bitOutside, packChecks, countIn}
+use Rattle.report.specs.Answers.{reportOf}
+use Rattle.report.specs.declared.Report.{Report}
+use Rattle.whole.specs.declared.Checked.{Checked}
+use Rattle.whole.specs.declared.Checked.the-variants.{Refused, Passed}
+
+-- a report was accepted, and shows r
+pub record Shown (b : List ℕ) (r : Report) : Type 0 where
+  pub verdict : judge b ≡ Verdict.accepted (sheetOf b)
+  pub is : r ≡ reportOf b 0 (sheetOf b .attachments)
+
+-- the refusal of field k, given as a presence word and a value, or 0
+unfoldable pub refusalOf : ℕ → ℕ → ℤ → ℕ
+refusalOf k word v =
+    cond (required k && not (bitAt word k)) 10 (cond (bitAt word k && not (inRange (fieldAt k) (scaled v))) 9 0)
+
+-- the first refusal of a field, or that there is none
+abbrev pub checkedBy : Option Refusal → Checked
+checkedBy (some r) = Refused (r .number) (r .place)
+checkedBy none = Passed
+
+unfoldable pub fieldsChecked : List ℤ → ℕ → Checked
+fieldsChecked values word = checkedBy (first (packChecks 1 table word values))
+
+-- the values and the word have passed
+pub record FieldsPass (values : List ℤ) (word : ℕ) : Type 0 where
+  pub long : 46 ≤ length values
+  pub inside : bitOutside word ≡ false
+  pub fields : first (packChecks 1 table word values) ≡ none
+
+-- the tail has passed too
+pub record TailPasses (values : List ℤ) (word : ℕ) (ns : List ℕ) : Type 0 where
+  pub passed : FieldsPass values word
+  pub nibbles : allNibbles ns ≡ true
+  pub attachments : first (attachmentChecks (countIn ns) 1 [] ns) ≡ none
