@@ -2,4 +2,3 @@ pub mod Codes
 pub mod Steps
 pub mod Stores
 pub mod Bodies
-pub mod Writer

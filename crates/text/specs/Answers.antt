@@ -1,17 +1,12 @@
 -- What the code answers, from the definitions.
-use Prim.Native.Nat.{ℕ, zero, suc, _≤_}
+use Prim.Native.Nat.{ℕ, zero, suc}
 use mathlib.Core.Path.{_≡_}
-use mathlib.Core.Bool.{cond}
 use mathlib.Core.List.{List, [], _∷_, _++_, map}
-use lib.ListN.{length, replicate}
-use lib.Dec.{leb}
+use lib.ListN.{replicate}
 use Rattle.format.specs.declared.TextState.{TextState}
 use Rattle.format.specs.declared.TextState.the-variants.{Between, Run, Pair, Escape, Half, Invalid}
 use Rattle.format.specs.declared.TextStep.{TextStep}
-use Rattle.format.specs.ShipText.{byteOf, stateAfter, symbolsOf, writeText}
-use Rattle.format.specs.Machine.{over}
-use Rattle.text.specs.declared.Written.{Written}
-use Rattle.text.specs.declared.Written.the-variants.{Fits, TooLong}
+use Rattle.format.specs.ShipText.{byteOf, stateAfter, symbolsOf}
 
 -- the spaces that wait in a state
 unfoldable pub held : TextState → ℕ
@@ -35,12 +30,3 @@ bytesOf t = map byteOf (symbolsOf t)
 pub record Moved (t : TextStep) (to : TextState) (more byte : ℕ) : Type 0 where
   pub state : to ≡ stateAfter t
   pub bytes : word more byte ≡ bytesOf t
-
--- how many nibbles a text takes, of 255
-unfoldable pub writtenOf : List ℕ → Written
-writtenOf t = cond (leb (length (writeText t)) 255) (Fits (length (writeText t))) TooLong
-
--- the answer to a text, and the array after it
-pub record Writes (t before after : List ℕ) (r : Written) : Type 0 where
-  pub answer : r ≡ writtenOf t
-  pub nibbles : length (writeText t) ≤ 255 → after ≡ over (writeText t) before

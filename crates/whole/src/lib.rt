@@ -65,11 +65,11 @@ fn give(s: &[u8], r: Report, values: &mut [i64], tail: &mut [u8]) -> Unpacked
     if tail.len() < n {
         return Unpacked::Refused(13, 0);
     }
-    let word = card::values(s, values);
+    let presence = card::values(s, values);
     shift::fetch(s, 75, n, tail);
     Unpacked::Given(Contents {
-        word,
-        present: u64::count_ones(word),
+        word: presence,
+        present: u64::count_ones(presence),
         rptin: card::rptin(s),
         count: r.count,
         size: r.end / 2 + r.end % 2,
@@ -227,54 +227,17 @@ pub fn fresh(
 ) -> Started
     ensures { λ r. ⌜ record { answer = freshAnswer r; out = now (out .exit) } ≡ spec.fresh box10 year month x y (now (out .entry)) ⌝ }
 {
-    let values = [
-        box10.0,
-        year.0,
-        month.0,
-        0,
-        0,
-        x.0,
-        y.0,
-        0,
-        0,
-        0,
-        0,
-        0,
-        0,
-        0,
-        0,
-        0,
-        0,
-        0,
-        0,
-        0,
-        0,
-        0,
-        0,
-        0,
-        0,
-        0,
-        0,
-        0,
-        0,
-        0,
-        0,
-        0,
-        0,
-        0,
-        0,
-        0,
-        0,
-        0,
-        0,
-        0,
-        0,
-        0,
-        0,
-        0,
-        0,
-        0,
-    ];
+    let v1 = box10.0;
+    let v2 = year.0;
+    let v3 = month.0;
+    let v6 = x.0;
+    let v7 = y.0;
+    let mut values = [0i64; 46];
+    values[0] = v1;
+    values[1] = v2;
+    values[2] = v3;
+    values[5] = v6;
+    values[6] = v7;
     let tail = [0u8; 0];
     // Bits 1, 2, 3, 6 and 7.
     let p = pack(&values, 206, 0, &tail, out);

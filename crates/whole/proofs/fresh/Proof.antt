@@ -41,6 +41,21 @@ packed c r e =
     ∙ c .pack .ensures
     ∙ (λ i. pack (fiveOf (held-1 c i) (held-2 c i) (held-3 c i) (held-6 c i) (held-7 c i)) 206 0 [] (now (given c .args .out)))
 
+array-set-from-values : tie.Need-array-set-from-values
+array-set-from-values c = search needs
+
+array-set-from-values-2 : tie.Need-array-set-from-values-2
+array-set-from-values-2 c = search needs
+
+array-set-from-values-3 : tie.Need-array-set-from-values-3
+array-set-from-values-3 c = search needs
+
+array-set-from-values-4 : tie.Need-array-set-from-values-4
+array-set-from-values-4 c = search needs
+
+array-set-from-values-5 : tie.Need-array-set-from-values-5
+array-set-from-values-5 c = search needs
+
 slice-aggregate-pack : tie.Need-slice-aggregate-pack
 slice-aggregate-pack c = search needs
 
@@ -72,6 +87,11 @@ pub fresh-spec : {M : Type 1} → statement M
 fresh-spec =
     tie.close
     (tie.spec
+    array-set-from-values
+    array-set-from-values-2
+    array-set-from-values-3
+    array-set-from-values-4
+    array-set-from-values-5
     slice-aggregate-pack
     slice-aggregate-pack-2
     pack-requires

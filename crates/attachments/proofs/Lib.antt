@@ -1,0 +1,5 @@
+pub mod Place
+pub mod Calls
+pub mod Edits
+pub mod Puts
+pub mod Contents

@@ -1,0 +1,269 @@
+// The calls on attachments of the report that a buffer begins with: put, fetch, drop, and fetch of the ship text. Each
+// judges the report first.
+ghost use mathlib.Core.Path.{_≡_};
+ghost use mathlib.Core.Bool.{_&&_};
+ghost use mathlib.Core.List.{[]};
+ghost use Prim.Native.Nat.{_+_, _*_, _≤_, max};
+ghost use lib.ListN.{length, take};
+ghost use lib.Seq.{paste};
+ghost use Rattle.format.specs.Nibbles.{nibbles, attachment, attachmentNibbles};
+ghost use Rattle.format.specs.Report.{bodyValid};
+ghost use Rattle.format.specs.Machine.{allNibbles};
+ghost use Rattle.format.specs.Machine as machine;
+ghost use Rattle.format.specs.Buffer.{after, effect};
+ghost use Rattle.format.specs.Reply.{answerOf};
+ghost use Rattle.laws.proofs.Attachments.{FineAt};
+ghost use Rattle.attachments.specs.Found.{Found};
+ghost use Rattle.attachments.specs.Edit.{Resizable, resized, PutEdit, putting};
+use format::Reply;
+use nibble::Cursor;
+use report::Inspected;
+use report::Report;
+
+// ---- fetch
+
+// Fetches from a report that was inspected.
+fn fetch_found(s: &[u8], id: usize, found: Report, out: &mut [u8]) -> Reply
+    requires { ⌜ Found (now s) id found ⌝ }
+    ensures { λ r. ⌜ after (answerOf r) (now (s .entry)) (now (out .exit)) ≡ effect (now (s .entry)) (machine.fetch id (now (out .entry))) ⌝ }
+{
+    let place = found.place;
+    let al = found.al;
+    if id < 1 {
+        return Reply::Refused(8, 0);
+    }
+    if 15 < id {
+        return Reply::Refused(8, 0);
+    }
+    if place == 0 {
+        return Reply::Refused(11, 0);
+    }
+    if out.len() < al {
+        return Reply::Refused(13, 0);
+    }
+    shift::fetch(s, place + 3, al, out);
+    Reply::Count(al)
+}
+
+// Writes the nibbles of an id to the front of out, one a byte.
+pub fn fetch(s: &[u8], id: usize, out: &mut [u8]) -> Reply
+    ensures { λ r. ⌜ after (answerOf r) (now (s .entry)) (now (out .exit)) ≡ effect (now (s .entry)) (machine.fetch id (now (out .entry))) ⌝ }
+{
+    let i = report::inspect(s, id);
+    match i {
+        Inspected::Refused(n, p) => Reply::Refused(n, p),
+        Inspected::Fine(found) => fetch_found(s, id, found, out),
+    }
+}
+
+// Fetches the ship text from a report that was inspected.
+fn fetch_text_found(s: &[u8], found: Report, out: &mut [u8]) -> Reply
+    requires { ⌜ Found (now s) 4 found ⌝ }
+    ensures { λ r. ⌜ after (answerOf r) (now (s .entry)) (now (out .exit)) ≡ effect (now (s .entry)) (machine.fetchText (now (out .entry))) ⌝ }
+{
+    let place = found.place;
+    let al = found.al;
+    if place == 0 {
+        return Reply::Refused(11, 0);
+    }
+    let c = Cursor {
+        at: place + 3,
+        packed: true,
+    };
+    let n = text::text_length(s, c, al);
+    if out.len() < n {
+        return Reply::Refused(13, 0);
+    }
+    text::read(s, c, al, out);
+    Reply::Count(n)
+}
+
+// Writes the ship text to the front of out.
+pub fn fetch_text(s: &[u8], out: &mut [u8]) -> Reply
+    ensures { λ r. ⌜ after (answerOf r) (now (s .entry)) (now (out .exit)) ≡ effect (now (s .entry)) (machine.fetchText (now (out .entry))) ⌝ }
+{
+    let i = report::inspect(s, 4);
+    match i {
+        Inspected::Refused(n, p) => Reply::Refused(n, p),
+        Inspected::Fine(found) => fetch_text_found(s, found, out),
+    }
+}
+
+// ---- the nibbles behind a place moved
+
+fn larger(a: usize, b: usize) -> usize
+    ensures { λ r. ⌜ r ≡ max a b ⌝ }
+{
+    if a < b {
+        return b;
+    }
+    a
+}
+
+// Makes room for new nibbles in place of old ones at a place of a report that ends at end, and clears what is left behind
+// its new end, to the larger of the two ends.
+fn resize(s: &mut [u8], at: usize, old: usize, new: usize, end: usize)
+    requires { ⌜ Resizable (length (now s)) at old new end ⌝ }
+    ensures { λ _. ⌜ (nibbles (now (s .exit)) ≡ resized (nibbles (now (s .entry))) at old new end) × (length (now (s .exit)) ≡ length (now (s .entry))) ⌝ }
+{
+    let rest = end - (at + old);
+    let last = at + new + rest;
+    let cleared = 2 * larger((end + 1) / 2, (last + 1) / 2);
+    shift::shift(s, at + old, at + new, rest);
+    shift::clear(s, last, cleared - last);
+}
+
+// ---- drop
+
+// Removes from a report that was inspected.
+fn remove_found(s: &mut [u8], id: usize, found: Report) -> Reply
+    requires { ⌜ Found (now s) id found ⌝ }
+    ensures { λ r. ⌜ after (answerOf r) (now (s .exit)) [] ≡ effect (now (s .entry)) (machine.remove id) ⌝ }
+{
+    let at = found.place;
+    let al = found.al;
+    let end = found.end;
+    let count = found.count;
+    if id < 1 {
+        return Reply::Refused(8, 0);
+    }
+    if 15 < id {
+        return Reply::Refused(8, 0);
+    }
+    if at == 0 {
+        return Reply::Refused(11, 0);
+    }
+    resize(s, at, 3 + al, 0, end);
+    card::set_count(s, count - 1);
+    Reply::Done
+}
+
+// Removes an attachment; the others keep their order.
+pub fn remove(s: &mut [u8], id: usize) -> Reply
+    ensures { λ r. ⌜ after (answerOf r) (now (s .exit)) [] ≡ effect (now (s .entry)) (machine.remove id) ⌝ }
+{
+    let i = report::inspect(s, id);
+    match i {
+        Inspected::Refused(n, p) => Reply::Refused(n, p),
+        Inspected::Fine(found) => remove_found(s, id, found),
+    }
+}
+
+// ---- put
+
+// Lays the header and the nibbles of an attachment.
+fn lay_attachment(s: &mut [u8], at: usize, id: usize, content: &[u8])
+    requires { ⌜ (at + (3 + length (now content)) ≤ 2 * length (now s)) × (at ≤ 65536) × FineAt (attachment id (now content)) ⌝ }
+    ensures { λ _. ⌜ (nibbles (now (s .exit)) ≡ paste (nibbles (now (s .entry))) at (attachmentNibbles (attachment id (now (content .entry)))) (3 + length (now (content .entry)))) × (length (now (s .exit)) ≡ length (now (s .entry))) ⌝ }
+{
+    let al = content.len();
+    shift::put(s, at, (al / 16) as u8);
+    shift::put(s, at + 1, (al % 16) as u8);
+    shift::put(s, at + 2, id as u8);
+    shift::lay(s, at + 3, content);
+}
+
+// Puts an attachment in place of old nibbles at a place of a report that ends at end; the report then has count attachments.
+fn replace(
+    s: &mut [u8],
+    at: usize,
+    old: usize,
+    end: usize,
+    count: usize,
+    id: usize,
+    content: &[u8],
+) -> Reply
+    requires { ⌜ PutEdit (now s) id (now content) at old end count ⌝ }
+    ensures { λ r. ⌜ after (answerOf r) (now (s .exit)) [] ≡ putting (now (s .entry)) id (now (content .entry)) ⌝ }
+{
+    let new = 3 + content.len();
+    if s.len() < (end - old + new + 1) / 2 {
+        return Reply::Refused(13, 0);
+    }
+    resize(s, at, old, new, end);
+    lay_attachment(s, at, id, content);
+    card::set_count(s, count);
+    Reply::Done
+}
+
+// Puts an attachment to a report that was inspected: in place of the one of its id, or at the end.
+fn put_nibbles(s: &mut [u8], id: usize, found: Report, content: &[u8]) -> Reply
+    requires { ⌜ Found (now s) id found × FineAt (attachment id (now content)) ⌝ }
+    ensures { λ r. ⌜ after (answerOf r) (now (s .exit)) [] ≡ putting (now (s .entry)) id (now (content .entry)) ⌝ }
+{
+    let place = found.place;
+    let al = found.al;
+    let end = found.end;
+    let count = found.count;
+    if place == 0 {
+        return replace(s, end, 0, end, count + 1, id, content);
+    }
+    replace(s, place, 3 + al, end, count, id, content)
+}
+
+// Whether each byte is a nibble.
+fn all_nibbles(ns: &[u8]) -> bool
+    ensures { λ r. ⌜ r ≡ allNibbles (now (ns .entry)) ⌝ }
+{
+    let mut i = 0;
+    while i < ns.len() {
+        if 15 < ns[i] {
+            return false;
+        }
+        i += 1;
+    }
+    true
+}
+
+// Whether these bytes may stand under an id.
+fn content_valid(id: usize, content: &[u8]) -> bool
+    requires { ⌜ length (now content) ≤ 255 ⌝ }
+    ensures { λ r. ⌜ r ≡ allNibbles (now (content .entry)) && bodyValid id (now (content .entry)) ⌝ }
+{
+    if all_nibbles(content) {
+        return tail::body_valid(
+            content,
+            Cursor {
+                at: 0,
+                packed: false,
+            },
+            id,
+            content.len(),
+        );
+    }
+    false
+}
+
+// Puts to a report that was inspected.
+fn put_found(s: &mut [u8], id: usize, found: Report, content: &[u8]) -> Reply
+    requires { ⌜ Found (now s) id found ⌝ }
+    ensures { λ r. ⌜ after (answerOf r) (now (s .exit)) [] ≡ effect (now (s .entry)) (machine.put id (now (content .entry))) ⌝ }
+{
+    if id < 1 {
+        return Reply::Refused(8, 0);
+    }
+    if 15 < id {
+        return Reply::Refused(8, 0);
+    }
+    if content.len() < 1 {
+        return Reply::Refused(12, 0);
+    }
+    if 255 < content.len() {
+        return Reply::Refused(12, 0);
+    }
+    if content_valid(id, content) {
+        return put_nibbles(s, id, found, content);
+    }
+    Reply::Refused(14, 0)
+}
+
+// Replaces the content of an id, or appends the attachment.
+pub fn put(s: &mut [u8], id: usize, content: &[u8]) -> Reply
+    ensures { λ r. ⌜ after (answerOf r) (now (s .exit)) [] ≡ effect (now (s .entry)) (machine.put id (now (content .entry))) ⌝ }
+{
+    let i = report::inspect(s, id);
+    match i {
+        Inspected::Refused(n, p) => Reply::Refused(n, p),
+        Inspected::Fine(found) => put_found(s, id, found, content),
+    }
+}
