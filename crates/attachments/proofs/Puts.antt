@@ -20,6 +20,8 @@ use Rattle.format.specs.Buffer.{layout, after, effect}
 use Rattle.format.specs.Reply.{refusal}
 use Rattle.card.specs.Answers.{Carded}
 use Rattle.format.specs.ShipText.{writeText}
+use Rattle.writer.specs.Answers.{writtenOf, Writes}
+use Rattle.writer.specs.declared.Written.{Written}
 use Rattle.laws.proofs.ShipText.{text-valid, text-all-nibbles}
 use Rattle.report.specs.declared.Report.{Report}
 use Rattle.laws.proofs.Lists.{test-case}
@@ -234,3 +236,56 @@ module _ {b : List ℕ} {j : ℕ} {r : Report} (bs : Bytes b) (f : Found b j r) 
         put-effect =
             putting-effect (put j ns) j ns refl refl refl refl
             (id-passes j _ low high (length-passes ns _ filled short (content-passes j ns valid)))
+
+-- ---- put text
+
+written-by : (t : Bool) (m n : ℕ) → Written.Fits n ≡ cond t (Written.Fits m) Written.TooLong → (t ≡ true) × (n ≡ m)
+written-by true m n e = (refl, (cc))
+written-by false m n e = let z : _≡_ {A = ℕ} 0 1 = cc in absurd (omega arith)
+
+long-by : (t : Bool) (m : ℕ) → Written.TooLong ≡ cond t (Written.Fits m) Written.TooLong → t ≡ false
+long-by true m e = let z : _≡_ {A = ℕ} 0 1 = cc in absurd (omega arith)
+long-by false m e = refl
+
+module _ {b : List ℕ} {r : Report} {t before ns : List ℕ} {w : Written} (bs : Bytes b) (f : Found b 4 r) (bt : Bytes t) (wrote : Writes t before ns w) where
+  pub text-long : w ≡ Written.TooLong → after (refusal 12 0) b [] ≡ effect b (putText t)
+  unfolding callChecks lent writtenOf
+  text-long e =
+      let h = leb-false (length (writeText t)) 255 (long-by _ _ (sym e ∙ wrote .answer)) in
+      refuses bs f (putText t) [] (lengthCheck (writeText t)) (contentCheck 4 (writeText t) ∷ []) refl first-nil (range-high 1 255 (length (writeText t)) h)
+
+  module _ {n : ℕ} (e : w ≡ Written.Fits n) where
+    fits : (length (writeText t) ≤ 255) × (n ≡ length (writeText t))
+    unfolding writtenOf
+    fits =
+        let q = written-by (leb (length (writeText t)) 255) (length (writeText t)) n (sym e ∙ wrote .answer) in
+        (leb-true (length (writeText t)) 255 (q .0), q .1)
+
+    pub text-empty : n < 1 → after (refusal 12 0) b [] ≡ effect b (putText t)
+    unfolding callChecks lent
+    text-empty h =
+        refuses bs f (putText t) [] (lengthCheck (writeText t)) (contentCheck 4 (writeText t) ∷ []) refl first-nil (range-low 1 255 (length (writeText t)) (omega (arith, fits .1)))
+
+    -- the text's nibbles stand at the front of what was written
+    is-text : take n ns ≡ writeText t
+    is-text = ap (take n) (wrote .nibbles (fits .0)) ∙ take-at (writeText t) (drop (length (writeText t)) before) n (sym (fits .1))
+
+    pub text-within : n ≤ length ns
+    text-within =
+        omega (arith, fits .1, ap length (wrote .nibbles (fits .0)), length-append (writeText t) (drop (length (writeText t)) before))
+
+    module _ (filled : 1 ≤ n) where
+      valid : allNibbles (writeText t) && bodyValid 4 (writeText t) ≡ true
+      unfolding bodyValid
+      valid = rw (text-all-nibbles t bt) (text-valid t bt)
+
+      pub text-fineAt : FineAt (attachment 4 (take n ns))
+      text-fineAt =
+          rw is-text (put-checked 4 (writeText t) refl (range-fine 1 255 (length (writeText t)) (omega (arith, fits .1)) (fits .0)) valid)
+
+      pub text-effect : putting b 4 (take n ns) ≡ effect b (putText t)
+      unfolding callChecks lent writes gives next
+      text-effect =
+          ap (putting b 4) is-text
+          ∙ putting-effect bs f (putText t) 4 (writeText t) refl refl refl refl
+          (length-passes (writeText t) _ (omega (arith, fits .1)) (fits .0) (content-passes 4 (writeText t) valid))

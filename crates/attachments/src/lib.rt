@@ -1,5 +1,5 @@
-// The calls on attachments of the report that a buffer begins with: put, fetch, drop, and fetch of the ship text. Each
-// judges the report first.
+// The calls on attachments of the report that a buffer begins with: put, fetch, drop, and the ship text. Each judges the
+// report first.
 ghost use mathlib.Core.Path.{_≡_};
 ghost use mathlib.Core.Bool.{_&&_};
 ghost use mathlib.Core.List.{[]};
@@ -19,6 +19,7 @@ use format::Reply;
 use nibble::Cursor;
 use report::Inspected;
 use report::Report;
+use writer::Written;
 
 // ---- fetch
 
@@ -265,5 +266,52 @@ pub fn put(s: &mut [u8], id: usize, content: &[u8]) -> Reply
     match i {
         Inspected::Refused(n, p) => Reply::Refused(n, p),
         Inspected::Fine(found) => put_found(s, id, found, content),
+    }
+}
+
+// ---- put text
+
+// Puts the first n of these nibbles as ship text.
+fn put_front(s: &mut [u8], found: Report, ns: &[u8], n: usize) -> Reply
+    requires { ⌜ Found (now s) 4 found × (n ≤ length (now ns)) × FineAt (attachment 4 (take n (now ns))) ⌝ }
+    ensures { λ r. ⌜ after (answerOf r) (now (s .exit)) [] ≡ putting (now (s .entry)) 4 (take n (now (ns .entry))) ⌝ }
+{
+    put_nibbles(s, 4, found, &ns[0..n])
+}
+
+// The same, of an array.
+fn put_written(s: &mut [u8], found: Report, ns: &[u8; 255], n: usize) -> Reply
+    requires { ⌜ Found (now s) 4 found × (n ≤ length (now ns)) × FineAt (attachment 4 (take n (now ns))) ⌝ }
+    ensures { λ r. ⌜ after (answerOf r) (now (s .exit)) [] ≡ putting (now (s .entry)) 4 (take n (now (ns .entry))) ⌝ }
+{
+    put_front(s, found, ns, n)
+}
+
+// Puts the ship text to a report that was inspected.
+fn put_text_found(s: &mut [u8], found: Report, text: &[u8]) -> Reply
+    requires { ⌜ Found (now s) 4 found ⌝ }
+    ensures { λ r. ⌜ after (answerOf r) (now (s .exit)) [] ≡ effect (now (s .entry)) (machine.putText (now (text .entry))) ⌝ }
+{
+    let mut ns = [0u8; 255];
+    let w = writer::write(text, &mut ns);
+    match w {
+        Written::TooLong => Reply::Refused(12, 0),
+        Written::Fits(n) => {
+            if n < 1 {
+                return Reply::Refused(12, 0);
+            }
+            put_written(s, found, &ns, n)
+        }
+    }
+}
+
+// Puts the ship text.
+pub fn put_text(s: &mut [u8], text: &[u8]) -> Reply
+    ensures { λ r. ⌜ after (answerOf r) (now (s .exit)) [] ≡ effect (now (s .entry)) (machine.putText (now (text .entry))) ⌝ }
+{
+    let i = report::inspect(s, 4);
+    match i {
+        Inspected::Refused(n, p) => Reply::Refused(n, p),
+        Inspected::Fine(found) => put_text_found(s, found, text),
     }
 }
