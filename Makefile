@@ -14,6 +14,7 @@ list:
 vectors:
 	@command -v cargo >/dev/null || { echo 'make vectors: cargo is not on the PATH' >&2; exit 1; }
 	cd reference && cargo run --release --quiet --bin gate-whole -- ../crates/vectors
+	cd reference && cargo run --release --quiet --bin gate-lists -- ../crates/lists
 
 # The tests of the unrelated implementation.
 reference-test:

@@ -1,0 +1,78 @@
+// Runs lists of calls in the driver's script form over vectors of the unrelated implementation.
+ghost use Prim.Native.Nat.{_≤_, _<_};
+use vector_io::Kind;
+
+// A byte of the input; 0 at its end.
+fn byte() -> usize
+    ensures { λ r. ⌜ r < 256 ⌝ }
+{
+    let k = vector_io::next();
+    let Kind::Byte(b) = k else {
+        return 0;
+    };
+    b as usize
+}
+
+fn least(n: usize, most: usize) -> usize
+    ensures { λ r. ⌜ r ≤ most ⌝ }
+{
+    if n <= most { n } else { most }
+}
+
+// A length of four bytes, at most most.
+fn get_long(most: usize) -> usize
+    ensures { λ r. ⌜ r ≤ most ⌝ }
+{
+    least(vector_io::get4() as usize, most)
+}
+
+fn put_front(log: &[u8], n: usize) {
+    if n <= log.len() {
+        vector_io::put_bytes(&log[..n]);
+    }
+}
+
+fn replay_in(b: &mut [u8], script: &[u8], log: &mut [u8]) {
+    let r = list::replay(b, script, log);
+    vector_io::put4(r.calls as u64);
+    vector_io::put4(r.taken as u64);
+    vector_io::put4(r.written as u64);
+    vector_io::put_bytes(b);
+    put_front(log, r.written);
+}
+
+fn with_script(b: &mut [u8], script: &mut [u8]) {
+    vector_io::get_bytes(script);
+    let mut log = [0u8; 60000];
+    let n = get_long(60000);
+    replay_in(b, script, &mut log[..n]);
+}
+
+fn with_buffer(b: &mut [u8]) {
+    vector_io::get_bytes(b);
+    let mut script = [0u8; 60000];
+    let n = get_long(60000);
+    with_script(b, &mut script[..n]);
+}
+
+// One list; false at the end of the input.
+fn one() -> bool {
+    let k = vector_io::next();
+    let Kind::Byte(high) = k else {
+        return false;
+    };
+    let n = least(high as usize * 256 + byte(), 2000);
+    let mut b = [0u8; 2000];
+    with_buffer(&mut b[..n]);
+    true
+}
+
+fn main() {
+    let mut left: usize = 100000;
+    while 0 < left {
+        if !one() {
+            return;
+        }
+        left -= 1;
+    }
+}
