@@ -1,13 +1,13 @@
 use Prim.Native.Nat.{ℕ, _-_}
 use mathlib.Core.Path.{_≡_, _∙_}
 use lib.ListN.{length}
-use Rattle.list.proofs.Driver.{Copied, copied-start, copied-more, copied-end}
+use Rattle.script.proofs.Numbers.{Copied, copied-start, copied-more, copied-end}
 use borrow.Author.Needs.{needs}
 use native.Mathlib.Omega.{arith}
-use Rattle.list.proofs.copy.Statement.{statement}
-use Rattle.list.proofs.copy.Tie as tie
-use Rattle.list.proofs.copy.Reads as reads
-use Rattle.list.proofs.copy.Lts as lts
+use Rattle.script.proofs.copy.Statement.{statement}
+use Rattle.script.proofs.copy.Tie as tie
+use Rattle.script.proofs.copy.Reads as reads
+use Rattle.script.proofs.copy.Lts as lts
 
 abbrev Inv-loop : tie.InvT-loop
 Inv-loop from to₀ i₀ to i = Copied from to i × (length from ≡ length to₀)

@@ -18,50 +18,15 @@ use Rattle.format.specs.Order.{Refusal, first}
 use Rattle.format.specs.Sheet.{Sheet, size}
 use Rattle.format.specs.Report.{Verdict, judge}
 use Rattle.format.specs.Machine.{Call, readField, setField, clearField, readFlag, setFlag, clearFlag, put, fetch, remove, putText, fetchText, next, lent, writes, roomCheck, callChecks, checks, Answer, refused, accepted, steppedBy, step, over}
-use Rattle.format.specs.Buffer.{after, Shown, shown, Ran, effectOn, effect, calls}
+use Rattle.format.specs.Buffer.{after, Shown, shown, Ran, effectOn, effect, calls, claim}
 use Rattle.format.specs.Reply.{refusal}
 use Rattle.laws.proofs.Lists.{or-false}
 use Rattle.laws.proofs.Order.{first-none, first-append-none}
 use Rattle.laws.proofs.Bits.{Bytes, append-below}
 use Rattle.laws.proofs.List.{whole-list}
-use Rattle.list.specs.Script.{numberFrom, numberOf, bytesOf, bytes8, Entry, entry, numberAt, bytesAt, kinds, within, entryAt, recordSize, logSize, nextIn, listOf, entryOf, scriptOf, Lent, Fits, AllFit, headOf, recordOf, records, Replayed, logged, replayed, idle, performed, turn}
+use Rattle.script.specs.Script.{bytesOf, bytes8, Entry, entry, numberAt, bytesAt, kinds, within, entryAt, recordSize, logSize, nextIn, listOf, entryOf, scriptOf, Lent, Fits, AllFit, headOf, recordOf, records, Replayed, logged, replayed, Performs, idle, performed, turn}
 use Rattle.words.specs.Words.{signed, unsigned}
-
--- ---- numbers
-
-length-bytesOf : (w n : ℕ) → length (bytesOf w n) ≡ w
-unfolding bytesOf
-length-bytesOf zero n = refl
-length-bytesOf (suc w) n = ap suc (length-bytesOf w n)
-
-pub length-bytes8 : (n : ℕ) → length (bytes8 n) ≡ 8
-unfolding bytes8
-length-bytes8 n = length-bytesOf 8 n
-
--- the w low bytes of n behind those of a
-number-bytes : (w a n : ℕ) → numberFrom a (bytesOf w n) ≡ a * 2 ^ (8 * w) + n % 2 ^ (8 * w)
-unfolding numberFrom bytesOf
-number-bytes zero a n = omega arith
-number-bytes (suc w) a n =
-    let e : 8 * suc w ≡ 8 + 8 * w = omega arith in
-    rw (e, mod-pow-add n 8 (8 * w), pow-add 2 8 (8 * w), number-bytes w (a * 256 + n / 2 ^ (8 * w) % 256) n, add-mul, mul-assoc)
-    (omega arith)
-
-pub number-bytes8 : (n : ℕ) → n < 2 ^ 64 → numberOf (bytes8 n) ≡ n
-unfolding numberOf bytes8
-number-bytes8 n h = number-bytes 8 0 n ∙ omega arith
-
-pub signed-unsigned : (z : ℤ) → mag z < 2 ^ 63 → signed (unsigned z) ≡ z
-unfolding signed unsigned
-signed-unsigned (pos n) h = rw (lt-ltb n (2 ^ 63) h)
-signed-unsigned (negsuc n) h =
-    let e : 2 ^ 64 - suc (2 ^ 64 - suc n) ≡ n = omega arith in
-    rw (le-ltb (2 ^ 64 - suc n) (2 ^ 63) (omega arith)) (ap negsuc e)
-
-unsigned-lt : (z : ℤ) → mag z < 2 ^ 63 → unsigned z < 2 ^ 64
-unfolding unsigned
-unsigned-lt (pos n) h = omega arith
-unsigned-lt (negsuc n) h = omega arith
+use Rattle.script.proofs.Numbers.{length-bytes8, number-bytes8, signed-unsigned, unsigned-lt}
 
 -- ---- reading what was written
 
@@ -464,6 +429,14 @@ unfolding finish replayed
 replay-claim b script log h =
     let cs = listOf (length script) (length log) script in
     ap (λ (r : Ran). logged cs r log) (whole-list b cs h)
+
+-- and it is claimed of every list that has this script
+pub performs : (r : Replayed) (b script log : List ℕ) → r ≡ replayed b script log → Performs r b script log
+unfolding replayed
+performs r b script log h = record { of-script = h; of-list = λ cs f e g. h ∙ of cs f e g }
+  where
+    of : (cs : List Call) → AllFit cs → scriptOf cs ≡ script → logSize cs ≤ length log → replayed b script log ≡ logged cs (claim b cs) log
+    of cs f e g = rw (← e, script-alone cs (length log) f g)
 
 -- a part of the log that stands already, and what comes behind it
 abbrev pub behind : List ℕ → ℕ → ℕ → Replayed → Replayed

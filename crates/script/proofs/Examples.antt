@@ -10,7 +10,7 @@ use Rattle.format.specs.Machine.{Call, readField, setField, clearField, readFla
 use Rattle.format.specs.Buffer.{shown}
 use Rattle.format.specs.Reply.{refusal}
 use Rattle.format.proofs.Test.{Example, same, every}
-use Rattle.list.specs.Script.{numberFrom, numberOf, bytesOf, bytes8, kinds, within, entryAt, recordSize, nextIn, listOf, entryOf, scriptOf, headOf, recordOf, records}
+use Rattle.script.specs.Script.{numberFrom, numberOf, bytesOf, bytes8, kinds, within, entryAt, recordSize, nextIn, listOf, entryOf, scriptOf, headOf, recordOf, records}
 use Rattle.words.specs.Words.{signed, unsigned}
 
 calls : List Call

@@ -1,5 +1,6 @@
 -- A script: a list of calls written as bytes, and the log of their answers. The claim of demand 3 about a script.
-use Prim.Native.Nat.{ℕ, zero, suc, _+_, _-_, _*_, _/_, _%_, _^_, _<_}
+use Prim.Native.Nat.{ℕ, zero, suc, _+_, _-_, _*_, _/_, _%_, _^_, _≤_, _<_}
+use mathlib.Core.Path.{_≡_}
 use mathlib.Core.Bool.{cond}
 use mathlib.Core.List.{List, [], _∷_, _++_}
 use mathlib.Core.Option.{Option, none, some}
@@ -181,6 +182,12 @@ unfoldable pub replayed : List ℕ → List ℕ → List ℕ → Replayed
 replayed b script log =
     let cs = listOf (length script) (length log) script in
     logged cs (claim b cs) log
+
+-- demand 3 of a script that was performed: r is what is claimed of the script's list; and "every list of these calls", whose
+-- arguments the code's types hold and whose records fit the log, is the list of its own script
+pub record Performs (r : Replayed) (b script log : List ℕ) : Type 0 where
+  pub of-script : r ≡ replayed b script log
+  pub of-list : (cs : List Call) → AllFit cs → scriptOf cs ≡ script → logSize cs ≤ length log → r ≡ logged cs (claim b cs) log
 
 -- ---- one call
 
