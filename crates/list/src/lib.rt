@@ -1,11 +1,11 @@
 // The driver: a script of calls performed on one buffer, and the record of their answers.
 ghost use mathlib.Core.Path.{_≡_};
 ghost use Prim.Native.Nat.{_≤_};
-ghost use lib.ListN.{length, getD};
+ghost use lib.ListN.{length};
 ghost use Rattle.format.specs.Machine.{over};
 ghost use Rattle.format.specs.Reply.{answerOf};
 ghost use Rattle.script.specs.Script.{headOf, turn, Performs};
-ghost use Rattle.list.specs.Counts.{leaves, nothing, one};
+ghost use Rattle.list.specs.Counts.{leaves, nothing, one, Begun};
 use format::Reply;
 use format::Scaled;
 
@@ -42,37 +42,35 @@ fn answered(r: Reply, taken: usize, written: usize, log: &mut [u8]) -> Performed
 // ---- an entry of each longer kind
 
 // Sets a field.
-fn set_field(b: &mut [u8], s: &[u8], log: &mut [u8]) -> Performed
-    requires { ⌜ (getD (now s) 0 0 ≡ 2) × (9 ≤ length (now s)) × (10 ≤ length (now log)) ⌝ }
+fn set_field(b: &mut [u8], k: usize, s: &[u8], log: &mut [u8]) -> Performed
+    requires { ⌜ Begun 2 k (now s) (now log) ⌝ }
     ensures { λ r. ⌜ leaves (now (b .exit)) (now (log .exit)) r ≡ turn (now (b .entry)) (now (s .entry)) (now (log .entry)) ⌝ }
 {
     if s.len() < 17 {
         return idle();
     }
-    let k = script::number_at(s, 1);
     let n = script::number_at(s, 9);
     let v = words::signed_of(n);
-    let r = fields::set_field(b, k as usize, Scaled(v));
+    let r = fields::set_field(b, k, Scaled(v));
     answered(r, 17, 10, log)
 }
 
 // Sets a flag.
-fn set_flag(b: &mut [u8], s: &[u8], log: &mut [u8]) -> Performed
-    requires { ⌜ (getD (now s) 0 0 ≡ 5) × (9 ≤ length (now s)) × (10 ≤ length (now log)) ⌝ }
+fn set_flag(b: &mut [u8], k: usize, s: &[u8], log: &mut [u8]) -> Performed
+    requires { ⌜ Begun 5 k (now s) (now log) ⌝ }
     ensures { λ r. ⌜ leaves (now (b .exit)) (now (log .exit)) r ≡ turn (now (b .entry)) (now (s .entry)) (now (log .entry)) ⌝ }
 {
     if s.len() < 17 {
         return idle();
     }
-    let k = script::number_at(s, 1);
-    let n = script::number_at(s, 9);
-    let r = fields::set_flag(b, k as usize, n as usize);
+    let v = script::number_at(s, 9) as usize;
+    let r = fields::set_flag(b, k, v);
     answered(r, 17, 10, log)
 }
 
 // Puts an attachment.
-fn put(b: &mut [u8], s: &[u8], log: &mut [u8]) -> Performed
-    requires { ⌜ (getD (now s) 0 0 ≡ 7) × (9 ≤ length (now s)) × (10 ≤ length (now log)) ⌝ }
+fn put(b: &mut [u8], k: usize, s: &[u8], log: &mut [u8]) -> Performed
+    requires { ⌜ Begun 7 k (now s) (now log) ⌝ }
     ensures { λ r. ⌜ leaves (now (b .exit)) (now (log .exit)) r ≡ turn (now (b .entry)) (now (s .entry)) (now (log .entry)) ⌝ }
 {
     if s.len() < 17 {
@@ -83,17 +81,15 @@ fn put(b: &mut [u8], s: &[u8], log: &mut [u8]) -> Performed
         return idle();
     }
     let e = 17 + n;
-    let k = script::number_at(s, 1);
-    let r = attachments::put(b, k as usize, &s[17..e]);
+    let r = attachments::put(b, k, &s[17..e]);
     answered(r, e, 10, log)
 }
 
 // Puts a ship text.
-fn put_text(b: &mut [u8], s: &[u8], log: &mut [u8]) -> Performed
-    requires { ⌜ (getD (now s) 0 0 ≡ 10) × (9 ≤ length (now s)) × (10 ≤ length (now log)) ⌝ }
+fn put_text(b: &mut [u8], n: usize, s: &[u8], log: &mut [u8]) -> Performed
+    requires { ⌜ Begun 10 n (now s) (now log) ⌝ }
     ensures { λ r. ⌜ leaves (now (b .exit)) (now (log .exit)) r ≡ turn (now (b .entry)) (now (s .entry)) (now (log .entry)) ⌝ }
 {
-    let n = script::number_at(s, 1) as usize;
     if s.len() - 9 < n {
         return idle();
     }
@@ -103,8 +99,8 @@ fn put_text(b: &mut [u8], s: &[u8], log: &mut [u8]) -> Performed
 }
 
 // Fetches an attachment, over the bytes that are lent.
-fn fetch(b: &[u8], s: &[u8], log: &mut [u8]) -> Performed
-    requires { ⌜ (getD (now s) 0 0 ≡ 8) × (9 ≤ length (now s)) × (10 ≤ length (now log)) ⌝ }
+fn fetch(b: &[u8], k: usize, s: &[u8], log: &mut [u8]) -> Performed
+    requires { ⌜ Begun 8 k (now s) (now log) ⌝ }
     ensures { λ r. ⌜ leaves (now (b .entry)) (now (log .exit)) r ≡ turn (now (b .entry)) (now (s .entry)) (now (log .entry)) ⌝ }
 {
     if s.len() < 17 {
@@ -119,18 +115,16 @@ fn fetch(b: &[u8], s: &[u8], log: &mut [u8]) -> Performed
     }
     let e = 17 + n;
     let to = 10 + n;
-    let k = script::number_at(s, 1);
     script::copy(&s[17..e], &mut log[10..to]);
-    let r = attachments::fetch(b, k as usize, &mut log[10..to]);
+    let r = attachments::fetch(b, k, &mut log[10..to]);
     answered(r, e, to, log)
 }
 
 // Fetches the ship text, over the bytes that are lent.
-fn fetch_text(b: &[u8], s: &[u8], log: &mut [u8]) -> Performed
-    requires { ⌜ (getD (now s) 0 0 ≡ 11) × (9 ≤ length (now s)) × (10 ≤ length (now log)) ⌝ }
+fn fetch_text(b: &[u8], n: usize, s: &[u8], log: &mut [u8]) -> Performed
+    requires { ⌜ Begun 11 n (now s) (now log) ⌝ }
     ensures { λ r. ⌜ leaves (now (b .entry)) (now (log .exit)) r ≡ turn (now (b .entry)) (now (s .entry)) (now (log .entry)) ⌝ }
 {
-    let n = script::number_at(s, 1) as usize;
     if s.len() - 9 < n {
         return idle();
     }
@@ -160,16 +154,16 @@ fn perform(b: &mut [u8], s: &[u8], log: &mut [u8]) -> Performed
     let kind = s[0];
     match kind {
         1 => answered(fields::read_field(b, k), 9, 10, log),
-        2 => set_field(b, s, log),
+        2 => set_field(b, k, s, log),
         3 => answered(fields::clear_field(b, k), 9, 10, log),
         4 => answered(fields::read_flag(b, k), 9, 10, log),
-        5 => set_flag(b, s, log),
+        5 => set_flag(b, k, s, log),
         6 => answered(fields::clear_flag(b, k), 9, 10, log),
-        7 => put(b, s, log),
-        8 => fetch(b, s, log),
+        7 => put(b, k, s, log),
+        8 => fetch(b, k, s, log),
         9 => answered(attachments::remove(b, k), 9, 10, log),
-        10 => put_text(b, s, log),
-        11 => fetch_text(b, s, log),
+        10 => put_text(b, k, s, log),
+        11 => fetch_text(b, k, s, log),
         _ => idle(),
     }
 }

@@ -1,7 +1,7 @@
 -- Laws of scripts: every list of calls has one, and how the driver goes through one.
 -- Assumes nothing.
-use Prim.Native.Nat.{ℕ, zero, suc, _+_, _-_, _*_, _/_, _%_, _^_, _≤_, _<_}
-use native.Mathlib.Nat.{add-mul, add-assoc, add-zero, mul-assoc, zero-add}
+use Prim.Native.Nat.{ℕ, zero, suc, _+_, _-_, _^_, _≤_, _<_}
+use native.Mathlib.Nat.{add-assoc, add-zero, zero-add}
 use native.Mathlib.Omega.{arith}
 use mathlib.Core.Path.{_≡_, refl, sym, ap, ap₂, subst, _∙_}
 use mathlib.Core.Bool.{Bool, true, false, cond}
@@ -10,10 +10,9 @@ use mathlib.Core.Option.{Option, none, some}
 use lib.ListN.{length, getD, take, drop, length-append, length-drop, List·getD-eq-default}
 use lib.Seq.{drop-drop, drop-at, take-at, take-append-seam, drop-append-seam, take-append-add, drop-append-add, length-take-le}
 use lib.Dec.{ltb, leb, eqb}
-use lib.Pow.{pow-add, mod-pow-add}
-use lib.IntN.{ℤ, pos, negsuc}
+use lib.IntN.{ℤ}
 use lib.Signed.{mag}
-use borrow.Author.Tests.{ltb-false, le-leb, lt-leb, lt-ltb, le-ltb, leb-true}
+use borrow.Author.Tests.{ltb-false, le-leb, lt-leb, leb-true}
 use Rattle.format.specs.Order.{Refusal, first}
 use Rattle.format.specs.Sheet.{Sheet, size}
 use Rattle.format.specs.Report.{Verdict, judge}

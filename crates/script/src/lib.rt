@@ -1,8 +1,8 @@
 // Bytes of a script and of its log: numbers read and written, answers written, outputs copied.
 ghost use mathlib.Core.Path.{_≡_};
 ghost use Prim.Native.Nat.{_+_, _≤_, _<_};
-ghost use mathlib.Core.List.{_∷_, _++_};
-ghost use lib.ListN.{length, drop};
+ghost use mathlib.Core.List.{_∷_};
+ghost use lib.ListN.{length};
 ghost use Rattle.format.specs.Machine.{over};
 ghost use Rattle.format.specs.Reply.{answerOf};
 ghost use Rattle.script.specs.Script.{numberAt, bytes8, headOf};

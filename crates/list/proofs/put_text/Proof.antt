@@ -1,7 +1,7 @@
 use Prim.Native.Nat.{ℕ, _+_}
 use native.Mathlib.Omega.{arith}
 use Rattle.script.proofs.Driver.{turn-cut, turn-plain, part-counted}
-use mathlib.Core.Path.{refl, ap, ap₂, _∙_}
+use mathlib.Core.Path.{refl, ap, _∙_}
 use Rattle.format.specs.Machine as machine
 use Rattle.format.specs.Machine.{lent}
 use Rattle.script.specs.Script.{kinds}
@@ -9,72 +9,61 @@ use Rattle.list.specs.Counts.{leaves}
 use borrow.Author.Needs.{needs}
 use Rattle.list.proofs.put_text.Statement.{statement}
 use Rattle.list.proofs.put_text.Tie as tie
-use Rattle.list.proofs.put_text.Reads as reads
-use Rattle.list.proofs.put_text.Lts as lts
-use Rattle.attachments.proofs.put_text.Reads as put-text-reads
-use Rattle.list.proofs.answered.Reads as answered-reads
-use Rattle.list.proofs.idle.Reads as idle-reads
-use Rattle.script.proofs.number_at.Reads as number-at-reads
 
--- src/lib.rt:96:13
-number-at-requires : tie.Need-number-at-requires
-number-at-requires c κs = search needs
-
--- src/lib.rt:97:8
+-- src/lib.rt:93:8
 sub-if1 : tie.Need-sub-if1
 sub-if1 c = search needs
 
--- src/lib.rt:98:9
+-- src/lib.rt:94:9
 idle-requires : tie.Need-idle-requires
 idle-requires c κs = search needs
 
--- src/lib.rt:98:9
+-- src/lib.rt:94:9
 returns : tie.Need-returns
 unfolding kinds
-returns c = ap (leaves _ _) (c .idle .ensures) ∙ turn-cut _ (c .before .before .before .before .before .before .args .s .now) _ 10 _ (c .before .before .before .before .before .before .pre .0) refl (omega (arith, c .before .if1 .taken, c .before .before .number-at .ensures, c .before .before .before .before .before .before .pre .1))
+returns c = ap (leaves _ _) (c .idle .ensures) ∙ turn-cut _ (c .before .before .before .before .before .args .s .now) _ 10 _ (c .before .before .before .before .before .pre .of-kind) refl (omega (arith, c .before .if1 .taken, c .before .before .before .before .before .pre .number, c .before .before .before .before .before .pre .nine))
 
--- src/lib.rt:100:13
+-- src/lib.rt:96:13
 add-e : tie.Need-add-e
 add-e c = search needs
 
--- src/lib.rt:101:38
+-- src/lib.rt:97:38
 sub-put-text : tie.Need-sub-put-text
 sub-put-text c = search needs
 
--- src/lib.rt:101:38
+-- src/lib.rt:97:38
 part-put-text-start : tie.Need-part-put-text-start
 part-put-text-start c = search needs
 
--- src/lib.rt:101:38
+-- src/lib.rt:97:38
 part-put-text-end : tie.Need-part-put-text-end
 part-put-text-end c = search needs
 
--- src/lib.rt:101:9
+-- src/lib.rt:97:9
 put-text-requires : tie.Need-put-text-requires
 put-text-requires c κs = search needs
 
--- src/lib.rt:102:5
+-- src/lib.rt:98:5
 answered-requires : tie.Need-answered-requires
 answered-requires c κs = search needs
 
--- src/lib.rt:92:1
+-- src/lib.rt:89:1
 same-length : tie.Need-same-length
 same-length c = search needs
 
--- src/lib.rt:92:1
+-- src/lib.rt:89:1
 same-length-2 : tie.Need-same-length-2
 same-length-2 c = search needs
 
--- src/lib.rt:92:1
+-- src/lib.rt:89:1
 returns-2 : tie.Need-returns-2
 unfolding kinds lent
-returns-2 c = ap (leaves _ _) (c .before .before .answered .ensures .1) ∙ turn-plain _ (c .before .before .before .before .before .before .before .before .before .before .before .before .before .before .args .s .now) _ 10 _ _ _ _ _ _ _ (c .before .before .before .before .before .before .before .before .before .before .before .before .before .before .pre .0) refl refl (c .before .before .before .before .before .before .put-text .ensures) (c .before .before .answered .ensures .0) (ap machine.putText (part-counted (c .before .before .before .before .before .before .before .before .before .before .before .before .before .before .args .s .now) 1 _ (c .before .before .before .before .before .before .before .before .before .before .number-at .ensures))) (ap (λ (n : ℕ). 9 + n) (c .before .before .before .before .before .before .before .before .before .before .number-at .ensures)) (omega (arith, c .before .before .before .before .before .before .before .before .before .if1 .left, c .before .before .before .before .before .before .before .before .before .before .number-at .ensures, c .before .before .before .before .before .before .before .before .before .before .before .before .before .before .pre .1)) (c .before .before .before .before .before .before .before .before .before .before .before .before .before .before .pre .2)
+returns-2 c = ap (leaves _ _) (c .before .before .answered .ensures .1) ∙ turn-plain _ (c .before .before .before .before .before .before .before .before .before .before .before .before .before .args .s .now) _ 10 _ _ _ _ _ _ _ (c .before .before .before .before .before .before .before .before .before .before .before .before .before .pre .of-kind) refl refl (c .before .before .before .before .before .before .put-text .ensures) (c .before .before .answered .ensures .0) (ap machine.putText (part-counted (c .before .before .before .before .before .before .before .before .before .before .before .before .before .args .s .now) 1 _ (c .before .before .before .before .before .before .before .before .before .before .before .before .before .pre .number))) (ap (λ (n : ℕ). 9 + n) (c .before .before .before .before .before .before .before .before .before .before .before .before .before .pre .number)) (omega (arith, c .before .before .before .before .before .before .before .before .before .if1 .left, c .before .before .before .before .before .before .before .before .before .before .before .before .before .pre .number, c .before .before .before .before .before .before .before .before .before .before .before .before .before .pre .nine)) (c .before .before .before .before .before .before .before .before .before .before .before .before .before .pre .room)
 
 pub put-text-spec : {M : Type 1} → statement M
 put-text-spec =
     tie.close
     (tie.spec
-    number-at-requires
     sub-if1
     idle-requires
     returns

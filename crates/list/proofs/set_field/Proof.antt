@@ -12,13 +12,6 @@ use Rattle.list.specs.Counts.{leaves}
 use borrow.Author.Needs.{needs}
 use Rattle.list.proofs.set_field.Statement.{statement}
 use Rattle.list.proofs.set_field.Tie as tie
-use Rattle.list.proofs.set_field.Reads as reads
-use Rattle.list.proofs.set_field.Lts as lts
-use Rattle.fields.proofs.set_field.Reads as set-field-reads
-use Rattle.list.proofs.answered.Reads as answered-reads
-use Rattle.list.proofs.idle.Reads as idle-reads
-use Rattle.script.proofs.number_at.Reads as number-at-reads
-use Rattle.words.proofs.signed_of.Reads as signed-of-reads
 
 -- src/lib.rt:50:9
 idle-requires : tie.Need-idle-requires
@@ -27,25 +20,21 @@ idle-requires c κs = search needs
 -- src/lib.rt:50:9
 returns : tie.Need-returns
 unfolding kinds
-returns c = ap (leaves _ _) (c .idle .ensures) ∙ turn-cut _ (c .before .before .before .before .before .args .s .now) _ 2 _ (c .before .before .before .before .before .pre .0) refl (c .before .if1 .taken)
+returns c = ap (leaves _ _) (c .idle .ensures) ∙ turn-cut _ (c .before .before .before .before .before .args .s .now) _ 2 _ (c .before .before .before .before .before .pre .of-kind) refl (c .before .if1 .taken)
 
 -- src/lib.rt:52:9
 number-at-requires : tie.Need-number-at-requires
 number-at-requires c κs = search needs
 
 -- src/lib.rt:53:9
-number-at-requires-2 : tie.Need-number-at-requires-2
-number-at-requires-2 c κs = search needs
-
--- src/lib.rt:54:9
 signed-of-requires : tie.Need-signed-of-requires
 signed-of-requires c κs = search needs
 
--- src/lib.rt:55:9
+-- src/lib.rt:54:9
 set-field-requires : tie.Need-set-field-requires
 set-field-requires c κs = search needs
 
--- src/lib.rt:56:5
+-- src/lib.rt:55:5
 answered-requires : tie.Need-answered-requires
 answered-requires c κs = search needs
 
@@ -60,7 +49,7 @@ same-length-2 c = search needs
 -- src/lib.rt:45:1
 returns-2 : tie.Need-returns-2
 unfolding kinds lent
-returns-2 c = ap (leaves _ _) (c .before .before .answered .ensures .1) ∙ turn-plain _ (c .before .before .before .before .before .before .before .before .before .before .before .before .before .before .before .args .s .now) _ 2 _ _ _ _ _ _ _ (c .before .before .before .before .before .before .before .before .before .before .before .before .before .before .before .pre .0) refl refl (c .before .before .before .before .before .before .set-field .ensures) (c .before .before .answered .ensures .0) (ap₂ (λ (x : ℕ) (z : ℤ). machine.setField x (record { 0 = z })) (c .before .before .before .before .before .before .before .before .before .before .number-at .ensures) (toZ-ofZ w64 (c .before .before .before .before .before .before .before .before .signed-of .result) (search needs) ∙ c .before .before .before .before .before .before .before .before .signed-of .ensures ∙ ap signed (c .before .before .before .before .before .before .before .before .before .number-at2 .ensures))) (refl) (c .before .before .before .before .before .before .before .before .before .before .before .if1 .left) (c .before .before .before .before .before .before .before .before .before .before .before .before .before .before .before .pre .2)
+returns-2 c = ap (leaves _ _) (c .before .before .answered .ensures .1) ∙ turn-plain _ (c .before .before .before .before .before .before .before .before .before .before .before .before .before .before .args .s .now) _ 2 _ _ _ _ _ _ _ (c .before .before .before .before .before .before .before .before .before .before .before .before .before .before .pre .of-kind) refl refl (c .before .before .before .before .before .before .set-field .ensures) (c .before .before .answered .ensures .0) (ap₂ (λ (x : ℕ) (z : ℤ). machine.setField x (record { 0 = z })) (c .before .before .before .before .before .before .before .before .before .before .before .before .before .before .pre .number) (toZ-ofZ w64 (c .before .before .before .before .before .before .before .before .signed-of .result) (search needs) ∙ c .before .before .before .before .before .before .before .before .signed-of .ensures ∙ ap signed (c .before .before .before .before .before .before .before .before .before .number-at .ensures))) (refl) (c .before .before .before .before .before .before .before .before .before .before .if1 .left) (c .before .before .before .before .before .before .before .before .before .before .before .before .before .before .pre .room)
 
 pub set-field-spec : {M : Type 1} → statement M
 set-field-spec =
@@ -69,7 +58,6 @@ set-field-spec =
     idle-requires
     returns
     number-at-requires
-    number-at-requires-2
     signed-of-requires
     set-field-requires
     answered-requires

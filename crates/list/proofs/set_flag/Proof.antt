@@ -7,50 +7,40 @@ use Rattle.list.specs.Counts.{leaves}
 use borrow.Author.Needs.{needs}
 use Rattle.list.proofs.set_flag.Statement.{statement}
 use Rattle.list.proofs.set_flag.Tie as tie
-use Rattle.list.proofs.set_flag.Reads as reads
-use Rattle.list.proofs.set_flag.Lts as lts
-use Rattle.fields.proofs.set_flag.Reads as set-flag-reads
-use Rattle.list.proofs.answered.Reads as answered-reads
-use Rattle.list.proofs.idle.Reads as idle-reads
-use Rattle.script.proofs.number_at.Reads as number-at-reads
 
--- src/lib.rt:65:9
+-- src/lib.rt:64:9
 idle-requires : tie.Need-idle-requires
 idle-requires c κs = search needs
 
--- src/lib.rt:65:9
+-- src/lib.rt:64:9
 returns : tie.Need-returns
 unfolding kinds
-returns c = ap (leaves _ _) (c .idle .ensures) ∙ turn-cut _ (c .before .before .before .before .before .args .s .now) _ 5 _ (c .before .before .before .before .before .pre .0) refl (c .before .if1 .taken)
+returns c = ap (leaves _ _) (c .idle .ensures) ∙ turn-cut _ (c .before .before .before .before .before .args .s .now) _ 5 _ (c .before .before .before .before .before .pre .of-kind) refl (c .before .if1 .taken)
 
--- src/lib.rt:67:9
+-- src/lib.rt:66:13
 number-at-requires : tie.Need-number-at-requires
 number-at-requires c κs = search needs
 
--- src/lib.rt:68:9
-number-at-requires-2 : tie.Need-number-at-requires-2
-number-at-requires-2 c κs = search needs
-
--- src/lib.rt:69:9
+-- src/lib.rt:67:9
 set-flag-requires : tie.Need-set-flag-requires
 set-flag-requires c κs = search needs
 
--- src/lib.rt:70:5
+-- src/lib.rt:68:5
 answered-requires : tie.Need-answered-requires
 answered-requires c κs = search needs
 
--- src/lib.rt:60:1
+-- src/lib.rt:59:1
 same-length : tie.Need-same-length
 same-length c = search needs
 
--- src/lib.rt:60:1
+-- src/lib.rt:59:1
 same-length-2 : tie.Need-same-length-2
 same-length-2 c = search needs
 
--- src/lib.rt:60:1
+-- src/lib.rt:59:1
 returns-2 : tie.Need-returns-2
 unfolding kinds lent
-returns-2 c = ap (leaves _ _) (c .before .before .answered .ensures .1) ∙ turn-plain _ (c .before .before .before .before .before .before .before .before .before .before .before .before .before .before .args .s .now) _ 5 _ _ _ _ _ _ _ (c .before .before .before .before .before .before .before .before .before .before .before .before .before .before .pre .0) refl refl (c .before .before .before .before .before .before .set-flag .ensures) (c .before .before .answered .ensures .0) (ap₂ machine.setFlag (c .before .before .before .before .before .before .before .before .before .number-at .ensures) (c .before .before .before .before .before .before .before .before .number-at2 .ensures)) (refl) (c .before .before .before .before .before .before .before .before .before .before .if1 .left) (c .before .before .before .before .before .before .before .before .before .before .before .before .before .before .pre .2)
+returns-2 c = ap (leaves _ _) (c .before .before .answered .ensures .1) ∙ turn-plain _ (c .before .before .before .before .before .before .before .before .before .before .before .before .before .args .s .now) _ 5 _ _ _ _ _ _ _ (c .before .before .before .before .before .before .before .before .before .before .before .before .before .pre .of-kind) refl refl (c .before .before .before .before .before .before .set-flag .ensures) (c .before .before .answered .ensures .0) (ap₂ machine.setFlag (c .before .before .before .before .before .before .before .before .before .before .before .before .before .pre .number) (c .before .before .before .before .before .before .before .before .number-at .ensures)) (refl) (c .before .before .before .before .before .before .before .before .before .if1 .left) (c .before .before .before .before .before .before .before .before .before .before .before .before .before .pre .room)
 
 pub set-flag-spec : {M : Type 1} → statement M
 set-flag-spec =
@@ -59,7 +49,6 @@ set-flag-spec =
     idle-requires
     returns
     number-at-requires
-    number-at-requires-2
     set-flag-requires
     answered-requires
     same-length

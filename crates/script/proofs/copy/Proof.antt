@@ -1,4 +1,4 @@
-use Prim.Native.Nat.{ℕ, _-_}
+use Prim.Native.Nat.{_-_}
 use mathlib.Core.Path.{_≡_, _∙_}
 use lib.ListN.{length}
 use Rattle.script.proofs.Numbers.{Copied, copied-start, copied-more, copied-end}
@@ -6,8 +6,6 @@ use borrow.Author.Needs.{needs}
 use native.Mathlib.Omega.{arith}
 use Rattle.script.proofs.copy.Statement.{statement}
 use Rattle.script.proofs.copy.Tie as tie
-use Rattle.script.proofs.copy.Reads as reads
-use Rattle.script.proofs.copy.Lts as lts
 
 abbrev Inv-loop : tie.InvT-loop
 Inv-loop from to₀ i₀ to i = Copied from to i × (length from ≡ length to₀)

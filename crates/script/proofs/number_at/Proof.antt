@@ -2,12 +2,8 @@ use Prim.Native.Nat.{_+_, _-_, _≤_}
 use lib.ListN.{length}
 use Rattle.script.proofs.Numbers.{Read, read-start, read-room, read-more, read-end}
 use borrow.Author.Needs.{needs}
-use native.Mathlib.Omega.{arith}
 use Rattle.script.proofs.number_at.Statement.{statement}
 use Rattle.script.proofs.number_at.Tie as tie
-use Rattle.script.proofs.number_at.Reads as reads
-use Rattle.script.proofs.number_at.Lts as lts
-use Rattle.script.proofs.wide.Reads as wide-reads
 
 abbrev Inv-loop : tie.InvT-loop
 Inv-loop s i n₀ j₀ n j = Read s i j n × (i + 8 ≤ length s)

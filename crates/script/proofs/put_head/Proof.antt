@@ -3,9 +3,6 @@ use Rattle.script.proofs.Numbers.{head-set}
 use borrow.Author.Needs.{needs}
 use Rattle.script.proofs.put_head.Statement.{statement}
 use Rattle.script.proofs.put_head.Tie as tie
-use Rattle.script.proofs.put_head.Reads as reads
-use Rattle.script.proofs.put_head.Lts as lts
-use Rattle.script.proofs.put_number.Reads as put-number-reads
 
 -- src/lib.rt:50:16
 sub-put-number : tie.Need-sub-put-number

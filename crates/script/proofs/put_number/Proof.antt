@@ -5,8 +5,6 @@ use borrow.Author.Needs.{needs}
 use native.Mathlib.Omega.{arith}
 use Rattle.script.proofs.put_number.Statement.{statement}
 use Rattle.script.proofs.put_number.Tie as tie
-use Rattle.script.proofs.put_number.Reads as reads
-use Rattle.script.proofs.put_number.Lts as lts
 
 abbrev Inv-loop : tie.InvT-loop
 Inv-loop to₀ n left₀ i₀ to left i = Left to₀ to n i left × (8 ≤ length to₀)

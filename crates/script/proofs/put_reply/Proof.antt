@@ -10,10 +10,6 @@ use Rattle.script.proofs.Driver.{reply-put}
 use borrow.Author.Needs.{needs}
 use Rattle.script.proofs.put_reply.Statement.{statement}
 use Rattle.script.proofs.put_reply.Tie as tie
-use Rattle.script.proofs.put_reply.Reads as reads
-use Rattle.script.proofs.put_reply.Lts as lts
-use Rattle.script.proofs.put_head.Reads as put-head-reads
-use Rattle.words.proofs.unsigned_of.Reads as unsigned-of-reads
 
 -- src/lib.rt:61:24
 enum-known-r : tie.Need-enum-known-r
