@@ -20,7 +20,7 @@ loop-holds c = (kept-start _ _ _, refl)
 
 -- src/lib.rt:179:28
 sub-perform : tie.Need-sub-perform Inv-loop μ-loop
-sub-perform c = c .before .loop .inv .0 .within
+sub-perform c = let w = c .before .loop .inv .0 .within in search needs
 
 -- src/lib.rt:179:28
 part-perform-start : tie.Need-part-perform-start Inv-loop μ-loop
@@ -32,7 +32,7 @@ part-perform-end c = search needs
 
 -- src/lib.rt:179:43
 sub-perform-2 : tie.Need-sub-perform-2 Inv-loop μ-loop
-sub-perform-2 c = c .before .before .loop .inv .0 .room
+sub-perform-2 c = let r = c .before .before .loop .inv .0 .room in search needs
 
 -- src/lib.rt:179:43
 part-perform-start-2 : tie.Need-part-perform-start-2 Inv-loop μ-loop
