@@ -10,7 +10,9 @@ fn tokens(text: &str) -> Vec<String> {
         rest = comment.split_once("*/").expect("the comment's end").1;
     }
     plain.push_str(rest);
-    let lines = plain.lines().filter(|line| !line.starts_with('#') && !line.starts_with("extern") && *line != "}");
+    let lines = plain
+        .lines()
+        .filter(|line| !line.starts_with('#') && !line.starts_with("extern") && *line != "}");
     let mut all: Vec<String> = Vec::new();
     for line in lines {
         for word in line.split_whitespace() {
@@ -39,13 +41,23 @@ fn split(word: &str, all: &mut Vec<String>) {
 
 /// The parts between a mark, each as one text; none where nothing stands.
 fn parts(tokens: &[String], mark: &str) -> Vec<String> {
-    tokens.split(|t| t == mark).filter(|part| !part.is_empty()).map(|part| part.join(" ")).collect()
+    tokens
+        .split(|t| t == mark)
+        .filter(|part| !part.is_empty())
+        .map(|part| part.join(" "))
+        .collect()
 }
 
 /// What stands between the first `open` and the last `close`.
 fn inside<'a>(tokens: &'a [String], open: &str, close: &str) -> &'a [String] {
-    let from = tokens.iter().position(|t| t == open).expect("an opening mark");
-    let to = tokens.iter().rposition(|t| t == close).expect("a closing mark");
+    let from = tokens
+        .iter()
+        .position(|t| t == open)
+        .expect("an opening mark");
+    let to = tokens
+        .iter()
+        .rposition(|t| t == close)
+        .expect("a closing mark");
     &tokens[from + 1..to]
 }
 
@@ -53,10 +65,14 @@ fn declaration(tokens: &[String], declared: &mut Declared) {
     let words: Vec<&str> = tokens.iter().map(String::as_str).collect();
     match words.as_slice() {
         ["typedef", "struct", name, ..] => {
-            declared.structs.insert(name.to_string(), parts(inside(tokens, "{", "}"), ";"));
+            declared
+                .structs
+                .insert(name.to_string(), parts(inside(tokens, "{", "}"), ";"));
         }
         ["enum", name, ..] => {
-            declared.enums.insert(name.to_string(), parts(inside(tokens, "{", "}"), ","));
+            declared
+                .enums
+                .insert(name.to_string(), parts(inside(tokens, "{", "}"), ","));
         }
         [result, name, "(", ..] => {
             let mut all = vec![result.to_string()];
@@ -85,6 +101,10 @@ pub fn declared(text: &str) -> Declared {
         }
         one.push(token);
     }
-    assert!(one.is_empty(), "include/lmr5.h: {} is cut off", one.join(" "));
+    assert!(
+        one.is_empty(),
+        "include/lmr5.h: {} is cut off",
+        one.join(" ")
+    );
     declared
 }

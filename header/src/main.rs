@@ -14,15 +14,34 @@ pub struct Declared {
     pub enums: BTreeMap<String, Vec<String>>,
 }
 
+/// What one list has and the other has not, or that only the order differs.
+fn change(code: &[String], header: &[String]) -> String {
+    let only = |a: &[String], b: &[String]| {
+        a.iter()
+            .filter(|x| !b.contains(x))
+            .cloned()
+            .collect::<Vec<_>>()
+            .join(", ")
+    };
+    match (only(code, header), only(header, code)) {
+        (c, h) if c.is_empty() && h.is_empty() => {
+            "the order or the number of parts differs".to_string()
+        }
+        (c, h) => format!("the code has ({c}), the header ({h})"),
+    }
+}
+
 /// The differences of two sets of declarations.
-fn compare(kind: &str, code: &BTreeMap<String, Vec<String>>, header: &BTreeMap<String, Vec<String>>) -> Vec<String> {
+fn compare(
+    kind: &str,
+    code: &BTreeMap<String, Vec<String>>,
+    header: &BTreeMap<String, Vec<String>>,
+) -> Vec<String> {
     let mut said = Vec::new();
     for (name, want) in code {
         match header.get(name) {
             None => said.push(format!("{kind} {name} is not in the header")),
-            Some(got) if got != want => {
-                said.push(format!("{kind} {name}: the code has {}; the header has {}", want.join(", "), got.join(", ")));
-            }
+            Some(got) if got != want => said.push(format!("{kind} {name}: {}", change(want, got))),
             Some(_) => {}
         }
     }
@@ -48,7 +67,10 @@ fn read(root: &str, name: &str) -> String {
 
 fn main() -> ExitCode {
     let root = std::env::args().nth(1).expect("the repository's folder");
-    let code = code::declared(&read(&root, "crates/lmr5/src/lib.rt"), &read(&root, "crates/format/specs/Field.antt"));
+    let code = code::declared(
+        &read(&root, "crates/lmr5/src/lib.rt"),
+        &read(&root, "crates/format/specs/Field.antt"),
+    );
     let header = header::declared(&read(&root, "include/lmr5.h"));
     let said = differences(&code, &header);
     for line in &said {
@@ -107,7 +129,10 @@ mod tests {
 
     #[test]
     fn a_function_too_many_or_too_few() {
-        assert_eq!(said(&HEADER.replace("lmr5_answer lmr5_f(", "lmr5_answer lmr5_g(")), 2);
+        assert_eq!(
+            said(&HEADER.replace("lmr5_answer lmr5_f(", "lmr5_answer lmr5_g(")),
+            2
+        );
         assert_eq!(said(&format!("{HEADER}void lmr5_h(void);")), 1);
     }
 }

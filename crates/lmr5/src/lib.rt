@@ -5,7 +5,7 @@ ghost use mathlib.Core.Option.{none, some};
 ghost use lib.ListN.{length};
 ghost use lib.IntN.{pos};
 ghost use Rattle.format.specs.Field.{scaled};
-ghost use Rattle.format.specs.Report as definitions;
+ghost use Rattle.format.specs.Report.{judge};
 ghost use Rattle.format.specs.Machine as machine;
 ghost use Rattle.format.specs.Buffer.{effect};
 ghost use Rattle.format.specs.Whole as spec;
@@ -109,7 +109,7 @@ fn answer_of(r: Reply) -> Answer
 
 #[no_mangle]
 pub extern "C" fn lmr5_judge(report: &[u8]) -> Answer
-    ensures { λ r. ⌜ r ≡ numbered (judging (definitions.judge (now (report .entry)))) ⌝ }
+    ensures { λ r. ⌜ r ≡ numbered (judging (judge (now (report .entry)))) ⌝ }
 {
     let j = report::judge(report);
     match j {

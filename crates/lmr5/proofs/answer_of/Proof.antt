@@ -1,7 +1,7 @@
 -- `lmr5::answer_of` meets its contract.
 -- Assumes nothing.
 use Rattle.lmr5.proofs.Calls.{held-given, flag-given}
-use mathlib.Core.Path.{_≡_, sym, ap, _∙_}
+use mathlib.Core.Path.{sym, ap, _∙_}
 use Rattle.format.specs.Reply.{answerOf}
 use Rattle.format.specs.declared.Reply.{Reply}
 use Rattle.lmr5.specs.Numbered.{numbered}

@@ -1,6 +1,6 @@
 -- `lmr5::lmr5_pack` meets its contract.
 -- Assumes nothing.
-use mathlib.Core.Path.{_≡_, sym, ap, _∙_}
+use mathlib.Core.Path.{sym, ap, _∙_}
 use Rattle.whole.specs.Answers.{packAnswer}
 use Rattle.whole.specs.declared.Packed.{Packed}
 use Rattle.lmr5.specs.Numbered.{numbered}
