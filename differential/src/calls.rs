@@ -9,20 +9,42 @@ use reference::cases::random::random_call;
 use reference::machine;
 use reference::prng::Prng;
 use reference::sheet::Sheet;
+use reference::table::field;
 use reference::text;
 
-use crate::reports::changed_body;
+use crate::reports::{changed_body, near_edge};
 
 /// Some calls in turn on a sheet; n is the buffer's length.
 pub fn list(prng: &mut Prng, sheet: &Sheet, n: usize) -> Vec<Call> {
     let mut sheet = sheet.clone();
     let mut calls = Vec::new();
     for _ in 0..prng.pick(&[1, 2, 3, 5, 8, 13, 21]) {
-        let call = call(prng, &sheet, n);
+        let call = match calls.last() {
+            Some(last) if prng.one_in(3) => follow(prng, last),
+            _ => call(prng, &sheet, n),
+        };
         sheet = machine::step(&sheet, n, &call).0;
         calls.push(call);
     }
     calls
+}
+
+/// A call on what the last call was on.
+fn follow(prng: &mut Prng, last: &Call) -> Call {
+    let output = prng.bytes(255);
+    match *last {
+        Call::SetField { field, .. } | Call::ClearField { field } => Call::ReadField { field },
+        Call::SetFlag { flag, .. } | Call::ClearFlag { flag } => Call::ReadFlag { flag },
+        Call::ReadField { field } => Call::ClearField { field },
+        Call::ReadFlag { flag } => Call::ClearFlag { flag },
+        Call::Put { id, .. } if prng.one_in(3) => Call::Drop { id },
+        Call::Put { id, .. } | Call::Drop { id } => Call::Fetch { id, output },
+        Call::Fetch { id, .. } => Call::Drop { id },
+        Call::PutText { .. } => Call::FetchText { output },
+        Call::FetchText { ref output } => Call::PutText {
+            text: output.clone(),
+        },
+    }
 }
 
 /// A call that fits a sheet or just does not.
@@ -37,6 +59,13 @@ pub fn call(prng: &mut Prng, sheet: &Sheet, n: usize) -> Call {
 /// Moves one argument to an edge.
 fn vary(prng: &mut Prng, call: &mut Call, sheet: &Sheet, n: usize) {
     match call {
+        Call::SetField {
+            field: number,
+            value,
+        } if prng.one_in(2) => {
+            let near = field(*number).and_then(|field| near_edge(prng, field));
+            *value = near.unwrap_or_else(|| edge_value(prng));
+        }
         Call::SetField { value, .. } | Call::SetFlag { value, .. } if prng.one_in(2) => {
             *value = edge_value(prng);
         }

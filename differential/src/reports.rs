@@ -12,7 +12,7 @@ use reference::flags;
 use reference::gate::sizes::{LONGEST_TAIL, sheet_of_tail};
 use reference::prng::Prng;
 use reference::sheet::Sheet;
-use reference::table::{CK, Coded, FIELDS, fields, place_on_card};
+use reference::table::{CK, Coded, FIELDS, Field, Scaled, fields, place_on_card};
 use reference::text;
 
 /// A sheet, of any size from no attachment to fifteen of 255 nibbles.
@@ -32,6 +32,11 @@ pub fn sheet(prng: &mut Prng) -> Sheet {
         _ => random_sheet(prng),
     };
     sheet.rptin = prng.next_u64() as u16;
+    for field in fields() {
+        if prng.one_in(16) {
+            sheet.values[field.number - 1] = near_edge(prng, field).map(Scaled);
+        }
+    }
     if prng.one_in(2) {
         add(prng, &mut sheet, flags::ID);
     }
@@ -39,6 +44,20 @@ pub fn sheet(prng: &mut Prng) -> Sheet {
         add(prng, &mut sheet, text::ID);
     }
     sheet
+}
+
+/// The value 0, 1 or -1, or a code by a power of two, if the field has it.
+pub fn near_edge(prng: &mut Prng, field: Field) -> Option<i64> {
+    let value = match prng.below(3) {
+        0 => prng.pick(&[0, 0, 1, -1]),
+        _ => field.base + (1 << prng.below(field.bits + 1)) - prng.below(2) as i64,
+    };
+    let in_range = field.coded(Scaled(value)).is_some();
+    match (in_range, field.is_required()) {
+        (true, _) => Some(value),
+        (false, true) => Some(field.highest_value().0),
+        (false, false) => None,
+    }
 }
 
 /// Adds an id at any position if it does not stand.
@@ -69,7 +88,7 @@ fn extend(prng: &mut Prng, buffer: &mut Vec<u8>) {
 
 /// A buffer whose report is most likely refused.
 pub fn damaged(prng: &mut Prng, sheet: &Sheet) -> Vec<u8> {
-    let mut buffer = match prng.below(12) {
+    let mut buffer = match prng.below(13) {
         0 => return garbage(prng),
         1..5 => drafted(prng, sheet),
         5..7 => damaged_headers(prng, sheet),
@@ -80,6 +99,7 @@ pub fn damaged(prng: &mut Prng, sheet: &Sheet) -> Vec<u8> {
             draft.bytes()
         }
         10 => cut(prng, sheet),
+        11 => wrong_checksum(prng, sheet),
         _ => flipped(prng, sheet.packing()),
     };
     if prng.one_in(3) {
@@ -94,6 +114,20 @@ fn drafted(prng: &mut Prng, sheet: &Sheet) -> Vec<u8> {
     for _ in 0..prng.pick(&[1, 1, 1, 2, 3]) {
         damage(prng, &mut draft);
     }
+    draft.bytes()
+}
+
+/// CK off by a little, the same in fewer bits or modulo 255, or of another sum.
+fn wrong_checksum(prng: &mut Prng, sheet: &Sheet) -> Vec<u8> {
+    let mut draft = Draft::of(sheet);
+    let ck = draft.card.ck;
+    draft.card.ck = match prng.below(5) {
+        0 => ck + 255 * (1 + prng.below(63)) as u64,
+        1 => ck ^ (1 << prng.below(14)),
+        2 => (ck + 1) % 255,
+        3 => (ck + draft.card.ac as u64) % 255,
+        _ => draft.card.codes.iter().map(|code| code.0).sum::<u64>() % 256,
+    };
     draft.bytes()
 }
 

@@ -3,6 +3,7 @@
 use reference::call::Call;
 use reference::cases::Case;
 use reference::gate::script::{first_call, record_size};
+use reference::judge::judge;
 
 use crate::compare::{Difference, compare};
 use crate::harness::Harness;
@@ -48,6 +49,20 @@ fn shorter<T: Clone>(row: &[T]) -> Vec<Vec<T>> {
     shorter
 }
 
+/// A report with an attachment less, and shorter buffers.
+fn smaller_reports(buffer: &[u8]) -> Vec<Vec<u8>> {
+    let mut smaller = Vec::new();
+    if let Ok(report) = judge(buffer) {
+        for index in 0..report.ac {
+            let mut sheet = report.sheet.clone();
+            sheet.attachments.remove(index);
+            smaller.push([&sheet.packing(), &buffer[report.bytes..]].concat());
+        }
+    }
+    smaller.extend(shorter(buffer));
+    smaller
+}
+
 fn smaller_cases(case: &Case) -> Vec<Case> {
     let mut smaller = Vec::new();
     let mut with = |change: &dyn Fn(&mut Case)| {
@@ -56,7 +71,7 @@ fn smaller_cases(case: &Case) -> Vec<Case> {
         smaller.push(changed);
     };
     if let Case::Judge { report } | Case::Unpack { report, .. } = case {
-        for shorter in shorter(report) {
+        for shorter in smaller_reports(report) {
             with(&|case| {
                 if let Case::Judge { report } | Case::Unpack { report, .. } = case {
                     *report = shorter.clone();
@@ -94,7 +109,7 @@ fn smaller_calls(buffer: &[u8], call: &Call) -> Vec<Trial> {
         buffer: buffer.to_vec(),
         call,
     };
-    let mut smaller: Vec<Trial> = shorter(buffer).into_iter().map(on).collect();
+    let mut smaller: Vec<Trial> = smaller_reports(buffer).into_iter().map(on).collect();
     let calls: Vec<Call> = match call {
         Call::Put { id, content } => {
             let put = |content| Call::Put { id: *id, content };
@@ -164,7 +179,7 @@ fn smaller_scripts(buffer: &[u8], script: &[u8], log: &[u8]) -> Vec<Trial> {
     for shorter in shorter(log) {
         smaller.push(trial(buffer, script, &shorter));
     }
-    for shorter in shorter(buffer) {
+    for shorter in smaller_reports(buffer) {
         smaller.push(trial(&shorter, script, log));
     }
     smaller
