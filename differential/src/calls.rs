@@ -94,18 +94,26 @@ fn vary(prng: &mut Prng, call: &mut Call, sheet: &Sheet, n: usize) {
 }
 
 fn edge_number(prng: &mut Prng) -> u64 {
-    match prng.below(3) {
+    let number = prng.pick(&[0, 1, 2, 4, 5, 14, 15, 16, 46, 47, 48]);
+    match prng.below(4) {
         0 => prng.pick(&WIDE_NUMBERS),
-        1 => prng.pick(&[1, 4, 5, 14, 15, 16, 46, 47, 48]),
-        _ => prng.next_u64(),
+        1 => number,
+        _ => widened(prng, number),
     }
 }
 
+/// A number with one or two of its upper bits set.
+pub fn widened(prng: &mut Prng, number: u64) -> u64 {
+    let mut bit = || 1 << (8 + prng.below(56));
+    number | bit() | bit()
+}
+
 fn edge_value(prng: &mut Prng) -> i64 {
-    let ends = [i64::MIN, i64::MIN + 1, -1, 0, 1, 10, 11, 257, i64::MAX];
+    let ends = [i64::MIN, i64::MIN + 1, -1, 0, 1, 10, 11, i64::MAX];
+    let value = prng.pick(&ends);
     match prng.below(3) {
-        0 => prng.pick(&ends),
-        1 => (1 << prng.below(64)) + prng.pick(&[-1, 0, 1, 5]),
+        0 => value,
+        1 => widened(prng, value as u64) as i64,
         _ => prng.next_u64() as i64,
     }
 }

@@ -176,10 +176,7 @@ pub fn changed_body(prng: &mut Prng, id: u8, body: &[u8]) -> Vec<u8> {
     match prng.below(6) {
         0 if id == flags::ID => changed = prng.pick(&bad_flag_bodies()),
         0 => changed = prng.pick(&bad_text_bodies()),
-        1 if id == flags::ID => {
-            changed = random_flags(prng);
-            changed[15] = (changed[15] + 1) % 16;
-        }
+        1..4 if id == flags::ID => changed = changed_flags(prng),
         1 => {
             let place = prng.below(changed.len() + 1);
             let bad = prng.pick(&bad_text_bodies());
@@ -193,6 +190,25 @@ pub fn changed_body(prng: &mut Prng, id: u8, body: &[u8]) -> Vec<u8> {
         }
     }
     changed
+}
+
+/// Flags with a quality code a little above or below theirs, or with one that
+/// is no flag and a quality code as if it had some weight.
+fn changed_flags(prng: &mut Prng) -> Vec<u8> {
+    let mut body = random_flags(prng);
+    let mut code = 16 * body[14] + body[15];
+    if prng.one_in(2) {
+        let mut flags = body[..14].to_vec();
+        let place = prng.below(14);
+        flags[place] = 0;
+        code = flags::quality_code(&flags).max(1) + prng.below(4) as u8;
+        body[place] = prng.pick(&[11, 11, 12, 13, 14, 15]);
+    } else {
+        code = code.wrapping_add(prng.pick(&[1, 2, 16, 255]));
+    }
+    body[14] = code >> 4;
+    body[15] = code & 15;
+    body
 }
 
 /// Cut anywhere, more often near the card's or the report's end.

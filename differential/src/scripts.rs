@@ -4,9 +4,10 @@ use reference::call::Call;
 use reference::gate::script::{entry, record_size, script};
 use reference::prng::Prng;
 
+use crate::calls::widened;
 use crate::trial::Trial;
 
-/// The counts that a careless sum would wrap.
+/// Counts that a careless sum would wrap.
 const WIDE_COUNTS: [u64; 6] = [
     1 << 32,
     1 << 63,
@@ -48,18 +49,25 @@ fn cut_entry(prng: &mut Prng, calls: &[Call]) -> Vec<u8> {
     entry
 }
 
-/// A number of the script, most often a count, made wide.
+/// A number of the script changed, most often a count made wide.
 fn break_entry(prng: &mut Prng, script: &mut [u8], calls: &[Call]) {
     let broken = prng.below(calls.len());
     let start: usize = calls[..broken].iter().map(|call| entry(call).len()).sum();
     let number = match calls[broken] {
-        Call::Put { .. } | Call::Fetch { .. } => start + 9,
+        Call::Put { .. } | Call::Fetch { .. } | Call::SetField { .. } | Call::SetFlag { .. } => {
+            start + prng.pick(&[1, 9, 9])
+        }
         _ => start + 1,
     };
+    let old = script[number..number + 8].try_into();
+    let old = u64::from_be_bytes(old.expect("a number has eight bytes"));
     let left = (script.len() - number - 8) as u64;
-    let wide = prng.pick(&WIDE_COUNTS);
-    let count = prng.pick(&[wide, wide, left, left + 1]);
-    script[number..number + 8].copy_from_slice(&count.to_be_bytes());
+    let new = match prng.below(4) {
+        0 => prng.pick(&WIDE_COUNTS),
+        1 => left + prng.below(2) as u64,
+        _ => widened(prng, old),
+    };
+    script[number..number + 8].copy_from_slice(&new.to_be_bytes());
 }
 
 /// Entries of random kinds and small numbers.
