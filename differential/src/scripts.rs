@@ -7,16 +7,6 @@ use reference::prng::Prng;
 use crate::calls::widened;
 use crate::trial::Trial;
 
-/// Counts that a careless sum would wrap.
-const WIDE_COUNTS: [u64; 6] = [
-    1 << 32,
-    1 << 63,
-    u64::MAX - 17,
-    u64::MAX - 9,
-    u64::MAX - 1,
-    u64::MAX,
-];
-
 /// The script of a list, most often whole and with a log that just takes it.
 pub fn trial(prng: &mut Prng, buffer: &[u8], calls: &[Call]) -> Trial {
     let mut script = script(calls);
@@ -63,7 +53,8 @@ fn break_entry(prng: &mut Prng, script: &mut [u8], calls: &[Call]) {
     let old = u64::from_be_bytes(old.expect("a number has eight bytes"));
     let left = (script.len() - number - 8) as u64;
     let new = match prng.below(4) {
-        0 => prng.pick(&WIDE_COUNTS),
+        // A careless sum would wrap.
+        0 => u64::MAX - prng.below(20) as u64,
         1 => left + prng.below(2) as u64,
         _ => widened(prng, old),
     };
