@@ -1,4 +1,4 @@
-.PHONY: test list lib header-test example vectors reference-test
+.PHONY: test list lib header-test example vectors reference-test differential differential-test
 
 # The same as the gate.
 test:
@@ -44,3 +44,16 @@ vectors:
 reference-test:
 	@command -v cargo >/dev/null || { echo 'make reference-test: cargo is not on the PATH' >&2; exit 1; }
 	cd reference && cargo test --release
+
+# The unrelated implementation beside lib/liblmr5.a: make differential SEED=.. CALLS=.., or ONLY=.. for one case.
+SEED = 1
+CALLS = 2000000
+ONLY =
+differential: lib
+	@command -v cargo >/dev/null || { echo 'make differential: cargo is not on the PATH' >&2; exit 1; }
+	@cd differential && cargo run --release --quiet -- $(SEED) $(CALLS) $(ONLY)
+
+# What the differential test has to find, tried with a stand-in for the library.
+differential-test:
+	@command -v cargo >/dev/null || { echo 'make differential-test: cargo is not on the PATH' >&2; exit 1; }
+	cd differential && cargo test --release --lib
