@@ -1,4 +1,4 @@
-.PHONY: test list vectors reference-test
+.PHONY: test list vectors reference-test bench
 
 # The same as the gate.
 test:
@@ -20,3 +20,8 @@ vectors:
 reference-test:
 	@command -v cargo >/dev/null || { echo 'make reference-test: cargo is not on the PATH' >&2; exit 1; }
 	cd reference && cargo test --release
+
+# Measures each call beside plain Rust written for speed, or one call: make bench BENCH=judge
+bench: lib
+	@command -v cargo >/dev/null || { echo 'make bench: cargo is not on the PATH' >&2; exit 1; }
+	cd bench && cargo run --release --quiet -- $(BENCH)
