@@ -1,4 +1,4 @@
-.PHONY: test list lib header-test example vectors reference-test differential differential-test
+.PHONY: test list lib header-test example vectors reference-test differential differential-test bench
 
 # The same as the gate.
 test:
@@ -57,3 +57,7 @@ differential: lib
 differential-test:
 	@command -v cargo >/dev/null || { echo 'make differential-test: cargo is not on the PATH' >&2; exit 1; }
 	cd differential && cargo test --release --lib
+# Measures each call beside plain Rust written for speed, or one call: make bench BENCH=judge
+bench: lib
+	@command -v cargo >/dev/null || { echo 'make bench: cargo is not on the PATH' >&2; exit 1; }
+	cd bench && cargo run --release --quiet -- $(BENCH)
