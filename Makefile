@@ -57,6 +57,7 @@ differential: lib
 differential-test:
 	@command -v cargo >/dev/null || { echo 'make differential-test: cargo is not on the PATH' >&2; exit 1; }
 	cd differential && cargo test --release --lib
+
 # Measures each call beside plain Rust written for speed, or one call: make bench BENCH=judge
 bench: lib
 	@command -v cargo >/dev/null || { echo 'make bench: cargo is not on the PATH' >&2; exit 1; }
