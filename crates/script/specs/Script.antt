@@ -182,8 +182,8 @@ replayed b script log =
     let cs = listOf (length script) (length log) script in
     logged cs (claim b cs) log
 
--- demand 3 of a script that was performed: r is what is claimed of the script's list; and "every list of these calls", whose
--- arguments the code's types hold and whose records fit the log, is the list of its own script
+-- demand 3 of a script that was performed: r is what is claimed of the script's list; and, for every list of these calls whose
+-- arguments the code's types hold and whose records fit the log, what is claimed of that list where the script is its own
 pub record Performs (r : Replayed) (b script log : List ℕ) : Type 0 where
   pub of-script : r ≡ replayed b script log
   pub of-list : (cs : List Call) → AllFit cs → scriptOf cs ≡ script → logSize cs ≤ length log → r ≡ logged cs (claim b cs) log
