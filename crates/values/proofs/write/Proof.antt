@@ -1,4 +1,4 @@
--- `card::write` meets its contract: the fields, then the checksum, the count and RPTIN.
+-- `values::write` meets its contract: the fields, then the checksum, the count and RPTIN.
 -- Assumes nothing.
 use Prim.Native.Nat.{ℕ, _%_}
 use mathlib.Core.Path.{subst}
@@ -6,11 +6,13 @@ use mathlib.Core.List.{List, [], _∷_, _++_}
 use denote.Ref.{now}
 use Rattle.format.specs.Report.{numbersOf}
 use Rattle.format.specs.Sheet.{checksum}
-use Rattle.card.specs.Answers.{Carded, given, fielded}
-use Rattle.card.proofs.Given.{given-length, carded-then, carded-whole}
+use Rattle.card.specs.Answers.{Carded, fielded}
+use Rattle.card.proofs.Given.{carded-then, carded-whole}
+use Rattle.values.specs.Given.{given}
+use Rattle.values.proofs.Given.{given-length}
 use borrow.Author.Needs.{needs}
-use Rattle.card.proofs.write.Statement.{statement}
-use Rattle.card.proofs.write.Tie as tie
+use Rattle.values.proofs.write.Statement.{statement}
+use Rattle.values.proofs.write.Tie as tie
 
 write-fields-requires : tie.Need-write-fields-requires
 write-fields-requires c κs = search needs

@@ -1,4 +1,4 @@
--- `card::presence_bit` meets its contract.
+-- `values::presence_bit` meets its contract.
 -- Assumes nothing.
 use Prim.Native.Nat.{_^_}
 use native.Mathlib.Omega.{arith}
@@ -7,10 +7,10 @@ use mathlib.Core.Bool.{Bool, true, false, cond}
 use borrow.Author.Tests.{eq-eqb, ne-eqb}
 use Rattle.format.specs.Field.{fieldAt}
 use Rattle.bits.proofs.Window.{one-shl}
-use Rattle.card.proofs.Entries.{present-is}
+use Rattle.values.proofs.Shown.{present-is}
 use borrow.Author.Needs.{needs}
-use Rattle.card.proofs.presence_bit.Statement.{statement}
-use Rattle.card.proofs.presence_bit.Tie as tie
+use Rattle.values.proofs.presence_bit.Statement.{statement}
+use Rattle.values.proofs.presence_bit.Tie as tie
 
 returns : tie.Need-returns
 returns c =

@@ -1,28 +1,31 @@
--- `whole::refusal` meets its contract.
+-- `values::refusal` meets its contract.
 -- Assumes nothing.
-use native.Mathlib.Omega.{arith}
 use Prim.Native.Nat.{_/_, _%_, _^_}
 use native.Mathlib.Omega.{arith}
-use mathlib.Core.Path.{_≡_, sym, ap, _∙_}
+use mathlib.Core.Path.{_≡_, sym, ap₂, _∙_}
 use mathlib.Core.Bool.{true, false}
 use lib.IntN.{ℤ}
 use mir.Syntax.{w64}
 use mir.Val.{toZ, ofZ}
 use borrow.Author.Tests.{eq-eqb, ne-eqb}
-use Rattle.format.specs.Field.{fieldAt, scaled}
+use Rattle.format.specs.Field.{Field, fieldAt, scaled}
 use Rattle.format.specs.Whole.{bitAt}
 use Rattle.card.specs.Answers.{codingOf}
+use Rattle.card.proofs.Rows.{field-row}
 use Rattle.card.proofs.Given.{coding-outside}
-use Rattle.whole.proofs.Checks.{coding-inside, refusal-missing, refusal-absent, refusal-outside, refusal-fine}
+use Rattle.values.proofs.Tests.{coding-inside, refusal-missing, refusal-absent, refusal-outside, refusal-fine}
 use borrow.Author.Needs.{needs}
-use Rattle.whole.proofs.refusal.Statement.{statement}
-use Rattle.whole.proofs.refusal.Tie as tie
+use Rattle.values.proofs.refusal.Statement.{statement}
+use Rattle.values.proofs.refusal.Tie as tie
 
 held : (c : tie.Start) → toZ w64 (ofZ w64 (c .args .v)) ≡ c .args .v
 held c = search needs
 
-answer : (c : tie.After-coded) → c .coded .result ≡ codingOf (fieldAt (c .before .before .args .k)) (scaled (c .before .before .args .v))
-answer c = c .coded .ensures ∙ ap (λ (z : ℤ). codingOf (fieldAt (c .before .before .args .k)) (scaled z)) (held (c .before .before))
+answer : (c : tie.After-coded-in) → c .coded-in .result ≡ codingOf (fieldAt (c .before .before .args .k)) (scaled (c .before .before .args .v))
+answer c =
+    let st = c .before .before in
+    c .coded-in .ensures
+    ∙ ap₂ (λ (f : Field) (z : ℤ). codingOf f (scaled z)) (field-row (st .args .k) (st .args .row) (st .pre .2) (st .pre .0) (st .pre .1)) (held st)
 
 absent : (c : tie.Then1) → bitAt (c .before .args .word) (c .before .args .k) ≡ false
 absent c = ne-eqb (c .before .args .word / 2 ^ c .before .args .k % 2) 1 (omega arith)
@@ -42,8 +45,8 @@ returns c = refusal-missing (c .before .before .before .args .k) (c .before .bef
 returns-2 : tie.Need-returns-2
 returns-2 c = refusal-absent (c .before .before .before .args .k) (c .before .before .before .args .word) (c .before .before .before .args .v) (absent (c .before .before)) (sym (c .before .is-required .ensures) ∙ c .if2 .left)
 
-coded-requires : tie.Need-coded-requires
-coded-requires c κs = search needs
+coded-in-requires : tie.Need-coded-in-requires
+coded-in-requires c κs = search needs
 
 enum-told : tie.Need-enum-told
 enum-told c = search needs
@@ -65,7 +68,7 @@ refusal-spec =
     is-required-requires
     returns
     returns-2
-    coded-requires
+    coded-in-requires
     enum-told
     enum-told-2
     returns-3

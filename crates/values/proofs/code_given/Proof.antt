@@ -1,8 +1,8 @@
--- `card::code_given` meets its contract.
+-- `values::code_given` meets its contract.
 -- Assumes nothing.
 use Prim.Native.Nat.{_/_, _%_, _^_}
 use native.Mathlib.Omega.{arith}
-use mathlib.Core.Path.{_≡_, sym, ap, _∙_}
+use mathlib.Core.Path.{_≡_, sym, ap₂, _∙_}
 use mathlib.Core.Bool.{true, false, not, _&&_}
 use lib.IntN.{ℤ}
 use mir.Syntax.{w64}
@@ -11,17 +11,21 @@ use borrow.Author.Tests.{eq-eqb, ne-eqb}
 use Rattle.format.specs.Field.{Field, fieldAt, scaled, inRange, codeOf}
 use Rattle.format.specs.Whole.{bitAt}
 use Rattle.laws.proofs.Lists.{true-false}
 use Rattle.card.specs.Answers.{codingOf}
+use Rattle.card.proofs.Rows.{field-row}
 use Rattle.card.proofs.Given.{coding-outside, coding-code}
 use borrow.Author.Needs.{needs}
-use Rattle.card.proofs.code_given.Statement.{statement}
-use Rattle.card.proofs.code_given.Tie as tie
+use Rattle.values.proofs.code_given.Statement.{statement}
+use Rattle.values.proofs.code_given.Tie as tie
 
 held : (c : tie.Start) → toZ w64 (ofZ w64 (c .args .v)) ≡ c .args .v
 held c = search needs
 
-answer : (c : tie.After-coded) → c .coded .result ≡ codingOf (fieldAt (c .before .before .args .k)) (scaled (c .before .before .args .v))
-answer c = c .coded .ensures ∙ ap (λ (z : ℤ). codingOf (fieldAt (c .before .before .args .k)) (scaled z)) (held (c .before .before))
+answer : (c : tie.After-coded-in) → c .coded-in .result ≡ codingOf (fieldAt (c .before .before .args .k)) (scaled (c .before .before .args .v))
+answer c =
+    let st = c .before .before in
+    c .coded-in .ensures
+    ∙ ap₂ (λ (f : Field) (z : ℤ). codingOf f (scaled z)) (field-row (st .args .k) (st .args .row) (st .pre .2) (st .pre .0) (st .pre .1)) (held st)
 
 present : (c : tie.Else1) → bitAt (c .before .args .word) (c .before .args .k) ≡ true
 present c = eq-eqb (c .before .args .word / 2 ^ c .before .args .k % 2) 1 (omega arith)
@@ -35,8 +39,8 @@ returns c =
     let st = c .before in
     (rw (ne-eqb (st .args .word / 2 ^ st .args .k % 2) 1 (omega arith)), omega arith)
 
-coded-requires : tie.Need-coded-requires
-coded-requires c κs = search needs
+coded-in-requires : tie.Need-coded-in-requires
+coded-in-requires c κs = search needs
 
 enum-told : tie.Need-enum-told
 enum-told c = search needs
@@ -49,7 +53,7 @@ returns-2 c =
     let st = c .before .before .before .before in
     let f : Field = fieldAt (st .args .k) in
     let o : inRange f (scaled (st .args .v)) ≡ false = coding-outside f (scaled (st .args .v)) (sym (c .enum-told .given .1) ∙ answer (c .before .before)) in
-    absurd (true-false (bitAt (st .args .word) (st .args .k) && not (inRange f (scaled (st .args .v)))) (rw (present (c .before .before .before), o)) (st .pre .2))
+    absurd (true-false (bitAt (st .args .word) (st .args .k) && not (inRange f (scaled (st .args .v)))) (rw (present (c .before .before .before), o)) (st .pre .3))
 
 returns-3 : tie.Need-returns-3
 unfolding codeOf
@@ -61,4 +65,4 @@ returns-3 c =
 
 pub code-given-spec : {M : Type 1} → statement M
 code-given-spec =
-    tie.close (tie.spec shr-if1 returns coded-requires enum-told enum-known-g returns-2 returns-3)
+    tie.close (tie.spec shr-if1 returns coded-in-requires enum-told enum-known-g returns-2 returns-3)
