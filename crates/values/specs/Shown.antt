@@ -32,7 +32,7 @@ pub record RowAt (i r : ℕ) : Type 0 where
   pub place : i < 46
   pub row : r ≡ getD rows (i + 1) 0
 
--- and three of the next
+-- and of the two fields behind it
 pub record RowsAt (i r1 r2 r3 : ℕ) : Type 0 where
   pub first : RowAt i r1
   pub second : RowAt (i + 1) r2

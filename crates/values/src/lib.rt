@@ -211,67 +211,70 @@ fn write_field(sum: u64, s: &mut [u8], values: &[i64], word: u64, i: usize, row:
     sum + x as u64
 }
 
-// The same of three fields from place i on.
-fn write_three(
-    sum: u64,
-    s: &mut [u8],
-    values: &[i64],
-    word: u64,
-    i: usize,
-    r1: u64,
-    r2: u64,
-    r3: u64,
-) -> u64
-    requires { ⌜ (38 ≤ length (now s)) × Packable (now values) word × (sum < 2147483648) × RowsAt i r1 r2 r3 ⌝ }
-    ensures { λ r. ⌜ Wrote (now (values .entry)) word i 3 (now (s .entry)) (now (s .exit)) sum r ⌝ }
+// The same of two fields from place i on.
+fn write_two(sum: u64, s: &mut [u8], values: &[i64], word: u64, i: usize, r1: u64, r2: u64) -> u64
+    requires { ⌜ (38 ≤ length (now s)) × Packable (now values) word × (sum < 2147483648) × RowAt i r1 × RowAt (i + 1) r2 ⌝ }
+    ensures { λ r. ⌜ Wrote (now (values .entry)) word i 2 (now (s .entry)) (now (s .exit)) sum r ⌝ }
 {
     let sum = write_field(sum, s, values, word, i, r1);
-    let sum = write_field(sum, s, values, word, i + 1, r2);
-    write_field(sum, s, values, word, i + 2, r3)
+    write_field(sum, s, values, word, i + 1, r2)
 }
 
-fn write_1_to_15(sum: u64, s: &mut [u8], values: &[i64], word: u64) -> u64
+fn write_1_to_10(sum: u64, s: &mut [u8], values: &[i64], word: u64) -> u64
     requires { ⌜ (38 ≤ length (now s)) × Packable (now values) word × (sum < 1073741824) ⌝ }
-    ensures { λ r. ⌜ Wrote (now (values .entry)) word 0 15 (now (s .entry)) (now (s .exit)) sum r ⌝ }
+    ensures { λ r. ⌜ Wrote (now (values .entry)) word 0 10 (now (s .entry)) (now (s .exit)) sum r ⌝ }
 {
-    let sum = write_three(
-        sum,
-        s,
-        values,
-        word,
-        0,
-        card::BOX10,
-        card::YEAR,
-        card::MONTH,
-    );
-    let sum = write_three(sum, s, values, word, 3, card::DAY, card::HOUR, card::X);
-    let sum = write_three(sum, s, values, word, 6, card::Y, card::XYI, card::CD);
-    let sum = write_three(sum, s, values, word, 9, card::SID, card::ST, card::QI);
-    let sum = write_three(sum, s, values, word, 12, card::DS, card::DC, card::TC);
+    let sum = write_two(sum, s, values, word, 0, card::BOX10, card::YEAR);
+    let sum = write_two(sum, s, values, word, 2, card::MONTH, card::DAY);
+    let sum = write_two(sum, s, values, word, 4, card::HOUR, card::X);
+    let sum = write_two(sum, s, values, word, 6, card::Y, card::XYI);
+    let sum = write_two(sum, s, values, word, 8, card::CD, card::SID);
     sum
 }
 
-fn write_16_to_30(sum: u64, s: &mut [u8], values: &[i64], word: u64) -> u64
+fn write_11_to_20(sum: u64, s: &mut [u8], values: &[i64], word: u64) -> u64
     requires { ⌜ (38 ≤ length (now s)) × Packable (now values) word × (sum < 1073741824) ⌝ }
-    ensures { λ r. ⌜ Wrote (now (values .entry)) word 15 15 (now (s .entry)) (now (s .exit)) sum r ⌝ }
+    ensures { λ r. ⌜ Wrote (now (values .entry)) word 10 10 (now (s .entry)) (now (s .exit)) sum r ⌝ }
 {
-    let sum = write_three(sum, s, values, word, 15, card::PB, card::DI, card::D);
-    let sum = write_three(sum, s, values, word, 18, card::WI, card::W, card::VI);
-    let sum = write_three(sum, s, values, word, 21, card::VB, card::PW, card::W1);
-    let sum = write_three(sum, s, values, word, 24, card::W2, card::P, card::TI);
-    let sum = write_three(sum, s, values, word, 27, card::A, card::WB, card::DPT);
+    let sum = write_two(sum, s, values, word, 10, card::ST, card::QI);
+    let sum = write_two(sum, s, values, word, 12, card::DS, card::DC);
+    let sum = write_two(sum, s, values, word, 14, card::TC, card::PB);
+    let sum = write_two(sum, s, values, word, 16, card::DI, card::D);
+    let sum = write_two(sum, s, values, word, 18, card::WI, card::W);
     sum
 }
 
-fn write_31_to_45(sum: u64, s: &mut [u8], values: &[i64], word: u64) -> u64
+fn write_21_to_30(sum: u64, s: &mut [u8], values: &[i64], word: u64) -> u64
     requires { ⌜ (38 ≤ length (now s)) × Packable (now values) word × (sum < 1073741824) ⌝ }
-    ensures { λ r. ⌜ Wrote (now (values .entry)) word 30 15 (now (s .entry)) (now (s .exit)) sum r ⌝ }
+    ensures { λ r. ⌜ Wrote (now (values .entry)) word 20 10 (now (s .entry)) (now (s .exit)) sum r ⌝ }
 {
-    let sum = write_three(sum, s, values, word, 30, card::S, card::BI, card::C);
-    let sum = write_three(sum, s, values, word, 33, card::NH, card::CL, card::HI);
-    let sum = write_three(sum, s, values, word, 36, card::H, card::CM, card::CH);
-    let sum = write_three(sum, s, values, word, 39, card::WD, card::WP, card::WH);
-    let sum = write_three(sum, s, values, word, 42, card::SD, card::SP, card::SH);
+    let sum = write_two(sum, s, values, word, 20, card::VI, card::VB);
+    let sum = write_two(sum, s, values, word, 22, card::PW, card::W1);
+    let sum = write_two(sum, s, values, word, 24, card::W2, card::P);
+    let sum = write_two(sum, s, values, word, 26, card::TI, card::A);
+    let sum = write_two(sum, s, values, word, 28, card::WB, card::DPT);
+    sum
+}
+
+fn write_31_to_40(sum: u64, s: &mut [u8], values: &[i64], word: u64) -> u64
+    requires { ⌜ (38 ≤ length (now s)) × Packable (now values) word × (sum < 1073741824) ⌝ }
+    ensures { λ r. ⌜ Wrote (now (values .entry)) word 30 10 (now (s .entry)) (now (s .exit)) sum r ⌝ }
+{
+    let sum = write_two(sum, s, values, word, 30, card::S, card::BI);
+    let sum = write_two(sum, s, values, word, 32, card::C, card::NH);
+    let sum = write_two(sum, s, values, word, 34, card::CL, card::HI);
+    let sum = write_two(sum, s, values, word, 36, card::H, card::CM);
+    let sum = write_two(sum, s, values, word, 38, card::CH, card::WD);
+    sum
+}
+
+fn write_41_to_46(sum: u64, s: &mut [u8], values: &[i64], word: u64) -> u64
+    requires { ⌜ (38 ≤ length (now s)) × Packable (now values) word × (sum < 1073741824) ⌝ }
+    ensures { λ r. ⌜ Wrote (now (values .entry)) word 40 6 (now (s .entry)) (now (s .exit)) sum r ⌝ }
+{
+    let sum = write_two(sum, s, values, word, 40, card::WP, card::WH);
+    let sum = write_two(sum, s, values, word, 42, card::SD, card::SP);
+    let sum = write_two(sum, s, values, word, 44, card::SH, card::A6);
     sum
 }
 
@@ -280,10 +283,11 @@ fn write_fields(s: &mut [u8], values: &[i64], word: u64) -> u64
     requires { ⌜ (38 ≤ length (now s)) × Packable (now values) word ⌝ }
     ensures { λ r. ⌜ Carded (now (s .entry)) (now (s .exit)) (fielded (numbersOf (now (s .entry))) (given (now (values .entry)) word) 46) × (r ≡ total (given (now (values .entry)) word)) ⌝ }
 {
-    let sum = write_1_to_15(0, s, values, word);
-    let sum = write_16_to_30(sum, s, values, word);
-    let sum = write_31_to_45(sum, s, values, word);
-    write_field(sum, s, values, word, 45, card::A6)
+    let sum = write_1_to_10(0, s, values, word);
+    let sum = write_11_to_20(sum, s, values, word);
+    let sum = write_21_to_30(sum, s, values, word);
+    let sum = write_31_to_40(sum, s, values, word);
+    write_41_to_46(sum, s, values, word)
 }
 
 // Writes a card: RPTIN, the fields of the values that are present, their checksum, and the number of attachments.
