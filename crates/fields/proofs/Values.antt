@@ -59,7 +59,7 @@ coding-in f v c = go (inRange f v)
 
 module _ (b : List ℕ) (bs : Bytes b) (k : ℕ) (low : 1 ≤ k) (high : k ≤ 46) where
   -- it is that of the entry e: the buffer is the layout of the sheet with e
-  pub value-laid : (d : List ℕ) (e : Option Scaled) (c : Coded) → Accepted b → Bytes d → c ≡ codeOf (fieldAt k) e
+  value-laid : (d : List ℕ) (e : Option Scaled) (c : Coded) → Accepted b → Bytes d → c ≡ codeOf (fieldAt k) e
       → Carded b d (replaced b k (c .0)) → d ≡ layout b (size (sheetOf b)) (withValue (sheetOf b) k e)
   unfolding sheetOf
   value-laid d e c j bd is r =
@@ -96,7 +96,7 @@ module _ (b : List ℕ) (bs : Bytes b) (j : Accepted b) where
           ap (λ (l : List ℕ). getD l i 0) (sym (codes-back b)) ∙ codes-at table (entries table (codesOf b)) i (rw table-length h) in
           omega (arith, highest-le (i + 1) (omega arith) (omega arith), ap (λ (x : Field). x .highest) (field-is i))
 
-  pub sum-le : total (codesOf b) ≤ 4095 * 46
+  sum-le : total (codesOf b) ≤ 4095 * 46
   sum-le = rw (codes-length b) at (total-le 4095 (codesOf b) code-le)
 
 -- ---- the returns of the calls on fields, where k is a field
