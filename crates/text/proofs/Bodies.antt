@@ -5,6 +5,7 @@ use native.Mathlib.Omega.{arith}
 use native.Mathlib.Numerals.{add-one}
 use mathlib.Core.Path.{_≡_, refl, sym, ap, ap₂, subst, _∙_}
 use mathlib.Core.List.{List, [], _∷_, _++_, map, append-nil, map-append}
+use lib.Dec.{eqb}
 use lib.ListN.{length, getD, take, drop, length-append, length-take, length-drop, length-map}
 use lib.Seq.{take-suc, take-add, getD-drop, sets}
 use Rattle.format.specs.declared.TextState.{TextState}
@@ -15,6 +16,8 @@ use Rattle.format.specs.ShipText.{Symbol, plain, original, byteOf, spaces, text
 use Rattle.format.specs.Machine.{over}
 use Rattle.laws.proofs.ShipText.{read-append, end-append, credit, step-credit, read-length, bytes-spaces}
 use Rattle.text.specs.Answers.{held, word, bytesOf, Moved}
+use Rattle.text.specs.Rows.{place, next}
+use Rattle.text.proofs.Rows.{place-step, place-bound, place-end}
 use Rattle.text.proofs.Stores.{word-is, word-length, stores, stores-length, stores-over}
 
 -- ---- one step
@@ -127,6 +130,41 @@ module _ (v : List ℕ) (at : ℕ) where
         ∙ ap (map byteOf) (read-append ns (n ∷ []) (Between 0) ∙ ap (λ (l : List Symbol). xs ++ l) (append-nil ys))
         ∙ map-append byteOf xs ys)
 
+-- ---- the check
+
+-- the place after i nibbles
+pub record Stands (v : List ℕ) (at len p i : ℕ) : Type 0 where
+  pub inside : i ≤ len
+  pub place : p ≡ place (reached v at i)
+
+module _ (v : List ℕ) (at len : ℕ) where
+  pub stand-none : Stands v at len 4 0
+  unfolding place
+  stand-none = record { inside = omega arith; place = ap place (reached-none v at) }
+
+  pub stand-low : (p i : ℕ) → Stands v at len p i → p < 64
+  stand-low p i s = omega (arith, s .place, place-bound (reached v at i))
+
+  pub stand-end : (p i : ℕ) → Stands v at len p i → len ≤ i → eqb p 4 ≡ textValid (take len (drop at v))
+  unfolding reached textValid
+  stand-end p i s h =
+      let e : i ≡ len = omega (arith, s .inside) in
+      ap (λ (q : ℕ). eqb q 4) (s .place) ∙ place-end (reached v at i) ∙ ap (λ (k : ℕ). atEnd (reached v at k)) e
+
+  module _ (k : at + len ≤ length v) (p i : ℕ) (s : Stands v at len p i) where
+    pub stand-more : (n q : ℕ) → i < len → n ≡ getD v (at + i) 0 → q ≡ next p n → Stands v at len q (i + 1)
+    stand-more n q h e f = record {
+      inside = omega arith;
+      place = f ∙ ap (λ (x : ℕ). next x n) (s .place) ∙ sym (place-step (reached v at i) n) ∙ ap place (reached-more v at i n (omega arith) e);
+    }
+
+  pub stand-two : at + len ≤ length v → (p q r i m n : ℕ) → Stands v at len p i → i + 1 < len → m ≡ getD v (at + i) 0 → n ≡ getD v (at + i + 1) 0
+      → q ≡ next p m → r ≡ next q n → Stands v at len r (i + 2)
+  stand-two k p q r i m n s h e f g u =
+      let a : at + i + 1 ≡ at + (i + 1) = omega arith in
+      let b : i + 1 + 1 ≡ i + 2 = omega arith in
+      subst (Stands v at len r) b (stand-more k q (i + 1) (stand-more k p i s m q (omega arith) e g) n r h (f ∙ ap (λ (j : ℕ). getD v j 0) a) u)
+
 -- ---- the loops
 
 -- the state after i nibbles
@@ -140,12 +178,6 @@ module _ (v : List ℕ) (at len : ℕ) where
 
   pub pass-held : (st : TextState) (i : ℕ) → Passed v at len st i → held st ≤ 9 * len
   pass-held st i p = omega (arith, given-bound v at i, ap held (p .state), p .inside)
-
-  pub pass-end : (st : TextState) (i : ℕ) → Passed v at len st i → len ≤ i → atEnd st ≡ textValid (take len (drop at v))
-  unfolding reached textValid
-  pass-end st i p h =
-      let e : i ≡ len = omega (arith, p .inside) in
-      ap atEnd (p .state ∙ ap (reached v at) e)
 
   pub count-end : (i m : ℕ) → i ≤ len → len ≤ i → m ≡ length (given v at i) → m ≡ length (readText (take len (drop at v)))
   unfolding given

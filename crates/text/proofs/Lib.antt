@@ -1,4 +1,5 @@
 pub mod Codes
 pub mod Steps
+pub mod Rows
 pub mod Stores
 pub mod Bodies

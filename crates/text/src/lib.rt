@@ -1,12 +1,13 @@
 // The ship text of attachment 4: whether a body is valid, and the text of a body.
 ghost use mathlib.Core.Path.{_≡_};
 ghost use Prim.Native.Nat.{_+_, _*_, _≤_, _<_, _^_};
-ghost use lib.ListN.{length, set};
+ghost use lib.ListN.{length, getD};
 ghost use lib.Seq.{sets};
-ghost use Rattle.format.specs.ShipText.{charCode, pairByte, textStep, atEnd, textValid, readText};
+ghost use Rattle.format.specs.ShipText.{charCode, pairByte, textStep, textValid, readText};
 ghost use Rattle.format.specs.Machine.{over};
 ghost use Rattle.nibble.specs.View.{view, part};
 ghost use Rattle.text.specs.Answers.{held, word, Moved};
+ghost use Rattle.text.specs.Rows.{rows, next};
 use format::TextState;
 use format::TextStep;
 use nibble::Cursor;
@@ -189,18 +190,37 @@ fn advance(st: TextState, n: u8) -> Move
     }
 }
 
-// Whether a body may end here.
-fn at_end(st: TextState) -> bool
-    ensures { λ r. ⌜ r ≡ atEnd st ⌝ }
+// For each of sixteen states, four bits: the state after a nibble.
+fn row(n: u8) -> u64
+    ensures { λ r. ⌜ (r ≡ getD rows n 0) × (r < 2 ^ 62) ⌝ }
 {
-    match st {
-        TextState::Between(s) => s == 0,
-        TextState::Run(_) => false,
-        TextState::Pair(_, _) => false,
-        TextState::Escape(_) => false,
-        TextState::Half(_, _) => false,
-        TextState::Invalid => false,
+    match n {
+        0 => 0x1101_00f0_1141_1110,
+        1 => 0x1100_01f1_1141_1110,
+        2 => 0x1100_01a1_1141_1110,
+        3 => 0x1100_01b1_1141_1110,
+        4 => 0x1100_01c1_1141_1110,
+        5 => 0x1100_01d1_1141_1110,
+        6 => 0x1100_00f1_1141_1110,
+        7 => 0x1100_01e1_1141_1110,
+        8 => 0x1100_01f1_1141_1110,
+        9 => 0x1100_01f1_1141_1110,
+        10 => 0x1100_11f0_1140_4330,
+        11 => 0x1010_10f0_0140_0550,
+        12 => 0x1110_11f0_0046_6660,
+        13 => 0x1010_10f0_0047_7770,
+        14 => 0x1110_11f0_0048_8880,
+        15 => 0x1110_10f0_0029_9990,
+        _ => 0,
     }
+}
+
+// The state after a nibble, each as its place in a row.
+fn after(st: u64, n: u8) -> u64
+    requires { ⌜ st < 64 ⌝ }
+    ensures { λ r. ⌜ r ≡ next st n ⌝ }
+{
+    ((row(n) * 4) >> st) / 4 % 16 * 4
 }
 
 // Whether the writer gives these nibbles for some text.
@@ -210,15 +230,19 @@ pub fn valid(s: &[u8], c: Cursor, len: usize) -> bool
 {
     let at = c.at;
     let packed = c.packed;
-    let mut st = TextState::Between(0);
+    let mut st = 4;
     let mut i = 0;
-    while i < len {
-        let n = nibble::nibble_at(s, at + i, packed);
-        let m = advance(st, n);
-        st = m.to;
-        i += 1;
+    while i + 1 < len {
+        let m = nibble::nibble_at(s, at + i, packed);
+        let n = nibble::nibble_at(s, at + i + 1, packed);
+        st = after(after(st, m), n);
+        i += 2;
     }
-    at_end(st)
+    if i < len {
+        let n = nibble::nibble_at(s, at + i, packed);
+        return after(st, n) == 4;
+    }
+    st == 4
 }
 
 // The length of the text of a body.
