@@ -2,4 +2,5 @@ pub mod Codes
 pub mod Steps
 pub mod Rows
 pub mod Stores
+pub mod Reading
 pub mod Bodies

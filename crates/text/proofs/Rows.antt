@@ -16,7 +16,7 @@ use Rattle.format.specs.declared.TextStep.the-variants.{On, Plain, Original}
 use Rattle.format.specs.ShipText.{charCode, short, escapable, pairByte, textStep, stateAfter, atEnd}
 use Rattle.laws.proofs.Lists.{cond-case, test-case}
 use Rattle.laws.proofs.Characters.{allBelow, at-below, no-column, no-row}
-use Rattle.text.specs.Rows.{pairPlaces, halfPlaces, place, rows, next}
+use Rattle.text.specs.Rows.{pairPlaces, halfPlaces, place, rows, next, pairRows}
 use Rattle.text.proofs.Steps.{between-over, run-over, run-crowd, escape-over, half-over, half-large}
 
 -- the place behind a nibble
@@ -145,9 +145,6 @@ module _ (n : ℕ) (h : n < 16) where
 -- ---- a number over 15: invalid in any state
 
 module _ (n : ℕ) (h : 16 ≤ n) where
-  pub row-over : 0 ≡ getD rows n 0
-  row-over = sym (beyond rows n h)
-
   next-over : (p : ℕ) → next p n ≡ 0
   unfolding next
   next-over p = rw (beyond rows n h, zero-div (2 ^ p))
@@ -205,11 +202,39 @@ place-end (Escape s) = refl
 place-end (Half s h) = not-true _ (entry (λ p. not (eqb p 4)) halfPlaces refl refl h)
 place-end Invalid = refl
 
--- a match on a nibble hands its last arm what is none of 0 to m - 1
-abbrev pub None : ℕ → ℕ → Type 0
+-- ---- pairs
+
+abbrev inRow : ℕ → ℕ → ℕ
+inRow j n = getD pairRows n 0 / 2 ^ (j * 8) % 256
+
+all-pair-rows : allBelow 3 (λ j. allBelow 16 (λ n. eqb (inRow j n) (pairByte (j + 12) n))) ≡ true
+unfolding allBelow pairByte
+all-pair-rows = refl
+
+pub pair-row : (z n : ℕ) → 12 ≤ z → z ≤ 14 → getD pairRows n 0 / 2 ^ ((z - 12) * 8) % 256 ≡ pairByte z n
+pair-row z n h k =
+    let j : (z - 12) + 12 ≡ z = omega arith in
+    let low = at-below 3 (λ j. allBelow 16 (λ n. eqb (inRow j n) (pairByte (j + 12) n))) (z - 12) all-pair-rows (omega arith) in
+    test-case (ltb n 16)
+    (λ e. eqb-true _ _ (at-below 16 (λ n. eqb (inRow (z - 12) n) (pairByte ((z - 12) + 12) n)) n low (ltb-true n 16 e)) ∙ ap (λ (x : ℕ). pairByte x n) j)
+    (λ e.
+    let o : 16 ≤ n = ltb-false n 16 e in
+    let m : 12 ≤ n = omega arith in
+    rw (beyond pairRows n m, zero-div (2 ^ ((z - 12) * 8))) (sym (no-row z n o)))
+
+-- ---- the last arm of a match on a nibble
+
+-- none of 0 to m - 1
+abbrev None : ℕ → ℕ → Type 0
 None zero n = Unit {0}
 None (suc m) n = None m n × (n ≡ m → ⊥)
 
-pub none-le : (m n : ℕ) → None m n → m ≤ n
+none-le : (m n : ℕ) → None m n → m ≤ n
 none-le zero n r = omega arith
 none-le (suc m) n r = let h = none-le m n (r .0) in let e : n ≡ m → ⊥ = r .1 in omega arith
+
+pub beyond-rows : (n : ℕ) → None 16 n → 0 ≡ getD rows n 0
+beyond-rows n r = sym (beyond rows n (none-le 16 n r))
+
+pub beyond-pairs : (n : ℕ) → None 12 n → 0 ≡ getD pairRows n 0
+beyond-pairs n r = sym (beyond pairRows n (none-le 12 n r))

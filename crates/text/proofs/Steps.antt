@@ -1,16 +1,14 @@
--- One law for each answer of the functions that take a nibble.
+-- One law for each answer of `textStep`.
 -- Assumes nothing.
 use Prim.Native.Nat.{ℕ, _+_, _*_, _%_, _≤_, _<_}
 use native.Mathlib.Omega.{arith}
-use mathlib.Core.Path.{_≡_, refl, subst}
+use mathlib.Core.Path.{_≡_}
 use lib.Dec.{ltb}
 use borrow.Author.Tests.{lt-ltb, le-ltb, eq-eqb, ne-eqb}
-use Rattle.format.specs.declared.TextState.{TextState}
 use Rattle.format.specs.declared.TextState.the-variants.{Between, Run, Pair, Escape, Half, Invalid}
 use Rattle.format.specs.declared.TextStep.the-variants.{On, Plain, Original}
 use Rattle.format.specs.ShipText.{charCode, short, escapable, pairByte, textStep}
 use Rattle.laws.proofs.Lists.{test-case}
-use Rattle.text.specs.Answers.{held}
 
 -- ---- between two codes
 
@@ -93,17 +91,3 @@ half-short s h n v g k e l = rw (lt-ltb n 16 k, lt-ltb (h * 16 + n) 256 (omega a
 pub half-good : (s h n v : ℕ) → h < 16 → n < 16 → v ≡ charCode (h * 16 + n) → 256 ≤ v → Original s (h * 16 + n) ≡ textStep (Half s h) n
 unfolding textStep escapable short
 half-good s h n v g k e l = rw (lt-ltb n 16 k, lt-ltb (h * 16 + n) 256 (omega arith), ← e, le-ltb v 256 l)
-
--- ---- any state
-
-pub invalid-step : (n : ℕ) → On Invalid ≡ textStep Invalid n
-unfolding textStep
-invalid-step n = refl
-
-pub held-between : (st : TextState) (s m : ℕ) → st ≡ Between s → held st ≤ m → s ≤ m
-unfolding held
-held-between st s m e h = subst (λ (u : TextState). held u ≤ m) e h
-
-pub held-run : (st : TextState) (s m : ℕ) → st ≡ Run s → held st ≤ m → s ≤ m
-unfolding held
-held-run st s m e h = subst (λ (u : TextState). held u ≤ m) e h

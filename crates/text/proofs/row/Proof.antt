@@ -2,7 +2,7 @@
 -- Assumes nothing.
 use native.Mathlib.Omega.{arith}
 use borrow.Author.Needs.{needs}
-use Rattle.text.proofs.Rows.{none-le, row-over}
+use Rattle.text.proofs.Rows.{beyond-rows}
 use Rattle.text.proofs.row.Statement.{statement}
 use Rattle.text.proofs.row.Tie as tie
 
@@ -55,7 +55,7 @@ returns-16 : tie.Need-returns-16
 returns-16 c = search needs
 
 returns-17 : tie.Need-returns-17
-returns-17 c = (row-over _ (none-le 16 _ (c .match .rest)), omega arith)
+returns-17 c = (beyond-rows _ (c .match .rest), omega arith)
 
 pub row-spec : {M : Type 1} → statement M
 row-spec =
