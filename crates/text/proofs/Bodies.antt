@@ -1,4 +1,4 @@
--- What the reader has done after i nibbles of a body, and after one more.
+-- What the check and the reader have done after i nibbles of a body, and after more.
 -- Assumes nothing.
 use Prim.Native.Nat.{ℕ, _+_, _-_, _*_, _≤_, _<_}
 use native.Mathlib.Omega.{arith}
@@ -35,10 +35,6 @@ module _ (v : List ℕ) (at : ℕ) where
   reached-none : Between 0 ≡ reached v at 0
   unfolding reached endFrom
   reached-none = refl
-
-  given-none : [] ≡ given v at 0
-  unfolding given readText readFrom
-  given-none = refl
 
   -- nothing wraps
   given-bound : (i : ℕ) → length (given v at i) + held (reached v at i) ≤ 9 * i

@@ -3,24 +3,24 @@
 use Prim.Native.Nat.{ℕ, zero, suc, _+_, _*_, _%_, _≤_, _<_}
 use native.Mathlib.Omega.{arith}
 use native.Mathlib.Nat.{add-zero}
-use mathlib.Core.Path.{_≡_, refl, sym, ap, subst, _∙_}
-use mathlib.Core.Bool.{Bool, true, false, cond, _&&_}
+use mathlib.Core.Path.{_≡_, refl, sym, ap, _∙_}
+use mathlib.Core.Bool.{true, false, _&&_}
 use mathlib.Core.List.{List, [], _∷_, _++_, map, append-nil, map-append}
 use lib.Seq.{getD-drop}
 use lib.ListN.{length, getD, take, drop, replicate, length-append, length-drop, length-replicate, replicate-append-replicate}
 use lib.Dec.{ltb, eqb}
-use borrow.Author.Tests.{lt-ltb, le-ltb, eq-eqb, ne-eqb, eqb-true, eqb-false, ltb-true, ltb-false}
+use borrow.Author.Tests.{lt-ltb, le-ltb, ne-eqb, eqb-true, eqb-false, ltb-true, ltb-false}
 use Rattle.format.specs.declared.TextState.{TextState}
 use Rattle.format.specs.declared.TextState.the-variants.{Between, Run, Pair, Escape, Half, Invalid}
 use Rattle.format.specs.declared.TextStep.{TextStep}
-use Rattle.format.specs.declared.TextStep.the-variants.{On, Plain, Original}
+use Rattle.format.specs.declared.TextStep.the-variants.{On}
 use Rattle.format.specs.ShipText.{Symbol, plain, original, byteOf, spaces, escapable, pairByte, textStep, stateAfter, symbolsOf, readFrom, endFrom, atEnd}
 use Rattle.laws.proofs.Lists.{and-true, true-false, cond-case, test-case}
 use Rattle.laws.proofs.Characters.{paired}
 use Rattle.laws.proofs.ShipText.{invalid-refused, bytes-spaces, credit}
 use Rattle.text.specs.declared.Code.{Code}
 use Rattle.text.specs.Codes.{code, codeAt, Begins}
-use Rattle.text.proofs.Steps.{between-digit, between-space, between-crowd, between-run, between-pair, between-escape, between-over, escape-high, escape-over}
+use Rattle.text.proofs.Steps.{between-digit, between-space, between-crowd, between-run, between-pair, between-escape, between-over}
 
 -- of k nibbles at the head of l the code c is read behind w spaces
 pub record Taken (w k : ℕ) (l : List ℕ) (c : Code) : Type 0 where

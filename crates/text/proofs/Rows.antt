@@ -4,15 +4,15 @@ use Prim.Native.Nat.{ℕ, zero, suc, _+_, _-_, _*_, _/_, _%_, _^_, _≤_, _<_}
 use native.Mathlib.Omega.{arith}
 use native.Mathlib.Nat.{zero-div}
 use mathlib.Core.Path.{_≡_, refl, sym, ap, _∙_}
-use mathlib.Core.Bool.{Bool, true, false, cond, not, _&&_}
+use mathlib.Core.Bool.{Bool, true, false, not, _&&_}
 use mathlib.Core.List.{List, [], _∷_}
 use lib.ListN.{length, getD}
 use lib.Dec.{ltb, eqb}
-use borrow.Author.Tests.{lt-ltb, le-ltb, eq-eqb, ne-eqb, eqb-true, eqb-false, ltb-true, ltb-false, not-true}
+use borrow.Author.Tests.{lt-ltb, ne-eqb, eqb-true, eqb-false, ltb-true, ltb-false, not-true}
 use Rattle.format.specs.declared.TextState.{TextState}
 use Rattle.format.specs.declared.TextState.the-variants.{Between, Run, Pair, Escape, Half, Invalid}
 use Rattle.format.specs.declared.TextStep.{TextStep}
-use Rattle.format.specs.declared.TextStep.the-variants.{On, Plain, Original}
+use Rattle.format.specs.declared.TextStep.the-variants.{On}
 use Rattle.format.specs.ShipText.{charCode, short, escapable, pairByte, textStep, stateAfter, atEnd}
 use Rattle.laws.proofs.Lists.{cond-case, test-case}
 use Rattle.laws.proofs.Characters.{allBelow, at-below, no-column, no-row}

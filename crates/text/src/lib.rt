@@ -9,7 +9,7 @@ ghost use Rattle.format.specs.ShipText.{charCode, pairByte, textValid, readText
 ghost use Rattle.format.specs.Machine.{over};
 ghost use Rattle.nibble.specs.View.{view, part};
 ghost use Rattle.text.specs.Rows.{rows, next, pairRows};
-ghost use Rattle.text.specs.Codes.{codeAt, Begins};
+ghost use Rattle.text.specs.Codes.{code, codeAt, Begins};
 use nibble::Cursor;
 
 // ---- characters
@@ -131,6 +131,16 @@ struct Code {
     byte: u8,
 }
 
+fn coded(nibbles: usize, count: usize, byte: u8) -> Code
+    ensures { λ r. ⌜ r ≡ code nibbles count byte ⌝ }
+{
+    Code {
+        nibbles,
+        count,
+        byte,
+    }
+}
+
 // The code at a place.
 fn code_at(s: &[u8], at: usize, packed: bool) -> Code
     requires { ⌜ Begins (drop at (view packed (now s))) × (at ≤ 2 ^ 33) ⌝ }
@@ -138,40 +148,20 @@ fn code_at(s: &[u8], at: usize, packed: bool) -> Code
 {
     let n = nibble::nibble_at(s, at, packed);
     if n < 10 {
-        return Code {
-            nibbles: 1,
-            count: 1,
-            byte: 48 + n,
-        };
+        return coded(1, 1, 48 + n);
     }
     if n == 10 {
-        return Code {
-            nibbles: 1,
-            count: 1,
-            byte: 32,
-        };
+        return coded(1, 1, 32);
     }
     let m = nibble::nibble_at(s, at + 1, packed);
     if n == 11 {
-        return Code {
-            nibbles: 2,
-            count: m as usize + 3,
-            byte: 32,
-        };
+        return coded(2, m as usize + 3, 32);
     }
     if n < 15 {
-        return Code {
-            nibbles: 2,
-            count: 1,
-            byte: pair_byte(n, m),
-        };
+        return coded(2, 1, pair_byte(n, m));
     }
     let l = nibble::nibble_at(s, at + 2, packed);
-    Code {
-        nibbles: 3,
-        count: 1,
-        byte: m * 16 + l,
-    }
+    coded(3, 1, m * 16 + l)
 }
 
 // ---- the text of a valid body
