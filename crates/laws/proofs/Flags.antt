@@ -77,7 +77,7 @@ weights-le [] = omega arith
 weights-le (v ∷ vs) = omega (arith, weight-le v, weights-le vs)
 
 -- at most 43 of fourteen flags: two nibbles
-quality-le : (flags : List ℕ) → qualityCode flags ≤ 1 + 3 * length flags
+pub quality-le : (flags : List ℕ) → qualityCode flags ≤ 1 + 3 * length flags
 unfolding qualityCode
 quality-le flags =
     cond-case (λ (q : ℕ). q ≤ 1 + 3 * length flags) (allMissing flags) 0 (1 + totalWeight flags)

@@ -97,7 +97,7 @@ unfolding endFrom textStep stateAfter
 invalid-ends [] = refl
 invalid-ends (n ∷ ns) = invalid-ends ns
 
-invalid-refused : (ns : List ℕ) → atEnd (endFrom Invalid ns) ≡ false
+pub invalid-refused : (ns : List ℕ) → atEnd (endFrom Invalid ns) ≡ false
 unfolding atEnd
 invalid-refused ns = rw (invalid-ends ns)
 
@@ -711,3 +711,7 @@ text-all-nibbles t h = symbols-nibbles (map classify t) (bytes-fine t h)
 pub text-length : (t : List ℕ) → length (writeText t) ≤ 3 * length t
 unfolding writeText
 text-length t = omega (arith, costliest (map classify t), length-map t classify)
+
+pub read-text-length : (ns : List ℕ) → length (readText ns) ≤ 9 * length ns
+unfolding readText credit
+read-text-length ns = omega (arith, read-length ns (Between 0), length-map (readFrom (Between 0) ns) byteOf)
