@@ -4,56 +4,23 @@ use Prim.Native.Nat.{ℕ, _+_, _-_, _*_, _/_, _%_, _≤_, max}
 use native.Mathlib.Omega.{arith}
 use mathlib.Core.Path.{_≡_, refl, sym, ap, ap₂, _∙_}
 use mathlib.Core.List.{List, [], _∷_, _++_, append-assoc}
-use lib.ListN.{length, getD, take, drop, set, replicate, length-append, length-drop, length-replicate, take-append-drop, drop-of-length-le}
-use lib.Seq.{paste, paste-suc, take-paste, drop-paste, take-all, take-at, drop-at, take-take, take-add, drop-drop, drop-cons, take-append-le, drop-append-add, length-take-le}
-use Rattle.format.specs.Field.{table}
+use lib.ListN.{length, take, drop, set, length-append, length-drop, length-replicate}
+use lib.Seq.{paste, paste-suc, take-paste, drop-paste, take-all, take-at, drop-at, take-take, take-add, drop-drop, take-append-le, drop-append-add, length-take-le}
 use Rattle.format.specs.Bits.{readFields}
 use Rattle.format.specs.Nibbles.{Attachment, attachment, nibbles, attachmentNibbles, tailNibbles}
-use Rattle.format.specs.Sheet.{Sheet, widths, cardNumbers, size}
-use Rattle.format.specs.Report.{numbersOf, codesOf, tailOf, sheetOf, accepted, judge}
+use Rattle.format.specs.Sheet.{Sheet, widths, size}
+use Rattle.format.specs.Report.{numbersOf, tailOf, sheetOf}
 use Rattle.format.specs.Machine.{withAttachments}
 use Rattle.format.specs.Buffer.{zeros, layout}
 use Rattle.card.specs.Answers.{Carded}
 use Rattle.shift.proofs.Paste.{paste-two, laid-then}
-use Rattle.laws.proofs.Bits.{Bytes, uniform, uniform-append, readFields-append, length-writeFields, total-replicate}
-use Rattle.laws.proofs.Nibbles.{Nibbles, length-nibbles, bitsOf-nibbles}
-use Rattle.laws.proofs.Card.{total-widths, numbers-length}
-use Rattle.laws.proofs.Fields.{table-length, codes-entries, length-fair}
-use Rattle.laws.proofs.Report.{passes, judged, size-is}
+use Rattle.laws.proofs.Bits.{Bytes, uniform}
+use Rattle.laws.proofs.Nibbles.{Nibbles, length-nibbles}
+use Rattle.laws.proofs.Card.{front-numbers}
+use Rattle.laws.proofs.Fields.{table-length, length-fair}
+use Rattle.laws.proofs.Report.{judged, size-is, numbers-taken}
 use Rattle.laws.proofs.Laid.{layout-is, tail-taken, attachment-numbers}
 use Rattle.attachments.specs.Edit.{Resizable, clearedTo, resized, spliced, Edit}
-use Rattle.attachments.proofs.Place.{counted}
-
--- ---- the card
-
--- the numbers of a card are in its first 75 nibbles
-front-numbers : (b : List ℕ) → 38 ≤ length b → numbersOf b ≡ readFields widths (uniform 4 (take 75 (nibbles b)))
-front-numbers b long =
-    let n : List ℕ = nibbles b in
-    let l : length (take 75 (nibbles b)) ≡ 75 = length-take-le 75 (nibbles b) (omega (arith, length-nibbles b)) in
-    let m : length (uniform 4 (take 75 (nibbles b))) ≡ 4 * length (take 75 (nibbles b)) =
-    length-writeFields (replicate (length (take 75 (nibbles b))) 4) (take 75 (nibbles b)) ∙ total-replicate 4 (length (take 75 (nibbles b))) in
-    ap (readFields widths)
-    (bitsOf-nibbles b ∙ ap (uniform 4) (sym (take-append-drop 75 (nibbles b))) ∙ uniform-append 4 (take 75 (nibbles b)) (drop 75 (nibbles b)))
-    ∙ readFields-append widths (uniform 4 (take 75 (nibbles b))) (uniform 4 (drop 75 (nibbles b))) (omega (arith, total-widths))
-
--- 49 numbers are their parts
-parts : (l : List ℕ) → length l ≡ 49 → l ≡ getD l 0 0 ∷ (take 46 (drop 1 l) ++ (getD l 47 0 ∷ getD l 48 0 ∷ []))
-parts [] e = absurd (omega arith)
-parts (x ∷ l) e =
-    let n : length l ≡ 48 = omega arith in
-    let d : drop 46 l ≡ getD l 46 0 ∷ getD l 47 0 ∷ [] =
-    drop-cons l 46 0 (omega arith) ∙ ap (λ (m : List ℕ). getD l 46 0 ∷ m) (drop-cons l 47 0 (omega arith) ∙ ap (λ (m : List ℕ). getD l 47 0 ∷ m) (drop-of-length-le l {i = 48} (omega arith))) in
-    ap (λ (m : List ℕ). x ∷ m) (sym (take-append-drop 46 l) ∙ ap (λ (m : List ℕ). take 46 l ++ m) d)
-
--- the numbers on an accepted report's card are its sheet's
-numbers-taken : (b : List ℕ) (s : Sheet) → Bytes b → judge b ≡ accepted s → cardNumbers (sheetOf b) ≡ numbersOf b
-unfolding cardNumbers sheetOf
-numbers-taken b s bs j =
-    let p = passes b s j .0 in
-    let l : length (codesOf b) ≡ length table =
-    length-take-le 46 (drop 1 (numbersOf b)) (omega (arith, length-drop 1 (numbersOf b), numbers-length b)) ∙ sym table-length in
-    rw (codes-entries table (codesOf b) l, ← counted b s bs j, ← p .sum) (sym (parts (numbersOf b) (numbers-length b)))
 
 -- ---- nibbles replaced
 

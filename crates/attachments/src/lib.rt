@@ -202,26 +202,12 @@ fn put_nibbles(s: &mut [u8], id: usize, found: Report, content: &[u8]) -> Reply
     replace(s, place, 3 + al, end, count, id, content)
 }
 
-// Whether each byte is a nibble.
-fn all_nibbles(ns: &[u8]) -> bool
-    ensures { λ r. ⌜ r ≡ allNibbles (now (ns .entry)) ⌝ }
-{
-    let mut i = 0;
-    while i < ns.len() {
-        if 15 < ns[i] {
-            return false;
-        }
-        i += 1;
-    }
-    true
-}
-
 // Whether these bytes may stand under an id.
 fn content_valid(id: usize, content: &[u8]) -> bool
     requires { ⌜ length (now content) ≤ 255 ⌝ }
     ensures { λ r. ⌜ r ≡ allNibbles (now (content .entry)) && bodyValid id (now (content .entry)) ⌝ }
 {
-    if all_nibbles(content) {
+    if nibble::all_nibbles(content) {
         return tail::body_valid(
             content,
             Cursor {

@@ -13,8 +13,8 @@ use lib.ListN.{length, take, drop, getD, set, take-append-drop, length-append, l
 use lib.Pow.{pow-pos, pow-mono, pow-add, shl-exact, shl-lt, shr-lt, shr-shr, split, high, low}
 use lib.Seq.{drop-cons, length-take-le, getD-set-same, getD-set-other, take-set-le, drop-set-lt}
 use Rattle.format.specs.Bits.{bits, number, bitsOf, bitField, splice}
-use Rattle.laws.proofs.Bits.{Bytes, length-bits, number-bits, bits-mod, bits-add, length-bitsOf, bitsOf-append, mid-take, mid-splice}
-use Rattle.bits.specs.Window.{TwoBytes, pair, patched}
+use Rattle.laws.proofs.Bits.{Bytes, length-bits, number-bits, bits-mod, bits-add, length-bitsOf, bitsOf-append, mid-take, mid-splice, field-same, field-before, field-after, field-back}
+use Rattle.bits.specs.Window.{TwoBytes, FieldWritten, pair, patched}
 
 -- ---- the machine's shifts, at 64 bits
 
@@ -186,3 +186,9 @@ splice-pair s t at w v p bs bt h hv new stored =
     let et : bitsOf t ≡ x ++ (bits 16 (patched (pair s i) z w v) ++ y) = pair-bits t i bt (omega arith) ∙ cc in
     et ∙ sym (window-splice x y 16 (at % 8) w z (omega arith) (pair s i) (8 * i) v (front-bytes s i (omega arith)) hv)
     ∙ ap₂ (λ (b : List Bool) (o : ℕ). splice b o (bits w v)) (sym (pair-bits s i bs k)) a
+
+-- and so the bit-field law holds of it
+pub field-written : (s t : List ℕ) (at w v : ℕ) → TwoBytes (length s) at w → v < 2 ^ w → bitsOf t ≡ splice (bitsOf s) at (bits w v) → FieldWritten s t at w v
+field-written s t at w v h hv e =
+    let r : at + w ≤ 8 * length s = omega (arith, h .room, h .within) in
+    record { same = field-same s t at w v r e hv; before = field-before s t at w v r e; after = field-after s t at w v r e; back = field-back s t at w v r e }

@@ -3,7 +3,7 @@ ghost use mathlib.Core.Path.{_≡_};
 ghost use Prim.Native.Nat.{_+_, _*_, _/_, _%_, _≤_, _<_, _^_};
 ghost use lib.ListN.{length, set};
 ghost use Rattle.format.specs.Bits.{bits, bitsOf, bitField, splice};
-ghost use Rattle.bits.specs.Window.{TwoBytes, pair, patched};
+ghost use Rattle.bits.specs.Window.{TwoBytes, FieldWritten, pair, patched};
 
 // A byte as a number.
 pub fn wide(x: u8) -> u64
@@ -57,7 +57,7 @@ pub fn read(s: &[u8], at: usize, width: usize) -> u64
 pub fn write(s: &mut [u8], at: usize, width: usize, v: u64)
     requires { ⌜ TwoBytes (length (now s)) at width ⌝ }
     requires { ⌜ v < 2 ^ width ⌝ }
-    ensures { λ _. ⌜ (bitsOf (now (s .exit)) ≡ splice (bitsOf (now (s .entry))) at (bits width v)) × (length (now (s .exit)) ≡ length (now (s .entry))) ⌝ }
+    ensures { λ _. ⌜ (bitsOf (now (s .exit)) ≡ splice (bitsOf (now (s .entry))) at (bits width v)) × (length (now (s .exit)) ≡ length (now (s .entry))) × FieldWritten (now (s .entry)) (now (s .exit)) at width v ⌝ }
 {
     let i = at / 8;
     let n = patch(load(s, i), 16 - at % 8 - width, width, v);

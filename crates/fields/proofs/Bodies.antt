@@ -9,7 +9,6 @@ use mathlib.Core.List.{List, [], _∷_, _++_, append-assoc}
 use mathlib.Core.Option.{none}
 use lib.ListN.{length, getD, take, drop, set, length-append, length-set, length-drop, take-append-drop, List·getD-append}
 use lib.Seq.{length-take-le, take-at, drop-at, set-at, set-append-left, take-take, drop-drop, drop-cons, getD-drop, drop-set-add, take-set-lt}
-use lib.Dec.{eqb}
 use borrow.Author.Tests.{eq-eqb, ne-eqb, not-false, not-true}
 use Rattle.format.specs.Order.{Check, first, between}
 use Rattle.format.specs.Bits.{readFields}
@@ -21,20 +20,19 @@ use Rattle.format.specs.Machine.{Call, readFlag, setFlag, clearFlag, stands, pu
 use Rattle.format.specs.Buffer.{zeros, layout, after, effect}
 use Rattle.format.specs.Reply.{refusal, answerOf}
 use Rattle.format.specs.declared.Reply.the-variants.{Done, Flag, Missing}
-use Rattle.laws.proofs.Lists.{or-false, test-case}
-use Rattle.laws.proofs.Order.{first-nil, no-check}
-use Rattle.laws.proofs.Bits.{Bytes, uniform, uniform-append, total-replicate, length-writeFields, readFields-append}
-use Rattle.laws.proofs.Nibbles.{length-nibbles, bitsOf-nibbles}
-use Rattle.laws.proofs.Card.{total-widths}
+use Rattle.laws.proofs.Order.{between-in, first-nil, no-check}
+use Rattle.laws.proofs.Bits.{Bytes, uniform}
+use Rattle.laws.proofs.Nibbles.{length-nibbles}
+use Rattle.laws.proofs.Card.{front-numbers}
 use Rattle.laws.proofs.Flags.{flagFits, missing-fits, range-fits, valid-flags, flag-set-length, flag-set-valid, flag-set-nibbles}
 use Rattle.laws.proofs.Attachments.{FineAt, fine-nibbles, fine-size, tail-append, tail-length}
 use Rattle.laws.proofs.AttachmentEdits.{content-fine, put-fine, Placed, placed, put-placed, put-size, put-length}
-use Rattle.laws.proofs.Report.{size-is, judged, passes}
+use Rattle.laws.proofs.Report.{size-is, judged, passes, numbers-taken}
 use Rattle.laws.proofs.Laid.{layout-is, tail-taken}
 use Rattle.tail.specs.Walk.{placeOf}
+use Rattle.tail.proofs.Place.{absent-at, stands-at, place-is, around}
 use Rattle.fields.specs.Accepted.{Accepted, Found, flagged}
-use Rattle.fields.proofs.Calls.{Quiet, call-refuses, call-reads, call-stores, between-in, number-passes, quiet-read-flag, quiet-set-flag, quiet-clear-flag}
-use Rattle.fields.proofs.Values.{numbers-taken}
+use Rattle.fields.proofs.Calls.{Quiet, call-refuses, call-reads, call-stores, number-passes, quiet-read-flag, quiet-set-flag, quiet-clear-flag}
 
 -- ---- three nibbles stored
 
@@ -86,48 +84,6 @@ module _ (ns : List ℕ) (at j v : ℕ) (h : at + 16 ≤ length ns) (low : 1 ≤
       ∙ three-set (take at ns) (take 14 (drop at ns)) (drop (at + 16) ns) _ _ at (j - 1) v (q / 16) (q % 16) lp lf (omega arith)
       ∙ rw (fourteen, ← is) (ap (λ (l : List ℕ). take at ns ++ l) (sym (append-assoc (set f (j - 1) v) (q / 16 ∷ q % 16 ∷ []) (drop (at + 16) ns))))
 
--- ---- the place of an attachment
-
-past-step : (at : ℕ) (a : Attachment) (more : List Attachment)
-    → at + (3 + length (a .content)) + length (tailNibbles more) ≡ at + length (tailNibbles (a ∷ more))
-past-step at a more = omega (arith, tail-length a more)
-
-module _ (i : ℕ) where
-  place-none : (at : ℕ) (list : List Attachment) → stands i list ≡ false → placeOf at i list ≡ 0
-  unfolding stands placeOf
-  place-none at [] h = refl
-  place-none at (a ∷ more) h =
-      let p = or-false (eqb (a .id) i) (stands i more) h in
-      rw (p .0) (place-none (at + (3 + length (a .content))) more (p .1))
-
-  place-past : (at : ℕ) (before rest : List Attachment) → stands i before ≡ false
-      → placeOf at i (before ++ rest) ≡ placeOf (at + length (tailNibbles before)) i rest
-  unfolding stands placeOf
-  place-past at [] rest h = let e : at ≡ at + length (tailNibbles []) = unfold tailNibbles in omega arith in ap (λ (n : ℕ). placeOf n i rest) e
-  place-past at (a ∷ before) rest h =
-      let p = or-false (eqb (a .id) i) (stands i before) h in
-      rw (p .0) (place-past (at + (3 + length (a .content))) before rest (p .1) ∙ ap (λ (n : ℕ). placeOf n i rest) (past-step at a before))
-
-  place-is : (at : ℕ) {ns : List ℕ} {list : List Attachment} (p : Placed i ns list) → placeOf at i list ≡ at + length (tailNibbles (p .before))
-  unfolding placeOf
-  place-is at {ns} p = ap (placeOf at i) (p .splits) ∙ place-past at (p .before) (attachment i ns ∷ p .after) (p .clear) ∙ rw (eq-eqb i i refl)
-
-  -- the nibbles around a body
-  around : (xs ys : List Attachment) (ns : List ℕ)
-      → tailNibbles (xs ++ (attachment i ns ∷ ys)) ≡ tailNibbles xs ++ ((length ns / 16 ∷ length ns % 16 ∷ i ∷ []) ++ (ns ++ tailNibbles ys))
-  unfolding tailNibbles attachmentNibbles
-  around xs ys ns = tail-append xs (attachment i ns ∷ ys)
-
--- ---- the card of the same nibbles
-
-front-numbers : (b : List ℕ) → 38 ≤ length b → numbersOf b ≡ readFields widths (uniform 4 (take 75 (nibbles b)))
-front-numbers b h =
-    let l : length (take 75 (nibbles b)) ≡ 75 = length-take-le 75 (nibbles b) (rw length-nibbles (omega arith)) in
-    let m : length (uniform 4 (take 75 (nibbles b))) ≡ 300 =
-    length-writeFields _ (take 75 (nibbles b)) ∙ total-replicate 4 (length (take 75 (nibbles b))) ∙ ap (λ (n : ℕ). 4 * n) l in
-    ap (readFields widths) (bitsOf-nibbles b ∙ ap (uniform 4) (sym (take-append-drop 75 (nibbles b))) ∙ uniform-append 4 (take 75 (nibbles b)) (drop 75 (nibbles b)))
-    ∙ readFields-append widths (uniform 4 (take 75 (nibbles b))) (uniform 4 (drop 75 (nibbles b))) (rw (total-widths, m) (omega arith))
-
 -- ---- a body in the buffer
 
 -- a run of nibbles replaced
@@ -163,12 +119,12 @@ module _ (b : List ℕ) (i : ℕ) (bs : Bytes b) (j : Accepted b) (st : stands i
   header = length (content (sheetOf b) i) / 16 ∷ length (content (sheetOf b) i) % 16 ∷ i ∷ []
 
   split : nibbles b ≡ take 75 (nibbles b) ++ (tailNibbles (spot .before) ++ (header ++ (content (sheetOf b) i ++ (tailNibbles (spot .after) ++ rest))))
-  unfolding rest header
+  unfolding rest header attachmentNibbles
   split =
       sym (take-append-drop 75 (nibbles b))
       ∙ ap (λ (x : List ℕ). take 75 (nibbles b) ++ x)
       (tail-taken b (sheetOf b) bs j
-      ∙ ap (λ (x : List ℕ). x ++ rest) (ap tailNibbles (spot .splits) ∙ around i (spot .before) (spot .after) (content (sheetOf b) i))
+      ∙ ap (λ (x : List ℕ). x ++ rest) (around i spot)
       ∙ simp append-assoc)
 
   long : 38 ≤ length b
@@ -189,7 +145,7 @@ module _ (b : List ℕ) (i : ℕ) (bs : Bytes b) (j : Accepted b) (st : stands i
     content-laid : (d ns : List ℕ) → Bytes d → length d ≡ length b → FineAt (attachment i ns) → length ns ≡ length (content (sheetOf b) i)
         → nibbles d ≡ take (place + 3) (nibbles b) ++ (ns ++ drop (place + 3 + length ns) (nibbles b))
         → d ≡ layout b (size (sheetOf b)) (withContent (sheetOf b) i ns)
-    unfolding rest header
+    unfolding rest header tailNibbles attachmentNibbles
     content-laid d ns bd same fine l written =
         let s = sheetOf b in
         let t = withContent (sheetOf b) i ns in
@@ -204,9 +160,9 @@ module _ (b : List ℕ) (i : ℕ) (bs : Bytes b) (j : Accepted b) (st : stands i
         let card : numbersOf d ≡ cardNumbers t =
         front-numbers d (omega (arith, long))
         ∙ ap (λ (x : List ℕ). readFields widths (uniform 4 x)) (ap (take 75) nd ∙ take-at (take 75 (nibbles b)) _ 75 card-long)
-        ∙ sym (front-numbers b long) ∙ numbers-taken b bs j ∙ same-card s i ns (put-length spot ns) in
+        ∙ sym (front-numbers b long) ∙ sym (numbers-taken b s bs j) ∙ same-card s i ns (put-length spot ns) in
         let laid : tailNibbles (t .attachments) ≡ tb ++ (header ++ (ns ++ ta)) =
-        ap tailNibbles (put-placed spot ns) ∙ around i (spot .before) (spot .after) ns
+        ap tailNibbles (put-placed spot ns) ∙ tail-append (spot .before) (attachment i ns ∷ spot .after)
         ∙ ap (λ (n : ℕ). tb ++ ((n / 16 ∷ n % 16 ∷ i ∷ []) ++ (ns ++ ta))) l in
         let behind : tailOf d ≡ tailNibbles (t .attachments) ++ rest =
         ap (drop 75) nd ∙ drop-at (take 75 (nibbles b)) _ 75 card-long ∙ sym (ap (λ (x : List ℕ). x ++ rest) laid ∙ simp append-assoc) in
@@ -224,9 +180,7 @@ module _ (b : List ℕ) (bs : Bytes b) (place : ℕ) (f : Found b place) where
       → first before ≡ none → place ≡ 0 → after (refusal 11 0) b [] ≡ effect b c
   absent-refuses c q before split passed e =
       call-refuses b (sheetOf b) c q bs (f .report) before (standsCheck (sheetOf b) 1) [] split passed
-      (test-case (stands 1 (sheetOf b .attachments))
-      (λ y. absurd (omega (arith, f .is, place-is 1 75 (placed 1 (sheetOf b .attachments) y))))
-      (λ n. ap not n))
+      (ap not (absent-at 1 75 (sheetOf b .attachments) (omega arith) (sym (f .is) ∙ e)))
 
   -- 9: the value is not one of the ten
   pub value-refuses : (j v : ℕ) (t u : Bool) → t ≡ isFlag j → not t ≡ false → u ≡ between 1 10 v → not u ≡ true → after (refusal 9 j) b [] ≡ effect b (setFlag j v)
@@ -237,8 +191,7 @@ module _ (b : List ℕ) (bs : Bytes b) (place : ℕ) (f : Found b place) where
 
   module _ (there : place ≡ 0 → ⊥) where
     pub flags-stand : stands 1 (sheetOf b .attachments) ≡ true
-    flags-stand =
-        test-case (stands 1 (sheetOf b .attachments)) (λ y. y) (λ n. absurd (there (f .is ∙ place-none 1 75 (sheetOf b .attachments) n)))
+    flags-stand = stands-at 1 75 (sheetOf b .attachments) (λ e. there (f .is ∙ e))
 
     stands-passes : standsCheck (sheetOf b) 1 .fits ≡ false
     stands-passes = ap not flags-stand

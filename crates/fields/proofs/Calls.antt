@@ -1,6 +1,6 @@
 -- The returns of a call that is lent no output: refused by the report, refused by the call, read, stored.
 -- Assumes nothing.
-use Prim.Native.Nat.{ℕ, _+_, _≤_}
+use Prim.Native.Nat.{ℕ, _≤_}
 use native.Mathlib.Omega.{arith}
 use mathlib.Core.Path.{_≡_, refl, sym, ap, subst, _∙_}
 use mathlib.Core.Bool.{Bool, true, false, not}
@@ -8,8 +8,6 @@ use mathlib.Core.List.{List, [], _∷_, _++_, append-assoc}
 use mathlib.Core.Option.{Option, none}
 use lib.ListN.{length, drop, length-append}
 use lib.IntN.{ℤ}
-use lib.Dec.{leb}
-use borrow.Author.Tests.{leb-true, not-false}
 use Rattle.format.specs.Order.{Check, check, first, between}
 use Rattle.format.specs.Nibbles.{tailNibbles}
 use Rattle.format.specs.Sheet.{Sheet, packing, size}
@@ -18,7 +16,6 @@ use Rattle.format.specs.Machine.{Call, readField, setField, clearField, readFla
 use Rattle.format.specs.Buffer.{layout, after, effect}
 use Rattle.format.specs.Reply.{refusal}
 use Rattle.format.specs.declared.Scaled.{Scaled}
-use Rattle.laws.proofs.Lists.{and-true}
 use Rattle.laws.proofs.Order.{first-nil}
 use Rattle.laws.proofs.Bits.{Bytes}
 use Rattle.laws.proofs.Report.{size-is, judged}
@@ -73,11 +70,6 @@ module _ (b : List ℕ) (s : Sheet) (c : Call) (q : Quiet c) (bs : Bytes b) (j :
       (effect-done b s c bs j d [] passed room (rw (q .silent s, q .lends) (omega arith)) laid (rw (q .silent s, q .lends)))
 
 -- ---- a number within two ends
-
-pub between-in : (low high x : ℕ) (t : Bool) → t ≡ between low high x → not t ≡ false → (low ≤ x) × (x ≤ high)
-between-in low high x t e h =
-    let a = and-true (leb low x) (leb x high) (sym e ∙ not-false t h) in
-    (leb-true low x (a .0), leb-true x high (a .1))
 
 -- 8: the number is not within its two ends
 module _ (b : List ℕ) (s : Sheet) (c : Call) (q : Quiet c) (bs : Bytes b) (j : judge b ≡ Verdict.accepted s) where

@@ -2,41 +2,37 @@
 -- Assumes nothing.
 use Prim.Native.Nat.{ℕ, suc, _+_, _-_, _*_, _%_, _≤_, _<_}
 use native.Mathlib.Omega.{arith}
-use mathlib.Core.Path.{_≡_, refl, sym, ap, ap₂, _∙_}
+use mathlib.Core.Path.{_≡_, refl, sym, ap, _∙_}
 use mathlib.Core.Bool.{Bool, true, false, cond, not}
 use lib.Dec.{eqb}
 use borrow.Author.Tests.{eqb-true, eqb-false}
-use mathlib.Core.List.{List, [], _∷_, _++_, append-assoc}
+use mathlib.Core.List.{List, [], _∷_}
 use mathlib.Core.Option.{Option, none, some}
 use native.Mathlib.Decide.{decLt}
 use native.Mathlib.Nat.{mul-suc}
-use lib.ListN.{List·getD-eq-default, length, getD, take, drop, set, take-append-drop}
-use lib.Seq.{take-take, drop-drop, set-getD}
+use lib.ListN.{List·getD-eq-default, length, getD, set}
 use Rattle.format.specs.Bits.{total}
 use Rattle.format.specs.Field.{Field, table, fieldAt, isField, required, inRange, coded, scaledOf, codedOf, entryOf, codeOf, entries, codes}
-use Rattle.format.specs.Nibbles.{nibbles}
 use Rattle.format.specs.Sheet.{checksum, cardNumbers, size}
-use Rattle.format.specs.Report.{numbersOf, rptinOf, codesOf, checksumOf, countOf, tailOf, sheetOf}
+use Rattle.format.specs.Report.{codesOf, sheetOf}
 use Rattle.format.specs.Machine.{readField, setField, clearField, valueAt, withValue, valueNumber, fieldNumberCheck, valueCheck, requiredCheck, callChecks, next, gives, Answer}
 use Rattle.format.specs.Reply.{refusal, answerOf}
 use Rattle.format.specs.declared.Reply.the-variants.{Done, Value, Missing}
 use Rattle.format.specs.Buffer.{layout, after, effect}
 use Rattle.format.specs.declared.Coded.{Coded}
 use Rattle.format.specs.declared.Scaled.{Scaled}
-use Rattle.laws.proofs.Bits.{Bytes, drop-below}
-use Rattle.laws.proofs.Nibbles.{nibbles-lt}
+use Rattle.laws.proofs.Bits.{Bytes}
 use Rattle.laws.proofs.Fields.{table-length, codes-entries, fair-at, noField, codes-at}
-use Rattle.laws.proofs.Attachments.{checks-fine}
-use Rattle.laws.proofs.Report.{judged, passes}
+use Rattle.laws.proofs.Report.{judged, numbers-taken}
 use Rattle.laws.proofs.Laid.{field-laid, value-numbers, total-set}
-use Rattle.card.specs.Answers.{Carded, fielded, codingOf}
+use Rattle.card.specs.Answers.{Carded, codingOf}
 use Rattle.card.proofs.Rows.{row-is}
 use Rattle.card.proofs.Weights.{codes-length}
 use Rattle.card.proofs.Entries.{entry-missing, entry-there, entry-is, entries-length, field-is}
-use Rattle.card.proofs.Given.{coding-outside, coding-code, carded-whole}
+use Rattle.card.proofs.Given.{coding-outside, coding-code}
 use Rattle.card.specs.declared.Coding.the-variants.{Outside, Code}
-use Rattle.laws.proofs.Order.{first-nil, no-check}
-use Rattle.fields.proofs.Calls.{call-refuses, call-reads, call-stores, between-in, number-passes, quiet-read-field, quiet-set-field, quiet-clear-field}
+use Rattle.laws.proofs.Order.{between-in, first-nil, no-check}
+use Rattle.fields.proofs.Calls.{call-refuses, call-reads, call-stores, number-passes, quiet-read-field, quiet-set-field, quiet-clear-field}
 use Rattle.fields.specs.Accepted.{Accepted, Summed, replaced}
 
 -- the value of field k is the entry of its code
@@ -46,31 +42,8 @@ value-is b k c l h e =
     let at : k - 1 + 1 ≡ k = omega arith in
     entry-is b (k - 1) c (omega arith) e ∙ ap (λ (n : ℕ). entryOf (fieldAt n) c) at
 
--- ---- the numbers of an accepted card
-
-numbers-parts : (b : List ℕ) → numbersOf b ≡ rptinOf b ∷ (codesOf b ++ (checksumOf b ∷ countOf b ∷ []))
-numbers-parts b =
-    let whole : fielded (numbersOf b) (codesOf b) 46 ≡ numbersOf b =
-    append-assoc (take 1 (numbersOf b)) (take 46 (codesOf b)) (drop 47 (numbersOf b))
-    ∙ ap₂ (λ (x y : List ℕ). take 1 (numbersOf b) ++ (x ++ y)) (take-take 46 46 (drop 1 (numbersOf b)) (omega arith)) (sym (drop-drop 46 1 (numbersOf b)))
-    ∙ ap (λ (x : List ℕ). take 1 (numbersOf b) ++ x) (take-append-drop 46 (drop 1 (numbersOf b)))
-    ∙ take-append-drop 1 (numbersOf b) in
-    let sets : numbersOf b ≡ set (set (set (fielded (numbersOf b) (codesOf b) 46) 47 (checksumOf b)) 48 (countOf b)) 0 (rptinOf b) =
-    sym (ap (λ (x : List ℕ). set (set (set x 47 (checksumOf b)) 48 (countOf b)) 0 (rptinOf b)) whole
-    ∙ ap (λ (x : List ℕ). set (set x 48 (countOf b)) 0 (rptinOf b)) (set-getD (numbersOf b) 47 0)
-    ∙ ap (λ (x : List ℕ). set x 0 (rptinOf b)) (set-getD (numbersOf b) 48 0)
-    ∙ set-getD (numbersOf b) 0 0) in
-    carded-whole b b (codesOf b) (checksumOf b) (countOf b) (rptinOf b) (codes-length b) (record { card = sets; behind = refl; long = refl }) .card
-
 codes-back : (b : List ℕ) → codes table (entries table (codesOf b)) ≡ codesOf b
 codes-back b = codes-entries table (codesOf b) (codes-length b ∙ sym table-length)
-
-pub numbers-taken : (b : List ℕ) → Bytes b → Accepted b → numbersOf b ≡ cardNumbers (sheetOf b)
-unfolding cardNumbers sheetOf
-numbers-taken b bs j =
-    let p = passes b (sheetOf b) j .0 in
-    let w = checks-fine (countOf b) 1 [] (tailOf b) (drop-below 16 75 (nibbles b) (nibbles-lt b bs)) (p .attachments) in
-    numbers-parts b ∙ rw (codes-back b, w .count, ← p .sum) refl
 
 -- ---- the code of a value
 
@@ -94,7 +67,7 @@ module _ (b : List ℕ) (bs : Bytes b) (k : ℕ) (low : 1 ≤ k) (high : k ≤ 4
       let code : c .0 ≡ codeOf (fieldAt k) e .0 = ap (λ (x : Coded). x .0) is in
       let card : replaced b k (c .0) ≡ cardNumbers (withValue (sheetOf b) k e) =
       sym (value-numbers (sheetOf b) k e long low high
-      ∙ rw (← code, codes-back b, ← numbers-taken b bs j) refl) in
+      ∙ rw (← code, codes-back b, numbers-taken b (sheetOf b) bs j) refl) in
       field-laid b d (sheetOf b) (withValue (sheetOf b) k e) bs j refl bd (r .long) (r .card ∙ card) (r .behind)
 
 -- ---- the sum of the codes

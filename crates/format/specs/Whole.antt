@@ -81,15 +81,12 @@ abbrev pub unpacked : Answer → List ℤ → List ℕ → Unpacked
 unpacked a vs ns = record { answer = a; values = vs; tail = ns }
 
 -- the presence word, how many fields are present, RPTIN, AC, byte length, the tail's length
+abbrev pub contents : ℕ → ℕ → ℕ → ℕ → ℕ → ℕ → List (Option ℤ)
+contents word present rptin count size tail =
+    some (pos word) ∷ some (pos present) ∷ some (pos rptin) ∷ some (pos count) ∷ some (pos size) ∷ some (pos tail) ∷ []
+
 unfoldable pub unpackGives : Sheet → List (Option ℤ)
-unpackGives s =
-    some (pos (presence s))
-    ∷ some (pos (countPresent (s .values)))
-    ∷ some (pos (s .rptin))
-    ∷ some (pos (length (s .attachments)))
-    ∷ some (pos (size s))
-    ∷ some (pos (length (tail s)))
-    ∷ []
+unpackGives s = contents (presence s) (countPresent (s .values)) (s .rptin) (length (s .attachments)) (size s) (length (tail s))
 
 -- 13: "a lent buffer shorter than .. the output, or 46 values"
 abbrev pub unpackChecks : Sheet → List ℤ → List ℕ → List Check

@@ -3,7 +3,7 @@
 use Prim.Native.Nat.{ℕ, suc, _+_}
 use native.Mathlib.Omega.{arith}
 use mathlib.Core.Path.{_≡_, refl, sym, ap, subst, _∙_}
-use mathlib.Core.Bool.{true, false, _&&_, or-true}
+use mathlib.Core.Bool.{true, false, _&&_}
 use mathlib.Core.List.{List, [], _∷_, _++_, append-nil}
 use lib.ListN.{length, length-append}
 use lib.Dec.{eqb, leb}
@@ -64,13 +64,6 @@ remove-fine {seen} i (one {a = a} {more = more} at new f) =
     (λ e. fewer (λ x q. or-false (eqb x (a .id)) (among x seen) q .1) f)
     (λ e. one at new (remove-fine i f))
 
--- an id that was seen does not stand again
-pub stands-among : {seen : List ℕ} {list : List Attachment} (i : ℕ) → Fine seen list → among i seen ≡ true → stands i list ≡ false
-unfolding stands among
-stands-among i empty h = refl
-stands-among {seen} i (one {a = a} {more = more} at new f) h =
-    rw (ne-eqb (a .id) i (λ s. true-false (among i seen) h (rw s at new))) (stands-among i f (rw h (or-true (eqb i (a .id)))))
-
 -- the content of an attachment that stands
 pub content-fine : {seen : List ℕ} {list : List Attachment} (i : ℕ) → Fine seen list → stands i list ≡ true
     → FineAt (attachment i (contentOf i list))
@@ -80,73 +73,6 @@ content-fine i (one {a = a} {more = more} at new f) h =
     cond-case (λ (ns : List ℕ). FineAt (attachment i ns)) (eqb (a .id) i) (a .content) (contentOf i more)
     (λ e. subst (λ (k : ℕ). FineAt (attachment k (a .content))) (eqb-true (a .id) i e) at)
     (λ e. content-fine i f (rw e at h))
-
--- ---- what is read of id j alone: whether it stands, its content
-
-pub record Reads (j : ℕ) {B : Type 0} (f : List Attachment → B) : Type 0 where
-  pub past : (a : Attachment) (more : List Attachment) → eqb (a .id) j ≡ false → f (a ∷ more) ≡ f more
-  pub under : (a : Attachment) (xs ys : List Attachment) → f xs ≡ f ys → f (a ∷ xs) ≡ f (a ∷ ys)
-
-pub reads-stands : (j : ℕ) → Reads j (stands j)
-unfolding stands
-reads-stands j = record { past = λ a more e. rw e; under = λ a xs ys e. rw e }
-
-pub reads-content : (j : ℕ) → Reads j (contentOf j)
-unfolding contentOf
-reads-content j = record { past = λ a more e. rw e; under = λ a xs ys e. rw e }
-
-module _ {B : Type 0} {f : List Attachment → B} {j : ℕ} (reads : Reads j f) where
-  -- it is unchanged by an edit of another id
-  pub put-other : (i : ℕ) (ns : List ℕ) (list : List Attachment) → (i ≡ j → ⊥) → f (putIn i ns list) ≡ f list
-  unfolding putIn
-  put-other i ns [] ne = reads .past (attachment i ns) [] (ne-eqb i j ne)
-  put-other i ns (a ∷ more) ne =
-      cond-case (λ (l : List Attachment). f l ≡ f (a ∷ more)) (eqb (a .id) i) (attachment i ns ∷ more) (a ∷ putIn i ns more)
-      (λ e. reads .past (attachment i ns) more (ne-eqb i j ne) ∙ sym (reads .past a more (rw (eqb-true (a .id) i e) (ne-eqb i j ne))))
-      (λ e. reads .under a (putIn i ns more) more (put-other i ns more ne))
-
-  pub remove-other : (i : ℕ) (list : List Attachment) → (i ≡ j → ⊥) → f (removeFrom i list) ≡ f list
-  unfolding removeFrom
-  remove-other i [] ne = refl
-  remove-other i (a ∷ more) ne =
-      cond-case (λ (l : List Attachment). f l ≡ f (a ∷ more)) (eqb (a .id) i) more (a ∷ removeFrom i more)
-      (λ e. sym (reads .past a more (rw (eqb-true (a .id) i e) (ne-eqb i j ne))))
-      (λ e. reads .under a (removeFrom i more) more (remove-other i more ne))
-
-  -- it is found behind attachments of other ids
-  pub read-past : (before rest : List Attachment) → stands j before ≡ false → f (before ++ rest) ≡ f rest
-  unfolding stands
-  read-past [] rest h = refl
-  read-past (a ∷ before) rest h =
-      let p = or-false (eqb (a .id) j) (stands j before) h in
-      reads .past a (before ++ rest) (p .0) ∙ read-past before rest (p .1)
-
-  -- after a put it is what the attachment put has
-  put-read : (ns : List ℕ) (v : B) → ((more : List Attachment) → f (attachment j ns ∷ more) ≡ v)
-      → (list : List Attachment) → f (putIn j ns list) ≡ v
-  unfolding putIn
-  put-read ns v at [] = at []
-  put-read ns v at (a ∷ more) =
-      cond-case (λ (l : List Attachment). f l ≡ v) (eqb (a .id) j) (attachment j ns ∷ more) (a ∷ putIn j ns more)
-      (λ e. at more)
-      (λ e. reads .past a (putIn j ns more) e ∙ put-read ns v at more)
-
-pub content-put : (i : ℕ) (ns : List ℕ) (list : List Attachment) → contentOf i (putIn i ns list) ≡ ns
-unfolding contentOf
-content-put i ns list = put-read (reads-content i) ns ns (λ more. rw (eq-eqb i i refl)) list
-
-pub stands-put : (i : ℕ) (ns : List ℕ) (list : List Attachment) → stands i (putIn i ns list) ≡ true
-unfolding stands
-stands-put i ns list = put-read (reads-stands i) ns true (λ more. rw (eq-eqb i i refl)) list
-
--- what was removed stands no more
-pub stands-removed : {seen : List ℕ} {list : List Attachment} (i : ℕ) → Fine seen list → stands i (removeFrom i list) ≡ false
-unfolding removeFrom stands among
-stands-removed i empty = refl
-stands-removed i (one {a = a} {more = more} at new f) =
-    cond-case (λ (l : List Attachment). stands i l ≡ false) (eqb (a .id) i) more (a ∷ removeFrom i more)
-    (λ e. stands-among i f (rw (eq-eqb i (a .id) (sym (eqb-true (a .id) i e)))))
-    (λ e. rw e (stands-removed i f))
 
 -- ---- the place of an attachment
 
@@ -171,14 +97,10 @@ pub remove-past : (i : ℕ) (before rest : List Attachment) → stands i before 
 unfolding removeFrom
 remove-past i = edit-past i (removeFrom i) (λ a more e. rw e)
 
--- where its id does not stand, a put appends it and a removal changes nothing
+-- where its id does not stand, a put appends it
 pub put-absent : (i : ℕ) (ns : List ℕ) (list : List Attachment) → stands i list ≡ false → putIn i ns list ≡ list ++ (attachment i ns ∷ [])
 unfolding putIn
 put-absent i ns list h = rw append-nil at (put-past i ns list [] h)
-
-pub remove-absent : (i : ℕ) (list : List Attachment) → stands i list ≡ false → removeFrom i list ≡ list
-unfolding removeFrom
-remove-absent i list h = rw append-nil at (remove-past i list [] h)
 
 -- id i stands first behind some attachments, with this content
 pub record Placed (i : ℕ) (content : List ℕ) (list : List Attachment) : Type 0 where
@@ -208,14 +130,6 @@ module _ {i : ℕ} {content : List ℕ} {list : List Attachment} (p : Placed i c
   unfolding removeFrom
   remove-placed = rw (p .splits, remove-past i (p .before) (attachment i content ∷ p .after) (p .clear), eq-eqb i i refl)
 
-  pub content-placed : contentOf i list ≡ content
-  unfolding contentOf
-  content-placed = rw (p .splits, read-past (reads-content i) (p .before) (attachment i content ∷ p .after) (p .clear), eq-eqb i i refl)
-
-  pub stands-placed : stands i list ≡ true
-  unfolding stands
-  stands-placed = rw (p .splits, read-past (reads-stands i) (p .before) (attachment i content ∷ p .after) (p .clear), eq-eqb i i refl)
-
 -- ---- sizes
 
 tail-size : (xs ys : List Attachment) → length (tailNibbles (xs ++ ys)) ≡ length (tailNibbles xs) + length (tailNibbles ys)
@@ -228,16 +142,9 @@ module _ {i : ℕ} {content : List ℕ} {list : List Attachment} (p : Placed i c
   pub put-length : (ns : List ℕ) → length (putIn i ns list) ≡ length list
   put-length ns = rw (put-placed p ns, p .splits) (simp length-append)
 
-  pub remove-size : length (tailNibbles (removeFrom i list)) + (3 + length content) ≡ length (tailNibbles list)
-  remove-size = rw (remove-placed p, p .splits) (simp (tail-size, tail-length) (omega arith))
-
   pub remove-length : suc (length (removeFrom i list)) ≡ length list
   remove-length = rw (remove-placed p, p .splits) (simp length-append (omega arith))
 
 module _ (i : ℕ) (ns : List ℕ) (list : List Attachment) (absent : stands i list ≡ false) where
-  pub append-size : length (tailNibbles (putIn i ns list)) ≡ length (tailNibbles list) + (3 + length ns)
-  unfolding tailNibbles
-  append-size = rw (put-absent i ns list absent) (simp (tail-size, tail-length) (omega arith))
-
   pub append-length : length (putIn i ns list) ≡ suc (length list)
   append-length = rw (put-absent i ns list absent) (simp length-append (omega arith))

@@ -4,14 +4,14 @@
 use Prim.Native.Nat.{ℕ, zero, suc, _+_, _-_, _/_, _%_, _≤_, _<_}
 use native.Mathlib.Omega.{arith}
 use mathlib.Core.Path.{_≡_, refl, sym, ap, _∙_}
-use mathlib.Core.Bool.{Bool, true, false, cond, not, _||_}
+use mathlib.Core.Bool.{Bool, true, false, cond}
 use mathlib.Core.List.{List, [], _∷_, _++_, append-assoc, append-nil}
 use mathlib.Core.Option.{none}
 use lib.ListN.{length, getD, take, drop, length-append, take-append-drop}
-use lib.Seq.{take-at, drop-at, drop-append-seam, length-take-le, getD-drop}
-use lib.Dec.{ltb, leb, eqb}
+use lib.Seq.{take-at, drop-at, drop-append-seam, length-take-le}
+use lib.Dec.{leb, eqb}
 use borrow.Author.Tests.{le-ltb, le-leb, ne-eqb, ltb-false, leb-true, eqb-true, eqb-false, not-false}
-use Rattle.format.specs.Order.{Check, check, first}
+use Rattle.format.specs.Order.{first}
 use Rattle.format.specs.Nibbles.{Attachment, attachment, attachmentNibbles, tailNibbles, lengthAt, idAt, contentAt, behind, attachmentsOf, among}
 use Rattle.format.specs.Flags.{flagsValid}
 use Rattle.format.specs.Report.{bodyValid, attachmentChecks}
@@ -118,12 +118,6 @@ count-rest list m r h e =
     let e1 : m ≡ length list + k = omega arith in
     let e2 : countFrom (length list + k) (tailNibbles list ++ r) ≡ length list = rw e1 at e in
     count-none k r (omega arith) (omega (arith, count-from list k r))
-
--- different attachments have different tails
-pub tail-inj : (xs ys : List Attachment) → tailNibbles xs ≡ tailNibbles ys → xs ≡ ys
-tail-inj xs ys e =
-    let n = sym (tail-count xs) ∙ ap countIn e ∙ tail-count ys in
-    sym (tail-reads xs []) ∙ rw (e, n) (tail-reads ys [])
 
 -- ---- attachments that stand
 

@@ -1,7 +1,7 @@
 -- Laws of bits, numbers and fields, for every width.
 -- Assumes nothing.
 use Prim.Native.Nat.{ℕ, zero, suc, _+_, _-_, _*_, _/_, _%_, _^_, _≤_, _<_}
-use native.Mathlib.Nat.{add-assoc, add-comm, add-zero, le-min, le-of-suc-le-suc, lt-of-lt-of-le, min-le-left, mod-eq-of-lt, mod-lt, mod-one, mul-assoc, mul-suc, mul-zero, not-suc-le-zero, pow-succ', suc-add, suc-inj, zero-add, zero-lt-suc}
+use native.Mathlib.Nat.{add-assoc, add-comm, le-min, le-of-suc-le-suc, lt-of-lt-of-le, min-le-left, mod-eq-of-lt, mod-lt, mod-one, mul-assoc, mul-suc, mul-zero, not-suc-le-zero, pow-succ', suc-add, suc-inj, zero-add, zero-lt-suc}
 use native.Mathlib.Numerals.{add-one, one-add}
 use native.Mathlib.Omega.{arith}
 use mathlib.Core.Path.{_≡_, refl, sym, ap, ap₂, _∙_}
@@ -129,21 +129,6 @@ unfolding bitsOf
 bitsOf-append [] t = refl
 bitsOf-append (x ∷ s) t = rw (bitsOf-append s t) (sym (append-assoc (bits 8 x) (bitsOf s) (bitsOf t)))
 
--- bytes are known by how many they are and their bits
-pub bitsOf-inj : (s t : List ℕ) → Bytes s → Bytes t → length s ≡ length t → bitsOf s ≡ bitsOf t → s ≡ t
-unfolding bitsOf
-bitsOf-inj [] [] bs bt l e = refl
-bitsOf-inj [] (y ∷ t) bs bt l e = absurd (omega arith)
-bitsOf-inj (x ∷ s) [] bs bt l e = absurd (omega arith)
-bitsOf-inj (x ∷ s) (y ∷ t) bs bt l e =
-    let hx : bits 8 x ≡ bits 8 y =
-    sym (take-at (bits 8 x) (bitsOf s) 8 (length-bits 8 x)) ∙ ap (take 8) e ∙ take-at (bits 8 y) (bitsOf t) 8 (length-bits 8 y) in
-    let hs : bitsOf s ≡ bitsOf t =
-    sym (drop-at (bits 8 x) (bitsOf s) 8 (length-bits 8 x)) ∙ ap (drop 8) e ∙ drop-at (bits 8 y) (bitsOf t) 8 (length-bits 8 y) in
-    let hn : x % 256 ≡ y % 256 = sym (number-bits 8 x) ∙ ap number hx ∙ number-bits 8 y in
-    let xy : x ≡ y = omega (arith, bs 0, bt 0) in
-    ap₂ (λ (a : ℕ) (l : List ℕ). a ∷ l) xy (bitsOf-inj s t (λ i. bs (suc i)) (λ i. bt (suc i)) (suc-inj l) hs)
-
 -- ---- a run of bits within bits
 
 pub mid-take : (x y z : List Bool) (o w : ℕ) → length x ≡ o → length y ≡ w → take w (drop o (x ++ (y ++ z))) ≡ y
@@ -193,35 +178,6 @@ module _ (b f : List Bool) (o : ℕ) (within : o + length f ≤ length b) where
 
   pub splice-after : (p u : ℕ) → o + length f ≤ p → take u (drop p (splice b o f)) ≡ take u (drop p b)
   splice-after p u h = ap (take u) (drop-later (o + length f) p (splice b o f) b h drop-splice)
-
-  pub length-splice : length (splice b o f) ≡ length b
-  unfolding splice
-  length-splice = simp (length-append, length-take, length-drop) (omega arith)
-
-  -- a second write to the same bits hides the first
-  pub splice-splice : (g : List Bool) → length g ≡ length f → splice (splice b o f) o g ≡ splice b o g
-  unfolding splice
-  splice-splice g l =
-      mid-splice (take o b) f (drop (o + length f) b) g o length-front l
-      ∙ ap (λ (n : ℕ). take o b ++ (g ++ drop (o + n) b)) (sym l)
-
-  -- two runs, one behind the other, are written one after the other
-  pub splice-append : (g : List Bool) → splice b o (f ++ g) ≡ splice (splice b o f) (o + length f) g
-  unfolding splice
-  splice-append g =
-      let n : ℕ = o + length f in
-      let s : List Bool = take o b ++ (f ++ drop n b) in
-      let l : length (take o b ++ f) ≡ n = length-append (take o b) f ∙ ap (λ (m : ℕ). m + length f) length-front in
-      let t : take n s ≡ take o b ++ f = ap (take n) (sym (append-assoc (take o b) f (drop n b))) ∙ take-at (take o b ++ f) (drop n b) n l in
-      let d : drop (n + length g) s ≡ drop (n + length g) b = drop-later n (n + length g) s b (omega arith) drop-splice in
-      let e : o + length (f ++ g) ≡ n + length g = ap (λ (m : ℕ). o + m) (length-append f g) ∙ sym (add-assoc o (length f) (length g)) in
-      ap (λ (m : ℕ). take o b ++ ((f ++ g) ++ drop m b)) e
-      ∙ ap (λ (x : List Bool). take o b ++ x) (append-assoc f g (drop (n + length g) b))
-      ∙ sym (ap₂ (λ (x y : List Bool). x ++ (g ++ y)) t d ∙ append-assoc (take o b) f (g ++ drop (n + length g) b))
-
-pub splice-nil : (b : List Bool) (o : ℕ) → splice b o [] ≡ b
-unfolding splice
-splice-nil b o = rw add-zero (take-append-drop o b)
 
 -- what was read, written back, changes nothing
 pub splice-back : (b : List Bool) (o w : ℕ) → o + w ≤ length b → splice b o (take w (drop o b)) ≡ b
@@ -289,12 +245,6 @@ pub total-end : (x : List ℕ) (k : ℕ) → length x ≤ k → total (drop k x)
 unfolding total
 total-end x k h = ap total (drop-of-length-le x h)
 
-pub offset-step : (ws : List ℕ) (k : ℕ) → k < length ws → offset ws (suc k) ≡ offset ws k + getD ws k 0
-unfolding total
-offset-step [] k h = absurd (not-suc-le-zero h)
-offset-step (w ∷ ws) zero h = omega arith
-offset-step (w ∷ ws) (suc k) h = omega (arith, offset-step ws k (le-of-suc-le-suc h))
-
 -- field k ends within the fields
 pub offset-end : (ws : List ℕ) (k : ℕ) → k < length ws → offset ws k + getD ws k 0 ≤ total ws
 unfolding total
@@ -329,25 +279,6 @@ length-writeFields [] vs = refl
 length-writeFields (w ∷ ws) [] = rw (length-append, length-bits, length-writeFields ws [])
 length-writeFields (w ∷ ws) (v ∷ vs) = rw (length-append, length-bits, length-writeFields ws vs)
 
--- from field k on: field k, then from field k + 1 on
-pub writeFields-step : (ws vs : List ℕ) (k : ℕ) → k < length ws → k < length vs
-    → writeFields (drop k ws) (drop k vs) ≡ bits (getD ws k 0) (getD vs k 0) ++ writeFields (drop (suc k) ws) (drop (suc k) vs)
-unfolding writeFields
-writeFields-step ws vs k hw hv = ap₂ writeFields (drop-cons ws k 0 hw) (drop-cons vs k 0 hv)
-
--- a turn of a loop that writes field after field: t is s with field k written
-pub writeFields-turn : (ws vs s t : List ℕ) (k : ℕ) (fin : List Bool) → k < length ws → k < length vs → offset ws (suc k) ≤ 8 * length s
-    → bitsOf t ≡ splice (bitsOf s) (offset ws k) (bits (getD ws k 0) (getD vs k 0))
-    → splice (bitsOf s) (offset ws k) (writeFields (drop k ws) (drop k vs)) ≡ fin
-    → splice (bitsOf t) (offset ws (suc k)) (writeFields (drop (suc k) ws) (drop (suc k) vs)) ≡ fin
-writeFields-turn ws vs s t k fin hw hv room written e =
-    let f : List Bool = bits (getD ws k 0) (getD vs k 0) in
-    let n : offset ws (suc k) ≡ offset ws k + length f = rw length-bits (offset-step ws k hw) in
-    ap₂ (λ (b : List Bool) (m : ℕ). splice b m (writeFields (drop (suc k) ws) (drop (suc k) vs))) written n
-    ∙ sym (splice-append (bitsOf s) f (offset ws k) (rw (← n, length-bitsOf) room) (writeFields (drop (suc k) ws) (drop (suc k) vs)))
-    ∙ ap (splice (bitsOf s) (offset ws k)) (sym (writeFields-step ws vs k hw hv))
-    ∙ e
-
 -- what was written is read
 pub readFields-writeFields : (ws vs : List ℕ) (rest : List Bool) → length vs ≡ length ws → Fit ws vs → readFields ws (writeFields ws vs ++ rest) ≡ vs
 unfolding readFields writeFields
@@ -366,18 +297,6 @@ writeFields-readFields [] b h = refl
 writeFields-readFields (w ∷ ws) b h =
     rw (append-assoc, bits-number-take w b (omega arith), ← drop-drop (total ws) w b, writeFields-readFields ws (drop w b) (rw length-drop (omega arith)))
     (take-append-drop w b)
-
--- bits with the same fields, and the same behind them, are the same
-pub readFields-inj : (ws : List ℕ) (b c : List Bool) → total ws ≤ length b → total ws ≤ length c
-    → readFields ws b ≡ readFields ws c → drop (total ws) b ≡ drop (total ws) c → b ≡ c
-readFields-inj ws b c hb hc e r =
-    sym (writeFields-readFields ws b hb) ∙ ap₂ (λ (x : List ℕ) (y : List Bool). writeFields ws x ++ y) e r ∙ writeFields-readFields ws c hc
-
--- the numbers that were written at the front of bytes are read
-pub readFields-written : (ws vs s t : List ℕ) → bitsOf t ≡ splice (bitsOf s) 0 (writeFields ws vs) → length vs ≡ length ws → Fit ws vs
-    → readFields ws (bitsOf t) ≡ vs
-unfolding splice
-readFields-written ws vs s t written l f = rw written (readFields-writeFields ws vs _ l f)
 
 -- ---- a write to field k sets number k
 
@@ -463,12 +382,3 @@ module _ (w : ℕ) where
   pub uniform-back : (m : ℕ) (x : List ℕ) (rest : List Bool) → length x ≡ m → Below (2 ^ w) x → readFields (replicate m w) (uniform w x ++ rest) ≡ x
   uniform-back m x rest l h =
       rw (← l) (readFields-writeFields (replicate (length x) w) x rest (sym (length-replicate (length x) w)) (fit-uniform x h))
-
--- bytes are fields of eight bits
-pub bytes-written : (s : List ℕ) → bitsOf s ≡ uniform 8 s
-unfolding bitsOf writeFields
-bytes-written [] = refl
-bytes-written (x ∷ s) = ap (λ (l : List Bool). bits 8 x ++ l) (bytes-written s)
-
-pub bytes-fields : (s : List ℕ) → Bytes s → readFields (replicate (length s) 8) (bitsOf s) ≡ s
-bytes-fields s h = ap (readFields (replicate (length s) 8)) (bytes-written s ∙ sym (append-nil (uniform 8 s))) ∙ uniform-back 8 (length s) s [] refl h

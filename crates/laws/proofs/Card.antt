@@ -6,14 +6,14 @@ use mathlib.Core.Path.{_≡_, refl, sym, ap, _∙_}
 use mathlib.Core.Bool.{cond}
 use mathlib.Core.List.{List, [], _∷_, _++_, append-assoc}
 use lib.ListN.{length, take, drop, replicate, length-append, take-append-drop}
-use lib.Seq.{drop-at}
+use lib.Seq.{drop-at, length-take-le}
 use Rattle.format.specs.Bits.{bitsOf, total, readFields, writeFields}
 use Rattle.format.specs.Nibbles.{nibbles, bytes, odd, padded}
 use Rattle.format.specs.Field.{table}
 use Rattle.format.specs.Sheet.{widths}
 use Rattle.format.specs.Report.{numbersOf, tailOf}
-use Rattle.laws.proofs.Bits.{Bytes, Fit, append-below, length-bitsOf, length-readFields, length-writeFields, readFields-append, readFields-lt, readFields-writeFields, total-replicate, uniform-append, uniform-length, uniform-lt, uniform-read, writeFields-readFields}
-use Rattle.laws.proofs.Nibbles.{Nibbles, bitsOf-nibbles, nibbles-packed, readFields-nibbles}
+use Rattle.laws.proofs.Bits.{Bytes, Fit, append-below, length-bitsOf, length-readFields, length-writeFields, readFields-append, readFields-lt, readFields-writeFields, total-replicate, uniform, uniform-append, uniform-length, uniform-lt, uniform-read, writeFields-readFields}
+use Rattle.laws.proofs.Nibbles.{Nibbles, bitsOf-nibbles, length-nibbles, nibbles-packed, readFields-nibbles}
 
 -- ---- fields of any widths that make m whole nibbles
 
@@ -89,3 +89,13 @@ tail-back = behind-back widths 75
 pub card-front : (b : List ℕ) → Bytes b → 38 ≤ length b
     → nibbles b ≡ readFields (replicate 75 4) (writeFields widths (numbersOf b)) ++ tailOf b
 card-front b h l = front-back widths 75 total-widths b h (omega arith)
+
+-- the numbers of a card are in its first 75 nibbles
+pub front-numbers : (b : List ℕ) → 38 ≤ length b → numbersOf b ≡ readFields widths (uniform 4 (take 75 (nibbles b)))
+front-numbers b long =
+    let l : length (take 75 (nibbles b)) ≡ 75 = length-take-le 75 (nibbles b) (omega (arith, length-nibbles b)) in
+    let m : length (uniform 4 (take 75 (nibbles b))) ≡ 4 * length (take 75 (nibbles b)) =
+    length-writeFields (replicate (length (take 75 (nibbles b))) 4) (take 75 (nibbles b)) ∙ total-replicate 4 (length (take 75 (nibbles b))) in
+    ap (readFields widths)
+    (bitsOf-nibbles b ∙ ap (uniform 4) (sym (take-append-drop 75 (nibbles b))) ∙ uniform-append 4 (take 75 (nibbles b)) (drop 75 (nibbles b)))
+    ∙ readFields-append widths (uniform 4 (take 75 (nibbles b))) (uniform 4 (drop 75 (nibbles b))) (omega (arith, total-widths))

@@ -1,22 +1,21 @@
 -- What each return of each call leaves is its effect. The proofs of the calls cite these, one at each return.
 -- Assumes nothing.
-use Prim.Native.Nat.{ℕ, zero, suc, _+_, _-_, _*_, _/_, _≤_, _<_, max}
+use Prim.Native.Nat.{ℕ, _≤_}
 use native.Mathlib.Omega.{arith}
 use mathlib.Core.Path.{_≡_, refl, sym, ap, ap₂, _∙_}
-use mathlib.Core.Bool.{Bool, true, false, not, _&&_, _||_}
+use mathlib.Core.Bool.{true, false}
 use mathlib.Core.List.{List, [], _∷_, _++_}
 use mathlib.Core.Option.{Option, none, some}
 use lib.ListN.{length, drop, length-append}
-use lib.Dec.{ltb}
 use borrow.Author.Tests.{le-ltb}
 use Rattle.format.specs.Order.{Refusal, Check, first}
 use Rattle.format.specs.Sheet.{Sheet, packing, size}
 use Rattle.format.specs.Report.{Verdict, judge}
 use Rattle.format.specs.Machine.{Call, next, gives, lent, writes, roomCheck, callChecks, checks, Answer, Stepped, steppedBy, step, over}
-use Rattle.format.specs.Buffer.{layout, After, after, effectOn, effect}
+use Rattle.format.specs.Buffer.{layout, after, effect}
 use Rattle.laws.proofs.Order.{first-fits, first-append-skip, no-check, no-checks, first-nil}
 use Rattle.laws.proofs.Bits.{Bytes}
-use Rattle.laws.proofs.Report.{Taken, judged}
+use Rattle.laws.proofs.Report.{judged}
 use Rattle.laws.proofs.List.{layout-same}
 
 -- on a refused report

@@ -8,7 +8,7 @@ use mathlib.Core.Path.{_≡_, refl, sym, ap, ap₂, subst, _∙_}
 use mathlib.Core.Bool.{Bool, true, false, cond, _&&_, and-false}
 use mathlib.Core.List.{List, [], _∷_, map}
 use mathlib.Core.Option.{Option, none, some}
-use lib.ListN.{length, getD, drop, set, length-append, length-set, length-map, List·getD-append, List·getD-map}
+use lib.ListN.{length, getD, drop, set, length-set, length-map, List·getD-append, List·getD-map}
 use lib.Seq.{drop-cons, getD-set-same, getD-set-other}
 use lib.Dec.{T, ltb, leb, eqb, eqb→eq, leb·zero, leb·suc-zero, leb·suc-suc}
 use lib.IntN.{ℤ, pos, negsuc, sucℤ, predℤ, suc-pred, natAbs, _+ℤ_, _-ℤ_, +ℤ-sucℤ, +ℤ-idr, +ℤ-comm, +ℤ-negℤ-cancel, -ℤ-+ℤ-cancel}
@@ -182,10 +182,6 @@ unfolding codes entries
 entries-codes nil = refl
 entries-codes (cons h t) = ap₂ _∷_ (h .back) (entries-codes t)
 
--- fair entries are known by their codes
-pub values-inj : {fs : List Field} {es ds : List (Option Scaled)} → FairAll fs es → FairAll fs ds → codes fs es ≡ codes fs ds → es ≡ ds
-values-inj {fs} p q e = sym (entries-codes p) ∙ ap (entries fs) e ∙ entries-codes q
-
 pub codes-at : (fs : List Field) (es : List (Option Scaled)) (i : ℕ) → i < length fs
     → getD (codes fs es) i 0 ≡ codeOf (getD fs i noField) (getD es i none) .0
 unfolding codes codeOf
@@ -321,13 +317,6 @@ counts = right (agreeAll table document001) (eqb (length table) 46 && eqb (total
 
 pub table-length : length table ≡ 46
 table-length = eqb→eq (length table) 46 (left (eqb (length table) 46) (eqb (total widths) 300) counts)
-
-pub widths-total : total widths ≡ 300
-widths-total = eqb→eq (total widths) 300 (right (eqb (length table) 46) (eqb (total widths) 300) counts)
-
-pub widths-length : length widths ≡ 49
-unfolding widths
-widths-length = simp (length-append, length-map, table-length)
 
 pub field-at : (k : ℕ) → fieldAt k ≡ getD table (k - 1) noField
 unfolding fieldAt

@@ -5,13 +5,13 @@ use native.Mathlib.Omega.{arith}
 use native.Mathlib.Decide.{decLt}
 use mathlib.Core.Path.{_≡_, refl, sym, ap, subst, _∙_}
 use mathlib.Core.Bool.{Bool, true, false, cond, _&&_}
-use mathlib.Core.List.{List, [], _∷_, _++_}
-use lib.ListN.{length, getD, take, drop, set, length-append, length-take, length-set, take-append-drop, drop-of-length-le}
-use lib.Seq.{length-take-le, take-at, getD-append-add, getD-set-same, getD-set-other, getD-take, drop-cons}
+use mathlib.Core.List.{List, [], _∷_}
+use lib.ListN.{length, getD, take, set, length-append, length-set}
+use lib.Seq.{length-take-le, take-at, getD-append-add, getD-take}
 use lib.Dec.{eqb, leb}
 use borrow.Author.Tests.{leb-true, eqb-true, eq-eqb}
 use Rattle.format.specs.Order.{between}
-use Rattle.format.specs.Flags.{permitted, weights, weight, totalWeight, allMissing, qualityCode, flagInRange, flagsFit, flagAt, flagBody, withFlag, flagsValid}
+use Rattle.format.specs.Flags.{permitted, weights, weight, totalWeight, allMissing, qualityCode, flagInRange, flagsFit, flagBody, withFlag, flagsValid}
 use Rattle.laws.proofs.Lists.{and-true, cond-case}
 
 -- ---- what a flag may hold
@@ -142,23 +142,6 @@ valid-flags body e =
       quality = eqb-true (getD body 14 0 * 16 + getD body 15 0) (qualityCode (take 14 body)) (b .1);
     }
 
--- it is the body of its flags, and all nibbles, if its last element is one: 6 asks only for the sum of the last two
-pub valid-body : (body : List ℕ) → flagsValid body ≡ true → getD body 15 0 < 16 → body ≡ flagBody (take 14 body)
-unfolding flagBody
-valid-body body e h =
-    let v = valid-flags body e in
-    let high : getD body 14 0 ≡ qualityCode (take 14 body) / 16 = omega arith in
-    let low : getD body 15 0 ≡ qualityCode (take 14 body) % 16 = omega arith in
-    let end : drop 16 body ≡ [] = drop-of-length-le body {i = 16} (omega arith) in
-    let two : drop 14 body ≡ qualityCode (take 14 body) / 16 ∷ qualityCode (take 14 body) % 16 ∷ [] =
-    drop-cons body 14 0 (omega arith) ∙ rw (drop-cons body 15 0 (omega arith), high, low, end) in
-    sym (take-append-drop 14 body) ∙ ap (λ (l : List ℕ). take 14 body ++ l) two
-
-pub valid-nibbles : (body : List ℕ) → flagsValid body ≡ true → getD body 15 0 < 16 → (i : ℕ) → getD body i 0 < 16
-valid-nibbles body e h i =
-    let v = valid-flags body e in
-    rw (valid-body body e h) (body-nibbles (take 14 body) (length-take-le 14 body (omega arith)) (v .fit) i)
-
 -- ---- a flag set
 
 module _ (body : List ℕ) (j v : ℕ) where
@@ -169,23 +152,6 @@ module _ (body : List ℕ) (j v : ℕ) where
     pub flag-set-length : length (withFlag body j v) ≡ 16
     unfolding withFlag
     flag-set-length = body-length (set (take 14 body) (j - 1) v) (set-length l)
-
-    pub flag-set-flags : take 14 (withFlag body j v) ≡ set (take 14 body) (j - 1) v
-    unfolding withFlag
-    flag-set-flags = body-flags (set (take 14 body) (j - 1) v) (set-length l)
-
-    -- read back
-    pub flag-set-same : 1 ≤ j → j ≤ 14 → flagAt (withFlag body j v) j ≡ v
-    flag-set-same a b =
-        sym (getD-take 14 (withFlag body j v) (j - 1) 0 (omega arith))
-        ∙ rw flag-set-flags (getD-set-same (take 14 body) (j - 1) v 0 (omega (arith, length-take 14 body)))
-
-    -- the other flags are as they were
-    pub flag-set-other : (k : ℕ) → 1 ≤ j → 1 ≤ k → k ≤ 14 → (k ≡ j → ⊥) → flagAt (withFlag body j v) k ≡ flagAt body k
-    flag-set-other k a b c n =
-        sym (getD-take 14 (withFlag body j v) (k - 1) 0 (omega arith))
-        ∙ rw flag-set-flags (getD-set-other (take 14 body) (j - 1) (k - 1) v 0 (λ q. n (omega arith)))
-        ∙ getD-take 14 body (k - 1) 0 (omega arith)
 
   module _ (e : flagsValid body ≡ true) (a : 1 ≤ j) (f : flagFits j v ≡ true) where
     set-fit : flagsFit 1 (set (take 14 body) (j - 1) v) ≡ true

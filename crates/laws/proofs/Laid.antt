@@ -6,13 +6,12 @@ use mathlib.Core.Path.{_≡_, refl, sym, ap, ap₂, _∙_}
 use mathlib.Core.Bool.{Bool, true, false, cond}
 use mathlib.Core.List.{List, [], _∷_, _++_, append-assoc}
 use mathlib.Core.Option.{Option}
-use lib.ListN.{length, getD, take, drop, set, replicate, length-append, length-set, replicate-append-replicate}
+use lib.ListN.{length, getD, drop, set, replicate, length-append, length-set, replicate-append-replicate}
 use lib.Seq.{drop-at, set-at, set-append-left}
-use lib.Dec.{eqb}
 use borrow.Author.Tests.{eqb-true, eqb-false}
 use Rattle.format.specs.Field.{table, fieldAt, codes, codeOf}
 use Rattle.format.specs.Bits.{readFields, writeFields, total}
-use Rattle.format.specs.Nibbles.{Attachment, nibbles, padded, odd, tailNibbles}
+use Rattle.format.specs.Nibbles.{Attachment, nibbles, odd, tailNibbles}
 use Rattle.format.specs.Sheet.{Sheet, widths, checksum, cardNumbers, cardNibbles, packing, size}
 use Rattle.format.specs.Report.{numbersOf, tailOf, Verdict, judge}
 use Rattle.format.specs.Machine.{withValue, withAttachments}
@@ -23,7 +22,7 @@ use Rattle.laws.proofs.Nibbles.{Nibbles, nibbles-append, nibbles-drop, 
 use Rattle.laws.proofs.Card.{card-length, card-lt, card-front}
 use Rattle.laws.proofs.Fields.{noField, table-length, length-codes, codes-set}
 use Rattle.laws.proofs.Attachments.{fine-nibbles}
-use Rattle.laws.proofs.Report.{Good, size-is, size-range, Taken, judged}
+use Rattle.laws.proofs.Report.{size-is, size-range, judged}
 use Rattle.laws.proofs.List.{layout-same}
 
 -- ---- nibbles of a layout

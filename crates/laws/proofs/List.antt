@@ -1,34 +1,34 @@
 -- Demand 3 as a theorem about the definitions: any list of calls on one buffer, refused ones included, is what is claimed
 -- of it: the machine's answers, the packing of its sheet, zeros to the longest end reached, and the bytes beyond.
 -- Assumes nothing.
-use Prim.Native.Nat.{ℕ, zero, suc, _+_, _-_, _*_, _/_, _%_, _^_, _<_, _≤_, max}
+use Prim.Native.Nat.{ℕ, _+_, _-_, _≤_, max}
 use native.Mathlib.Omega.{arith}
-use mathlib.Core.Path.{_≡_, refl, sym, ap, ap₂, subst, _∙_}
-use mathlib.Core.Bool.{Bool, true, false, cond, not, _&&_, _||_}
-use mathlib.Core.List.{List, [], _∷_, _++_, map, append-assoc}
+use mathlib.Core.Path.{_≡_, refl, sym, ap, _∙_}
+use mathlib.Core.Bool.{true, false}
+use mathlib.Core.List.{List, [], _∷_, _++_, append-assoc}
 use mathlib.Core.Option.{Option, none, some}
-use lib.ListN.{length, getD, drop, set, replicate, length-append, length-drop, length-replicate, replicate-append-replicate, drop-of-length-le}
+use lib.ListN.{length, drop, set, length-append, length-drop, length-replicate, replicate-append-replicate, drop-of-length-le}
 use lib.Seq.{drop-drop}
-use lib.Dec.{ltb, leb, eqb}
-use borrow.Author.Tests.{ltb-false, leb-true, eqb-true, not-false}
-use Rattle.format.specs.Order.{Refusal, Check, check, first, between}
-use Rattle.format.specs.Field.{table, fieldAt, isField, required, inRange}
-use Rattle.format.specs.Nibbles.{Attachment, attachment}
-use Rattle.format.specs.Flags.{isFlag, flagInRange, withFlag}
+use lib.Dec.{ltb}
+use borrow.Author.Tests.{ltb-false, not-false}
+use Rattle.format.specs.Order.{Refusal, first}
+use Rattle.format.specs.Field.{fieldAt, required}
+use Rattle.format.specs.Nibbles.{attachment}
+use Rattle.format.specs.Flags.{withFlag}
 use Rattle.format.specs.ShipText.{writeText}
 use Rattle.format.specs.Sheet.{Sheet, sheet, packing, size}
 use Rattle.format.specs.Report.{Verdict, judge, bodyValid}
-use Rattle.format.specs.Machine.{Call, readField, setField, clearField, readFlag, setFlag, clearFlag, put, fetch, remove, putText, fetchText, withValue, withAttachments, withContent, content, next, gives, lent, writes, allNibbles, flagNumberCheck, idCheck, lengthCheck, contentCheck, standsCheck, roomCheck, callChecks, checks, Answer, Stepped, steppedBy, step, over}
-use Rattle.format.specs.Buffer.{zeros, layout, After, after, effectOn, effect, Shown, shown, Ran, calls, MachineRun, run, machineOn, refusals, claimOn, claim}
-use Rattle.laws.proofs.Lists.{and-true, or-false, drop-append, drop-replicate}
-use Rattle.laws.proofs.Order.{first-none, first-append-none}
+use Rattle.format.specs.Machine.{Call, readField, setField, clearField, readFlag, setFlag, clearFlag, put, fetch, remove, putText, fetchText, withValue, withContent, content, next, lent, writes, flagNumberCheck, idCheck, lengthCheck, contentCheck, standsCheck, roomCheck, callChecks, checks, Answer, steppedBy, step}
+use Rattle.format.specs.Buffer.{zeros, layout, after, effect, shown, Ran, calls, run, machineOn, refusals, claimOn, claim}
+use Rattle.laws.proofs.Lists.{or-false, drop-append, drop-replicate}
+use Rattle.laws.proofs.Order.{between-in, first-none, first-append-none}
 use Rattle.format.specs.declared.Scaled.{Scaled}
 use Rattle.laws.proofs.Bits.{Bytes}
 use Rattle.laws.proofs.Fields.{Fair, missing-fair, in-range-fair, fair-set, Present, present-some, present-none}
 use Rattle.laws.proofs.Flags.{flagFits, missing-fits, range-fits, valid-flags, flag-set-length, flag-set-valid, flag-set-nibbles}
 use Rattle.laws.proofs.Attachments.{FineAt}
 use Rattle.laws.proofs.AttachmentEdits.{put-fine, put-checked, remove-fine, content-fine}
-use Rattle.laws.proofs.Report.{Good, judge-packing, Taken, judged}
+use Rattle.laws.proofs.Report.{Good, judge-packing, judged}
 
 -- ---- layouts
 
@@ -96,11 +96,6 @@ pub record Kept (n : ℕ) (s : Sheet) : Type 0 where
   pub good : Good s
   pub fits : size s ≤ n
 
-between-in : (low high x : ℕ) → not (between low high x) ≡ false → (low ≤ x) × (x ≤ high)
-between-in low high x e =
-    let h = and-true (leb low x) (leb x high) (not-false _ e) in
-    (leb-true low x (h .0), leb-true x high (h .1))
-
 value-good : (s : Sheet) (k : ℕ) (e : Option Scaled) → Good s → Fair (fieldAt k) e → Present 1 (set (s .values) (k - 1) e) → Good (withValue s k e)
 unfolding fieldAt
 value-good s k e g f p = record { rptin = g .rptin; fair = fair-set (g .fair) (k - 1) e f; present = p; fine = g .fine }
@@ -117,7 +112,7 @@ flag-good : (s : Sheet) (j v : ℕ) → Good s → flagNumberCheck j .fits ≡ f
 unfolding bodyValid
 flag-good s j v g f h c =
     let old = content-fine 1 (g .fine) (not-false _ c) .valid in
-    let low = between-in 1 14 j f .0 in
+    let low = between-in 1 14 j _ refl f .0 in
     let long = flag-set-length (content s 1) j v (valid-flags (content s 1) old .long) in
     content-good s 1 (withFlag (content s 1) j v) g
     (record {
@@ -139,7 +134,7 @@ next-good s (setField k v) g e =
 next-good s (clearField k) g e =
     let c1 = first-none _ _ e in
     let c2 = first-none _ _ (c1 .1) in
-    let low = between-in 1 46 k (c1 .0) .0 in
+    let low = between-in 1 46 k _ refl (c1 .0) .0 in
     let at : 1 + (k - 1) ≡ k = omega arith in
     value-good s k none g (missing-fair (fieldAt k)) (present-none 1 (s .values) (k - 1) (ap required at ∙ c2 .0) (g .present))
 next-good s (readFlag j) g e = g

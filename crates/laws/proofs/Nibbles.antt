@@ -167,9 +167,6 @@ unfolding bitsOf nibbles writeFields
 bitsOf-nibbles [] = refl
 bitsOf-nibbles (x ∷ b) = rw (bitsOf-nibbles b, byte-bits x) (append-assoc (bits 4 (x / 16)) (bits 4 (x % 16)) _)
 
-pub bitsOf-written : (b : List ℕ) → bitsOf b ≡ writeFields (replicate (2 * length b) 4) (nibbles b)
-bitsOf-written b = bitsOf-nibbles b ∙ ap (λ (n : ℕ). writeFields (replicate n 4) (nibbles b)) (length-nibbles b)
-
 -- the first m nibbles of bytes, read as fields
 pub readFields-nibbles : (m : ℕ) (b : List ℕ) → Bytes b → m ≤ 2 * length b → readFields (replicate m 4) (bitsOf b) ≡ take m (nibbles b)
 readFields-nibbles m b h within =

@@ -1,12 +1,22 @@
 -- Laws of the order of refusals: the first that fits, over a check and over lists of checks.
 -- Assumes nothing.
-use Prim.Native.Nat.{ℕ}
+use Prim.Native.Nat.{ℕ, _≤_}
 use native.Mathlib.Omega.{arith}
-use mathlib.Core.Path.{_≡_, refl, _∙_}
-use mathlib.Core.Bool.{Bool, true, false, cond}
+use mathlib.Core.Path.{_≡_, refl, sym, _∙_}
+use mathlib.Core.Bool.{Bool, true, false, cond, not}
 use mathlib.Core.List.{List, [], _∷_, _++_}
 use mathlib.Core.Option.{Option, none, some}
-use Rattle.format.specs.Order.{Refusal, Check, first}
+use lib.Dec.{leb}
+use borrow.Author.Tests.{leb-true, not-false}
+use Rattle.format.specs.Order.{Refusal, Check, first, between}
+use Rattle.laws.proofs.Lists.{and-true}
+
+-- ---- a number within two ends
+
+pub between-in : (low high x : ℕ) (t : Bool) → t ≡ between low high x → not t ≡ false → (low ≤ x) × (x ≤ high)
+between-in low high x t e h =
+    let a = and-true (leb low x) (leb x high) (sym e ∙ not-false t h) in
+    (leb-true low x (a .0), leb-true x high (a .1))
 
 -- ---- one check before others
 

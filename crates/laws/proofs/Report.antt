@@ -1,6 +1,6 @@
 -- The laws of a report: a packing is accepted and shows its sheet; an accepted report is the packing of its sheet.
 -- Assumes nothing.
-use Prim.Native.Nat.{ℕ, zero, suc, _+_, _-_, _*_, _/_, _%_, _^_, _<_, _≤_}
+use Prim.Native.Nat.{ℕ, zero, suc, _+_, _*_, _/_, _%_, _^_, _<_, _≤_}
 use native.Mathlib.Omega.{arith}
 use mathlib.Core.Path.{_≡_, refl, sym, ap, ap₂, subst, _∙_}
 use mathlib.Core.Logic.{_↔_}
@@ -10,19 +10,19 @@ use mathlib.Core.Option.{Option, none, some}
 use native.Mathlib.Nat.{suc-inj}
 use lib.ListN.{length, getD, take, drop, replicate, length-map, length-append, length-drop, take-append-drop, drop-of-length-le}
 use lib.Seq.{take-at, getD-at, drop-cons, take-append-seam, getD-drop, length-take-le, getD-append-add, getD-append-seam}
-use lib.Dec.{ltb, leb, eqb}
-use borrow.Author.Tests.{lt-ltb, le-ltb, eq-eqb, ne-eqb, ltb-false, eqb-true, eqb-false, not-false}
-use Rattle.format.specs.Order.{Refusal, Check, check, first}
+use lib.Dec.{eqb}
+use borrow.Author.Tests.{le-ltb, eq-eqb, ne-eqb, ltb-false, eqb-true, not-false}
+use Rattle.format.specs.Order.{Refusal, first}
 use Rattle.format.specs.Field.{Field, table, entries, codes}
 use Rattle.format.specs.Bits.{readFields, writeFields}
 use Rattle.format.specs.Nibbles.{Attachment, nibbles, bytes, padded, odd, tailNibbles, attachmentsOf}
-use Rattle.format.specs.Sheet.{Sheet, sheet, widths, checksum, cardNumbers, cardNibbles, packing, size}
-use Rattle.format.specs.Report.{numbersOf, rptinOf, codesOf, checksumOf, countOf, tailOf, sheetOf, fieldChecks, attachmentChecks, tailLength, reportChecks, Verdict, refused, accepted, verdict, judge}
+use Rattle.format.specs.Sheet.{Sheet, widths, checksum, cardNumbers, cardNibbles, packing, size}
+use Rattle.format.specs.Report.{numbersOf, rptinOf, codesOf, checksumOf, countOf, tailOf, sheetOf, fieldChecks, attachmentChecks, tailLength, reportChecks, accepted, verdict, judge}
 use Rattle.laws.proofs.Lists.{true-false}
 use Rattle.laws.proofs.Order.{first-nil, no-check, no-checks, first-none, first-append-none}
-use Rattle.laws.proofs.Bits.{Bytes, Fit}
-use Rattle.laws.proofs.Nibbles.{Nibbles, length-nibbles, nibbles-lt, nibbles-bytes, nibbles-inj, nibbles-take, padded-is, padded-even, length-bytes, length-bytes-padded}
-use Rattle.laws.proofs.Card.{card-length, card-back, tail-back, card-front, numbers-fit, numbers-length}
+use Rattle.laws.proofs.Bits.{Bytes, Fit, append-below}
+use Rattle.laws.proofs.Nibbles.{Nibbles, length-nibbles, bytes-lt, padded-lt, nibbles-lt, nibbles-bytes, nibbles-inj, nibbles-take, padded-is, padded-even, length-bytes, length-bytes-padded}
+use Rattle.laws.proofs.Card.{card-length, card-lt, card-back, tail-back, card-front, numbers-fit, numbers-length}
 use Rattle.laws.proofs.Fields.{table-length, FairAll, Present, length-fair, length-codes, codes-entries, entries-codes, checks-fair, fair-checks, codes-fit, checksum-lt}
 use Rattle.laws.proofs.Attachments.{Fine, fine-checks, tail-reads, fine-nibbles, fine-count, fine-size, Walked, checks-fine}
 
@@ -71,6 +71,12 @@ size-is s =
     length-bytes-padded (cardNibbles s ++ tailNibbles (s .attachments))
     ∙ ap (λ (n : ℕ). (n + 1) / 2)
     (length-append (cardNibbles s) (tailNibbles (s .attachments)) ∙ ap (λ (n : ℕ). n + length (tailNibbles (s .attachments))) (card-length (cardNumbers s)))
+
+pub packing-bytes : (s : Sheet) → Good s → Bytes (packing s)
+unfolding packing
+packing-bytes s g =
+    bytes-lt _ (padded-lt (cardNibbles s ++ tailNibbles (s .attachments))
+    (append-below 16 (cardNibbles s) (tailNibbles (s .attachments)) (unfold cardNibbles in card-lt (cardNumbers s)) (fine-nibbles (g .fine))))
 
 -- an odd last nibble that is 0
 pad-none : (t : Bool) (ns q : List ℕ) → t && not (eqb (getD (ns ++ (cond t (0 ∷ []) [] ++ q)) (length ns) 0) 0) ≡ false
@@ -296,6 +302,14 @@ module _ (b : List ℕ) (bs : Bytes b) (p : Passed b) where
 
 pub judged : (b : List ℕ) (s : Sheet) → Bytes b → judge b ≡ accepted s → Taken b s
 judged b s bs e = let q = passes b s e in subst (Taken b) (q .1) (passed-taken b bs (q .0))
+
+-- the numbers on the card are its sheet's, and AC is the number of its attachments
+pub numbers-taken : (b : List ℕ) (s : Sheet) → Bytes b → judge b ≡ accepted s → cardNumbers (sheetOf b) ≡ numbersOf b
+numbers-taken b s bs e = numbers-same b bs (passes b s e .0)
+
+pub counted : (b : List ℕ) (s : Sheet) → Bytes b → judge b ≡ accepted s → countOf b ≡ length (sheetOf b .attachments)
+unfolding sheetOf
+counted b s bs e = sym (walked b bs (passes b s e .0) .count)
 
 -- ---- reports and sheets
 

@@ -7,9 +7,9 @@ use native.Mathlib.Numerals.{add-one}
 use mathlib.Core.Path.{_≡_, refl, sym, ap, ap₂, _∙_}
 use mathlib.Core.Bool.{Bool, true, false, cond, not, _&&_}
 use mathlib.Core.List.{List, [], _∷_, _++_, map, append-assoc, append-nil, map-append}
-use lib.ListN.{length, getD, replicate, length-append, length-replicate, length-map}
+use lib.ListN.{length, replicate, length-append, length-replicate, length-map}
 use lib.Dec.{ltb, leb, eqb}
-use borrow.Author.Tests.{ltb-true, eqb-true, eqb-false, leb-true, lt-ltb, le-ltb, le-leb, eq-eqb, ne-eqb, not-true}
+use borrow.Author.Tests.{ltb-true, eqb-true, eqb-false, lt-ltb, le-ltb, le-leb, eq-eqb, ne-eqb, not-true}
 use Rattle.format.specs.declared.TextState.{TextState}
 use Rattle.format.specs.declared.TextState.the-variants.{Between, Run, Pair, Escape, Half, Invalid}
 use Rattle.format.specs.declared.TextStep.{TextStep}
@@ -18,8 +18,6 @@ use Rattle.format.specs.ShipText.{charCode, short, pairByte, codeNibbles, Symbo
 use Rattle.format.specs.Machine.{allNibbles}
 use Rattle.laws.proofs.Lists.{and-true, true-false, cond-case, test-case}
 use Rattle.laws.proofs.Bits.{Bytes}
-use Rattle.laws.proofs.Nibbles.{Nibbles}
-use Rattle.laws.proofs.Attachments.{all-nibbles}
 use Rattle.laws.proofs.Characters.{Coded, a-digit, a-pair, coded, escape-code, code-bound, digit-code, paired}
 
 -- ---- symbols that a text may hold
@@ -102,11 +100,6 @@ invalid-ends (n ∷ ns) = invalid-ends ns
 pub invalid-refused : (ns : List ℕ) → atEnd (endFrom Invalid ns) ≡ false
 unfolding atEnd
 invalid-refused ns = rw (invalid-ends ns)
-
-pub invalid-gives : (ns : List ℕ) → readFrom Invalid ns ≡ []
-unfolding readFrom textStep stateAfter symbolsOf
-invalid-gives [] = refl
-invalid-gives (n ∷ ns) = invalid-gives ns
 
 -- from st the nibbles ns bring these symbols and leave the reader there
 record Reads (st : TextState) (ns : List ℕ) (xs : List Symbol) (to : TextState) : Type 0 where
@@ -708,35 +701,13 @@ shortest ns t h e =
     let r = strip-tail ns t h e in
     omega (arith, ap length (r .1), length-append (readText ns) (replicate (r .0) 32))
 
-front-bytes : (t u : List ℕ) → Bytes (t ++ u) → Bytes t
-front-bytes [] u h i = omega arith
-front-bytes (b ∷ t) u h zero = h 0
-front-bytes (b ∷ t) u h (suc i) = front-bytes t u (λ j. h (suc j)) i
-
--- it ends in no space
-pub no-trailing : (ns t : List ℕ) → textValid ns ≡ true → readText ns ≡ t ++ (32 ∷ []) → ⊥
-no-trailing ns t v e =
-    let h : Bytes t = front-bytes t (32 ∷ []) (λ i. rw (← e) (text-bytes ns v i)) in
-    let w : writeText t ≡ ns = sym (text-trailing t 1) ∙ ap writeText (sym e) ∙ text-back ns v in
-    omega (arith, shortest ns t h w, ap length e, length-append t (32 ∷ []))
-
 -- ---- nibbles and bounds
 
 pub text-all-nibbles : (t : List ℕ) → Bytes t → allNibbles (writeText t) ≡ true
 unfolding writeText
 text-all-nibbles t h = symbols-nibbles (map classify t) (bytes-fine t h)
 
-pub text-nibbles : (t : List ℕ) → Bytes t → Nibbles (writeText t)
-text-nibbles t h = all-nibbles (writeText t) (text-all-nibbles t h)
-
-pub valid-nibbles : (ns : List ℕ) → textValid ns ≡ true → allNibbles ns ≡ true
-valid-nibbles ns e = ap allNibbles (sym (text-back ns e)) ∙ text-all-nibbles (readText ns) (text-bytes ns e)
-
--- no text of m bytes takes over 3 m nibbles, and m nibbles give no text of over 9 m bytes
+-- no text of m bytes takes over 3 m nibbles
 pub text-length : (t : List ℕ) → length (writeText t) ≤ 3 * length t
 unfolding writeText
 text-length t = omega (arith, costliest (map classify t), length-map t classify)
-
-pub read-text-length : (ns : List ℕ) → length (readText ns) ≤ 9 * length ns
-unfolding readText credit
-read-text-length ns = omega (arith, read-length ns (Between 0), length-map (readFrom (Between 0) ns) byteOf)

@@ -21,14 +21,14 @@ use Rattle.format.specs.ShipText.{textStep, stateAfter, endFrom, atEnd, textVal
 use Rattle.format.specs.Sheet.{Sheet, packing, size}
 use Rattle.format.specs.Report.{bodyValid, attachmentChecks, Verdict, judge}
 use Rattle.format.specs.Machine.{Answer, valueCheck, withAttachments, allNibbles, over}
-use Rattle.format.specs.Whole.{freshSheet, freshChecks, fresh, valueOrZero, isPresent, presence, countPresent, tail, unpacked, unpackGives, unpackChecks, unpackedBy, unpack, bitAt, bitOutside, packChecks, entriesGiven, countIn, packSheet, packOrder, pack}
+use Rattle.format.specs.Whole.{contents, freshSheet, valueOrZero, isPresent, presence, countPresent, tail, unpacked, unpackGives, unpackChecks, unpackedBy, unpack, bitAt, bitOutside, packChecks, entriesGiven, countIn, packSheet, packOrder, pack}
 use Rattle.format.specs.declared.Scaled.{Scaled}
 use Rattle.laws.proofs.Lists.{true-false, cond-case}
 use Rattle.laws.proofs.Order.{first-nil, no-check, no-checks, first-none, first-append-none}
 use Rattle.laws.proofs.Bits.{Bytes}
 use Rattle.laws.proofs.Fields.{Fair, missing-fair, in-range-fair, fair-range, noField, FairAll, nil, cons, length-fair, fair-set, Present, table-length}
 use Rattle.laws.proofs.Attachments.{nibbles-all, all-nibbles, tail-reads, tail-count, Fine, empty, fine-checks, fine-nibbles, Walked, checks-fine, count-all}
-use Rattle.laws.proofs.Report.{report-is, Good, judge-packing, judged, size-is}
+use Rattle.laws.proofs.Report.{packing-bytes, report-is, Good, judge-packing, judged, size-is}
 use Rattle.laws.proofs.Presence.{presence-bit, presence-inside, Agrees, agrees-first, agrees-rest, given-back, word-back, count-ones}
 
 -- ---- the required fields
@@ -86,18 +86,6 @@ module _ (box10 year month x y : Scaled) where
   pub fresh-size : size (freshSheet box10 year month x y) ≡ 38
   unfolding freshSheet tailNibbles
   fresh-size = size-is (freshSheet box10 year month x y)
-
-  -- what fresh writes is a report with that sheet
-  pub fresh-judged : (out : List ℕ) → first (freshChecks (length out) box10 year month x y) ≡ none
-      → judge (fresh box10 year month x y out .out) ≡ Verdict.accepted (freshSheet box10 year month x y)
-  unfolding fresh freshChecks
-  fresh-judged out e =
-      let c1 = first-none _ _ e in
-      let c2 = first-none _ _ (c1 .1) in
-      let c3 = first-none _ _ (c2 .1) in
-      let c6 = first-none _ _ (c3 .1) in
-      let c7 = first-none _ _ (c6 .1) in
-      rw e (judge-packing (freshSheet box10 year month x y) _ (fresh-good (c1 .0) (c2 .0) (c3 .0) (c6 .0) (c7 .0)))
 
 -- ---- what pack has passed
 
@@ -364,14 +352,7 @@ module _ (values : List ℤ) (word rptin : ℕ) (ns out : List ℕ) (r : rptin <
   pub unpack-after-pack : (vs : List ℤ) (ts : List ℕ) → 46 ≤ length vs → length ns ≤ length ts
       → unpack (pack values word rptin ns out .out) vs ts
       ≡ unpacked
-      (Answer.accepted
-      (some (pos word)
-      ∷ some (pos (ones word))
-      ∷ some (pos rptin)
-      ∷ some (pos (countIn ns))
-      ∷ some (pos (size (packSheet values word rptin ns)))
-      ∷ some (pos (length ns))
-      ∷ []))
+      (Answer.accepted (contents word (ones word) rptin (countIn ns) (size (packSheet values word rptin ns)) (length ns)))
       (over (masked 1 word (take 46 values)) vs)
       (over ns ts)
   unfolding unpackGives
@@ -410,5 +391,13 @@ largest-good =
     let g = fresh-good (scaled (pos 1)) (scaled (pos 1900)) (scaled (pos 1)) (scaled (pos 0)) (scaled (pos 0)) refl refl refl refl refl in
     record { rptin = g .rptin; fair = g .fair; present = g .present; fine = largest-fine }
 
-pub largest-judged : judge (packing largest) ≡ Verdict.accepted largest
-largest-judged = rw append-nil at (judge-packing largest [] largest-good)
+-- "38 to 1853 bytes": both are reached
+pub least-reached : (b : List ℕ) × Bytes b × (s : Sheet) × (judge b ≡ Verdict.accepted s) × (size s ≡ 38)
+unfolding inRange fieldAt table
+least-reached =
+    let s : Sheet = freshSheet (scaled (pos 1)) (scaled (pos 1900)) (scaled (pos 1)) (scaled (pos 0)) (scaled (pos 0)) in
+    let g = fresh-good (scaled (pos 1)) (scaled (pos 1900)) (scaled (pos 1)) (scaled (pos 0)) (scaled (pos 0)) refl refl refl refl refl in
+    (packing s, packing-bytes s g, s, rw append-nil at (judge-packing s [] g), fresh-size _ _ _ _ _)
+
+pub most-reached : (b : List ℕ) × Bytes b × (s : Sheet) × (judge b ≡ Verdict.accepted s) × (size s ≡ 1853)
+most-reached = (packing largest, packing-bytes largest largest-good, largest, rw append-nil at (judge-packing largest [] largest-good), largest-size)

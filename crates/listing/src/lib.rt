@@ -41,11 +41,12 @@ fn put_signed(out: &mut [u8], at: usize, v: i64) -> usize
     requires { ⌜ Room (now out) at (signedDecimal v ++ (10 ∷ [])) ⌝ }
     ensures { λ r. ⌜ Puts (now (out .entry)) (now (out .exit)) at (signedDecimal v ++ (10 ∷ [])) r ⌝ }
 {
-    if v < 0 {
-        out[at] = 45;
-        return put_number(out, at + 1, (-1 - v) as u64 + 1, 10);
+    let n = words::unsigned_of(v);
+    if n < 9223372036854775808 {
+        return put_number(out, at, n, 10);
     }
-    put_number(out, at, v as u64, 10)
+    out[at] = 45;
+    put_number(out, at + 1, 18446744073709551615 - n + 1, 10)
 }
 
 // The line of field k by its coded number, none where it is missing.

@@ -1,20 +1,21 @@
 -- Laws of a buffer's nibbles, from a cursor on and n of them.
 -- Assumes nothing.
-use Prim.Native.Nat.{ℕ, zero, suc, _+_, _-_, _*_, _/_, _≤_, _<_}
+use Prim.Native.Nat.{ℕ, _+_, _-_, _*_, _/_, _≤_, _<_}
 use native.Mathlib.Nat.{add-zero}
 use native.Mathlib.Numerals.{add-one}
 use native.Mathlib.Omega.{arith}
 use mathlib.Core.Path.{_≡_, refl, sym, ap, ap₂, _∙_}
 use mathlib.Core.Bool.{Bool, true, false, cond}
-use mathlib.Core.List.{List, [], _∷_}
-use lib.ListN.{length, getD, take, drop, length-drop}
-use lib.Seq.{length-take-le, getD-take, getD-drop, take-take, drop-drop, drop-cons, take-nil}
+use mathlib.Core.List.{List}
+use lib.ListN.{length, getD, take, drop, length-drop, drop-of-length-le}
+use lib.Seq.{length-take-le, getD-take, getD-drop, take-take, drop-drop, drop-cons}
 use lib.Dec.{ltb, leb}
-use borrow.Author.Tests.{le-leb, leb-true, leb-false, lt-ltb, le-ltb, ltb-true, ltb-false}
+use borrow.Author.Tests.{le-leb, lt-leb, leb-true, leb-false, lt-ltb, le-ltb, ltb-true, ltb-false}
 use Rattle.format.specs.Nibbles.{lengthAt, idAt}
-use Rattle.laws.proofs.Bits.{Bytes, take-below, drop-below}
+use Rattle.format.specs.Machine.{allNibbles}
+use Rattle.laws.proofs.Bits.{drop-below}
 use Rattle.laws.proofs.Lists.{test-case}
-use Rattle.laws.proofs.Nibbles.{Nibbles, length-nibbles, nibbles-lt}
+use Rattle.laws.proofs.Nibbles.{Nibbles, length-nibbles}
 use Rattle.nibble.specs.View.{view, from, part, moved, stepAt, headerAt}
 use Rattle.nibble.specs.declared.Cursor.{Cursor}
 use Rattle.nibble.specs.declared.Step.the-variants.{Nibble}
@@ -23,9 +24,6 @@ use Rattle.nibble.specs.declared.Header.the-variants.{Head, Short}
 -- a packed buffer has two nibbles a byte, each below 16
 pub packed-length : (b : List ℕ) → length (view true b) ≡ 2 * length b
 packed-length b = length-nibbles b
-
-pub packed-nibbles : (b : List ℕ) → Bytes b → Nibbles (view true b)
-packed-nibbles b h = nibbles-lt b h
 
 -- a place is inside a packed buffer where its byte is
 pub packed-inside : (b : List ℕ) (at : ℕ) → ltb (at / 2) (length b) ≡ ltb at (length (view true b))
@@ -53,21 +51,8 @@ module _ (b : List ℕ) (c : Cursor) where
   pub part-take : (m n : ℕ) → m ≤ n → take m (part b c n) ≡ part b c m
   part-take m n h = take-take m n (from b c) h
 
-  -- the nibble at the cursor, and those behind it
-  pub part-cons : (n : ℕ) → c .at < length (view (c .packed) b) → part b c (suc n) ≡ getD (view (c .packed) b) (c .at) 0 ∷ part b (moved c 1) n
-  part-cons n h = ap (λ (l : List ℕ). take (suc n) l) (drop-cons (view (c .packed) b) (c .at) 0 h) ∙ rw (add-one (c .at))
-
   pub from-nibbles : Nibbles (view (c .packed) b) → Nibbles (from b c)
   from-nibbles h = drop-below 16 (c .at) (view (c .packed) b) h
-
-  pub part-nibbles : (n : ℕ) → Nibbles (view (c .packed) b) → Nibbles (part b c n)
-  part-nibbles n h = take-below 16 n (from b c) (from-nibbles h)
-
-drop-take : (m n : ℕ) (l : List ℕ) → drop m (take n l) ≡ take (n - m) (drop m l)
-drop-take zero n l = let e : n ≡ n - 0 = omega arith in ap (λ (k : ℕ). take k l) e
-drop-take (suc m) zero l = let e : 0 ≡ 0 - suc m = omega arith in ap (λ (k : ℕ). take k (drop (suc m) l)) e
-drop-take (suc m) (suc n) [] = sym (take-nil (suc n - suc m))
-drop-take (suc m) (suc n) (x ∷ l) = let e : n - m ≡ suc n - suc m = omega arith in drop-take m n l ∙ ap (λ (k : ℕ). take k (drop m l)) e
 
 -- what reading at a cursor answers
 module _ (b : List ℕ) (c k : Cursor) where
@@ -106,6 +91,17 @@ pub is-short : (b : List ℕ) (c : Cursor) → headerAt b c ≡ Short → length
 is-short b c e =
     leb-false (c .at + 3) (length (view (c .packed) b)) (cond-short (leb (c .at + 3) (length (view (c .packed) b))) (lengthAt (from b c)) (idAt (from b c)) (moved c 3) e)
 
--- k nibbles from place m on of n nibbles
-pub part-part : (b : List ℕ) (c : Cursor) (m k n : ℕ) → m + k ≤ n → take k (drop m (part b c n)) ≡ part b (moved c m) k
-part-part b c m k n h = ap (λ (l : List ℕ). take k l) (drop-take m n (from b c)) ∙ take-take k (n - m) (drop m (from b c)) (omega arith) ∙ ap (λ (l : List ℕ). take k l) (from-moved b c m)
+-- ---- bytes that are nibbles each, from place i on
+
+module _ (ns : List ℕ) (i : ℕ) where
+  pub nibble-over : i < length ns → 15 < getD ns i 0 → false ≡ allNibbles (drop i ns)
+  unfolding allNibbles
+  nibble-over h k = rw (drop-cons ns i 0 h, lt-leb (getD ns i 0) 15 k)
+
+  pub nibble-fine : i < length ns → getD ns i 0 ≤ 15 → allNibbles (drop (i + 1) ns) ≡ allNibbles (drop i ns)
+  unfolding allNibbles
+  nibble-fine h k = rw (drop-cons ns i 0 h, le-leb (getD ns i 0) 15 k, add-one)
+
+  pub nibbles-end : length ns ≤ i → true ≡ allNibbles (drop i ns)
+  unfolding allNibbles
+  nibbles-end h = ap allNibbles (sym (drop-of-length-le ns {i = i} h))

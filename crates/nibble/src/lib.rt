@@ -3,6 +3,7 @@ ghost use mathlib.Core.Path.{_≡_};
 ghost use Prim.Native.Nat.{_+_, _≤_, _<_, _^_};
 ghost use lib.Dec.{ltb};
 ghost use lib.ListN.{length, getD};
+ghost use Rattle.format.specs.Machine.{allNibbles};
 ghost use Rattle.nibble.specs.View.{view, stepAt, headerAt, moved, part};
 
 // A place, counted in nibbles. Packed: two nibbles a byte; else one a byte.
@@ -53,6 +54,20 @@ pub fn inside(s: &[u8], at: usize, packed: bool) -> bool
         return at / 2 < s.len();
     }
     at < s.len()
+}
+
+// Whether each byte is a nibble.
+pub fn all_nibbles(ns: &[u8]) -> bool
+    ensures { λ r. ⌜ r ≡ allNibbles (now (ns .entry)) ⌝ }
+{
+    let mut i = 0;
+    while i < ns.len() {
+        if 15 < ns[i] {
+            return false;
+        }
+        i += 1;
+    }
+    true
 }
 
 impl Cursor {

@@ -1,26 +1,27 @@
 -- Each outcome of judging, from the tests that led there; and what an outcome says of the report.
 -- Assumes nothing.
-use Prim.Native.Nat.{ℕ, _+_, _-_, _*_, _/_, _%_, _≤_, _<_}
+use Prim.Native.Nat.{ℕ, _+_, _*_, _/_, _%_, _≤_, _<_}
 use native.Mathlib.Omega.{arith}
-use mathlib.Core.Path.{_≡_, refl, sym, ap, ap₂, _∙_}
+use mathlib.Core.Path.{_≡_, refl, sym, ap, _∙_}
 use mathlib.Core.Bool.{Bool, true, false, cond, not, _&&_}
 use mathlib.Core.List.{List, [], _∷_, _++_}
 use mathlib.Core.Option.{Option, none, some}
 use lib.ListN.{length, getD, drop, length-append, length-drop}
 use lib.Seq.{getD-drop}
-use lib.Dec.{ltb, eqb}
+use lib.Dec.{eqb}
 use borrow.Author.Tests.{lt-ltb, le-ltb, eq-eqb, ne-eqb}
-use Rattle.format.specs.Order.{Refusal, Check, check, first}
+use Rattle.format.specs.Order.{Refusal, check, first}
 use Rattle.format.specs.Field.{table}
 use Rattle.format.specs.Bits.{total}
-use Rattle.format.specs.Nibbles.{Attachment, nibbles, odd, tailNibbles, attachmentsOf}
-use Rattle.format.specs.Sheet.{Sheet, checksum, size}
-use Rattle.format.specs.Report.{codesOf, checksumOf, countOf, tailOf, sheetOf, fieldChecks, attachmentChecks, tailLength, reportChecks, Verdict, refused, accepted, verdict, judge}
+use Rattle.format.specs.Nibbles.{nibbles, odd, tailNibbles, attachmentsOf}
+use Rattle.format.specs.Sheet.{checksum, size}
+use Rattle.format.specs.Report.{codesOf, checksumOf, countOf, tailOf, sheetOf, fieldChecks, attachmentChecks, tailLength, reportChecks, refused, accepted, verdict, judge}
 use Rattle.card.specs.Answers.{checkedOf, cardCheck}
 use Rattle.card.specs.declared.CardCheck.{CardCheck}
 use Rattle.tail.specs.Walk.{tailAt, walkedBy, walked}
 use Rattle.tail.specs.declared.Tail.{Tail}
 use Rattle.tail.specs.declared.Walked.{Walked}
+use Rattle.tail.proofs.Turns.{walked-refused, walked-ended}
 use Rattle.nibble.specs.declared.Cursor.{Cursor}
 use Rattle.laws.proofs.Order.{first-skip, first-fits, first-append-skip, first-append-some}
 use Rattle.laws.proofs.Bits.{Bytes, drop-below}
@@ -60,17 +61,6 @@ card-sum b w r is e = checked-sum (first (fieldChecks 1 table (codesOf b))) (tot
 -- the cursor behind the card
 abbrev pub behindCard : Cursor
 behindCard = record { at = 75; packed = true }
-
-walked-refused : (o : Option Refusal) (t : Tail) (n p : ℕ) → walkedBy o t ≡ Walked.Refused n p → o ≡ some (refusal n p)
-walked-refused none t n p e = let z : _≡_ {A = ℕ} 0 1 = cc in absurd (omega arith)
-walked-refused (some r) t n p e =
-    let a : r .number ≡ n = cc in
-    let b : r .place ≡ p = cc in
-    λ i. some (record { number = a i; place = b i })
-
-walked-ended : (o : Option Refusal) (t u : Tail) → walkedBy o t ≡ Walked.Ended u → (o ≡ none) × (u ≡ t)
-walked-ended none t u e = (refl, (cc))
-walked-ended (some r) t u e = let z : _≡_ {A = ℕ} 0 1 = cc in absurd (omega arith)
 
 module _ (b : List ℕ) (i n : ℕ) (w : Walked) (count : n ≡ countOf b) (is : w ≡ walked b behindCard n i) where
   whole : w ≡ walkedBy (first (attachmentChecks (countOf b) 1 [] (tailOf b))) (tailAt 75 i (attachmentsOf (countOf b) (tailOf b)))

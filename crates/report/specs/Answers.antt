@@ -1,22 +1,25 @@
 -- What judging a report answers.
 use Prim.Native.Nat.{ℕ, _+_, _≤_}
 use mathlib.Core.Path.{_≡_}
-use mathlib.Core.Bool.{cond, not, _&&_}
+use mathlib.Core.Bool.{Bool, true, false, cond, not, _&&_}
 use mathlib.Core.List.{List}
 use mathlib.Core.Option.{Option, none, some}
-use lib.ListN.{length, getD}
+use lib.ListN.{length, getD, take}
 use lib.Dec.{eqb}
 use Rattle.format.specs.Field.{table}
 use Rattle.format.specs.Order.{Refusal, first}
 use Rattle.format.specs.Bits.{total}
 use Rattle.format.specs.Nibbles.{Attachment, nibbles, odd, tailNibbles, attachmentsOf}
 use Rattle.format.specs.Sheet.{Sheet, size}
-use Rattle.format.specs.Report.{codesOf, countOf, tailOf, fieldChecks, reportChecks, Verdict, refused, accepted}
+use Rattle.format.specs.Report.{codesOf, countOf, tailOf, fieldChecks, reportChecks, Verdict, refused, accepted, judge}
+use Rattle.laws.proofs.Bits.{Bytes}
 use Rattle.format.specs.Machine.{contentOf}
 use Rattle.tail.specs.Walk.{placeOf}
 use Rattle.tail.specs.declared.Tail.{Tail}
 use Rattle.report.specs.declared.Judged.{Judged}
 use Rattle.report.specs.declared.Judged.the-variants.{Refused as JRefused, Accepted}
+use Rattle.report.specs.declared.Compared.{Compared}
+use Rattle.report.specs.declared.Compared.the-variants.{Refused as CRefused, Same, Different}
 use Rattle.report.specs.declared.Report.{Report}
 use Rattle.report.specs.declared.Inspected.{Inspected}
 use Rattle.report.specs.declared.Inspected.the-variants.{Refused, Fine}
@@ -25,6 +28,33 @@ use Rattle.report.specs.declared.Inspected.the-variants.{Refused, Fine}
 abbrev pub judgedOf : Verdict → Judged
 judgedOf (refused r) = JRefused (r .number) (r .place)
 judgedOf (accepted s) = Accepted (size s)
+
+-- b begins with an accepted report of n bytes
+abbrev pub Takes : List ℕ → ℕ → Type 0
+Takes b n = Accepted n ≡ judgedOf (judge b)
+
+-- "38 to 1853 bytes": an accepted report's size, and both are reached
+pub record Sizes (r : Judged) : Type 0 where
+  pub within : (n : ℕ) → r ≡ Accepted n → (38 ≤ n) × (n ≤ 1853)
+  pub least : (b : List ℕ) × Bytes b × (judgedOf (judge b) ≡ Accepted 38)
+  pub most : (b : List ℕ) × Bytes b × (judgedOf (judge b) ≡ Accepted 1853)
+
+-- two accepted reports: whether their sheets are the same
+abbrev pub sheetsCompared : Compared → Sheet → Sheet → Type 0
+sheetsCompared (CRefused n p) s t = ⊥
+sheetsCompared Same s t = s ≡ t
+sheetsCompared Different s t = s ≡ t → ⊥
+
+-- "two reports in the order lent": the refusal of the first that is refused, or whether their sheets are the same
+abbrev pub comparison : Compared → Verdict → Verdict → Type 0
+comparison c (refused r) w = c ≡ CRefused (r .number) (r .place)
+comparison c (accepted s) (refused r) = c ≡ CRefused (r .number) (r .place)
+comparison c (accepted s) (accepted t) = sheetsCompared c s t
+
+-- whether the first n bytes of both are the same
+pub record FrontCompared (r : Bool) (a b : List ℕ) (n : ℕ) : Type 0 where
+  pub same : r ≡ true → take n a ≡ take n b
+  pub other : r ≡ false → take n a ≡ take n b → ⊥
 
 -- what an accepted report shows on the way: the sum of its codes, AC, its end in nibbles, and the place and AL of id i
 abbrev pub reportOf : List ℕ → ℕ → List Attachment → Report

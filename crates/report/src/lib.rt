@@ -3,7 +3,7 @@ ghost use mathlib.Core.Path.{_≡_};
 ghost use Prim.Native.Nat.{_*_, _≤_};
 ghost use lib.ListN.{length};
 ghost use Rattle.format.specs.Report.{judge};
-ghost use Rattle.report.specs.Answers.{judgedOf, inspected, lastOf, FieldsPass};
+ghost use Rattle.report.specs.Answers.{judgedOf, Sizes, inspected, lastOf, FieldsPass, Takes, comparison, FrontCompared};
 use card::CardCheck;
 use nibble::Cursor;
 use tail::Tail;
@@ -91,11 +91,72 @@ pub fn inspect(s: &[u8], want: usize) -> Inspected
 
 // Judges the report that a buffer begins with.
 pub fn judge(s: &[u8]) -> Judged
-    ensures { λ r. ⌜ r ≡ judgedOf (judge (now (s .entry))) ⌝ }
+    ensures { λ r. ⌜ (r ≡ judgedOf (judge (now (s .entry)))) × Sizes r ⌝ }
 {
     let i = inspect(s, 0);
     match i {
         Inspected::Refused(n, p) => Judged::Refused(n, p),
         Inspected::Fine(r) => Judged::Accepted(r.end / 2 + r.end % 2),
+    }
+}
+
+// ---- two reports
+
+pub enum Compared {
+    // The refusal's number and place, of the first that is refused.
+    Refused(u8, usize),
+    Same,
+    Different,
+}
+
+// Whether the first n bytes of both are the same.
+fn same_front(a: &[u8], b: &[u8], n: usize) -> bool
+    requires { ⌜ (n ≤ length (now a)) × (n ≤ length (now b)) ⌝ }
+    ensures { λ r. ⌜ FrontCompared r (now (a .entry)) (now (b .entry)) n ⌝ }
+{
+    let mut i = 0;
+    while i < n {
+        if a[i] != b[i] {
+            return false;
+        }
+        i += 1;
+    }
+    true
+}
+
+// Compares two accepted reports of m and n bytes.
+fn compare(a: &[u8], m: usize, b: &[u8], n: usize) -> Compared
+    requires { ⌜ Takes (now a) m × Takes (now b) n ⌝ }
+    ensures { λ r. ⌜ comparison r (judge (now (a .entry))) (judge (now (b .entry))) ⌝ }
+{
+    if m != n {
+        return Compared::Different;
+    }
+    if same_front(a, b, m) {
+        return Compared::Same;
+    }
+    Compared::Different
+}
+
+// Compares the report that b begins with to an accepted one of m bytes.
+fn compare_second(a: &[u8], m: usize, b: &[u8]) -> Compared
+    requires { ⌜ Takes (now a) m ⌝ }
+    ensures { λ r. ⌜ comparison r (judge (now (a .entry))) (judge (now (b .entry))) ⌝ }
+{
+    let j = judge(b);
+    match j {
+        Judged::Refused(n, p) => Compared::Refused(n, p),
+        Judged::Accepted(n) => compare(a, m, b, n),
+    }
+}
+
+// Whether the reports that two buffers begin with are equal byte for byte, which they are exactly when their sheets are.
+pub fn same(a: &[u8], b: &[u8]) -> Compared
+    ensures { λ r. ⌜ comparison r (judge (now (a .entry))) (judge (now (b .entry))) ⌝ }
+{
+    let j = judge(a);
+    match j {
+        Judged::Refused(n, p) => Compared::Refused(n, p),
+        Judged::Accepted(m) => compare_second(a, m, b),
     }
 }

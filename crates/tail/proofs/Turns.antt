@@ -7,11 +7,12 @@ use native.Mathlib.Omega.{arith}
 use mathlib.Core.Path.{_≡_, refl, sym, ap, ap₂, _∙_}
 use mathlib.Core.Bool.{Bool, true, false, cond, _||_}
 use mathlib.Core.List.{List, [], _∷_}
+use mathlib.Core.Option.{Option, none, some}
 use lib.ListN.{length, drop, length-drop}
 use lib.Seq.{length-take-le}
 use lib.Dec.{eqb}
 use borrow.Author.Tests.{eqb-true, eqb-false, eq-eqb, ne-eqb}
-use Rattle.format.specs.Order.{first}
+use Rattle.format.specs.Order.{Refusal, first}
 use Rattle.format.specs.Nibbles.{Attachment, attachment, tailNibbles, attachmentsOf, lengthAt, contentAt, behind, among}
 use Rattle.format.specs.Report.{attachmentChecks}
 use Rattle.format.specs.Machine.{contentOf}
@@ -176,3 +177,16 @@ module _ (b : List ℕ) (c : Cursor) (count want : ℕ) (st : State) (i : ℕ) (
           passed = omega arith;
           rest = rw (add-one (i + 1)) (sym (from-fine b (here c st) (st .mask) (k .seen) want (st .place) (st .al) (count - (i + 1)) (i + 1) (k .marks) a d e) ∙ (rw left at (k .rest)));
         }
+
+-- ---- what an answer says
+
+pub walked-refused : (o : Option Refusal) (t : Tail) (n p : ℕ) → walkedBy o t ≡ Refused n p → o ≡ some (record { number = n; place = p })
+walked-refused none t n p e = let z : _≡_ {A = ℕ} 0 1 = cc in absurd (omega arith)
+walked-refused (some r) t n p e =
+    let a : r .number ≡ n = cc in
+    let b : r .place ≡ p = cc in
+    λ i. some (record { number = a i; place = b i })
+
+pub walked-ended : (o : Option Refusal) (t u : Tail) → walkedBy o t ≡ Ended u → (o ≡ none) × (u ≡ t)
+walked-ended none t u e = (refl, (cc))
+walked-ended (some r) t u e = let z : _≡_ {A = ℕ} 0 1 = cc in absurd (omega arith)

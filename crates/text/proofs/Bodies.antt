@@ -4,6 +4,7 @@ use Prim.Native.Nat.{ℕ, _+_, _-_, _*_, _≤_, _<_}
 use native.Mathlib.Omega.{arith}
 use native.Mathlib.Numerals.{add-one}
 use mathlib.Core.Path.{_≡_, refl, sym, ap, ap₂, subst, _∙_}
+use mathlib.Core.Bool.{Bool}
 use mathlib.Core.List.{List, [], _∷_, _++_, map, append-nil, map-append}
 use lib.ListN.{length, getD, take, drop, length-append, length-take, length-drop, length-map}
 use lib.Seq.{take-suc, take-add, getD-drop, sets}
@@ -13,8 +14,9 @@ use Rattle.format.specs.declared.TextStep.{TextStep}
 use Rattle.format.specs.declared.TextStep.the-variants.{On, Plain, Original}
 use Rattle.format.specs.ShipText.{Symbol, plain, original, byteOf, spaces, textStep, stateAfter, symbolsOf, readFrom, endFrom, atEnd, textValid, readText}
 use Rattle.format.specs.Machine.{over}
-use Rattle.laws.proofs.ShipText.{read-append, end-append, credit, step-credit, read-length, bytes-spaces}
-use Rattle.text.specs.Answers.{held, word, bytesOf, Moved}
+use Rattle.laws.proofs.Lists.{true-false}
+use Rattle.laws.proofs.ShipText.{read-append, end-append, credit, step-credit, read-length, bytes-spaces, valid-written, written-valid, text-back, text-bytes, text-trailing, strip-tail, shortest}
+use Rattle.text.specs.Answers.{held, word, bytesOf, Moved, Writable, Shortest}
 use Rattle.text.proofs.Stores.{word-is, word-length, stores, stores-length, stores-over}
 
 -- ---- one step
@@ -196,3 +198,18 @@ module _ (v : List ℕ) (at len : ℕ) where
   laid-end i d out h k room e =
       let j : i ≡ len = omega arith in
       stores-over d out (readText (take len (drop at v))) room (e ∙ ap (λ (x : ℕ). sets d 0 (given v at x)) j)
+
+-- ---- what a body and a text are to each other
+
+pub writable : (ns : List ℕ) (t : Bool) → t ≡ textValid ns → Writable t ns
+writable ns t e = record {
+  some-text = λ q. valid-written ns (sym e ∙ q);
+  no-text = λ q u h w. true-false (textValid ns) (written-valid u ns h w) (sym e ∙ q);
+}
+
+pub read-shortest : (ns : List ℕ) → Shortest (readText ns) ns
+read-shortest ns = record {
+  gives = λ v. (text-bytes ns v, λ k. text-trailing (readText ns) k ∙ text-back ns v);
+  only = strip-tail ns;
+  least = shortest ns;
+}

@@ -6,7 +6,7 @@ ghost use lib.Seq.{sets};
 ghost use Rattle.format.specs.ShipText.{charCode, pairByte, textStep, atEnd, textValid, readText};
 ghost use Rattle.format.specs.Machine.{over};
 ghost use Rattle.nibble.specs.View.{view, part};
-ghost use Rattle.text.specs.Answers.{held, word, Moved};
+ghost use Rattle.text.specs.Answers.{held, word, Moved, Writable, Shortest};
 use format::TextState;
 use format::TextStep;
 use nibble::Cursor;
@@ -206,7 +206,7 @@ fn at_end(st: TextState) -> bool
 // Whether the writer gives these nibbles for some text.
 pub fn valid(s: &[u8], c: Cursor, len: usize) -> bool
     requires { ⌜ (c .at + len ≤ length (view (c .packed) (now s))) × (c .at ≤ 2 ^ 32) × (len ≤ 4096) ⌝ }
-    ensures { λ r. ⌜ r ≡ textValid (part (now (s .entry)) c len) ⌝ }
+    ensures { λ r. ⌜ (r ≡ textValid (part (now (s .entry)) c len)) × Writable r (part (now (s .entry)) c len) ⌝ }
 {
     let at = c.at;
     let packed = c.packed;
@@ -261,7 +261,7 @@ fn put_word(out: &mut [u8], at: usize, more: usize, b: u8)
 // Writes the text of a body.
 pub fn read(s: &[u8], c: Cursor, len: usize, out: &mut [u8])
     requires { ⌜ (c .at + len ≤ length (view (c .packed) (now s))) × (c .at ≤ 2 ^ 32) × (len ≤ 4096) × (length (readText (part (now s) c len)) ≤ length (now out)) ⌝ }
-    ensures { λ _. ⌜ now (out .exit) ≡ over (readText (part (now (s .entry)) c len)) (now (out .entry)) ⌝ }
+    ensures { λ _. ⌜ (now (out .exit) ≡ over (readText (part (now (s .entry)) c len)) (now (out .entry))) × Shortest (readText (part (now (s .entry)) c len)) (part (now (s .entry)) c len) ⌝ }
 {
     let at = c.at;
     let packed = c.packed;

@@ -8,12 +8,9 @@ use mathlib.Core.Bool.{Bool, true, false, cond, not, _&&_}
 use mathlib.Core.List.{List, [], _∷_}
 use mathlib.Core.Option.{Option, none, some}
 use lib.ListN.{length, getD, drop, drop-of-length-le}
-use lib.Dec.{leb}
 use lib.IntN.{ℤ, pos}
-use borrow.Author.Tests.{le-leb, lt-leb}
 use Rattle.format.specs.Order.{Refusal, first}
 use Rattle.format.specs.Field.{Field, table, fieldAt, required, scaled, inRange, codedOf}
-use Rattle.format.specs.Machine.{allNibbles}
 use Rattle.format.specs.Whole.{bitAt, packChecks}
 use Rattle.format.specs.declared.Coded.{Coded}
 use Rattle.format.specs.declared.Scaled.{Scaled}
@@ -144,22 +141,3 @@ module _ (values : List ℤ) (word : ℕ) (x : Checked) (is : x ≡ fieldsChecke
   pub says-passed : x ≡ Checked.Passed → first (packChecks 1 table word values) ≡ none
   unfolding fieldsChecked
   says-passed e = checked-passed (first (packChecks 1 table word values)) (sym e ∙ is)
-
--- ---- the tail's bytes
-
-nibbles-at : (ns : List ℕ) (i : ℕ) → i < length ns → allNibbles (drop i ns) ≡ leb (getD ns i 0) 15 && allNibbles (drop (suc i) ns)
-unfolding allNibbles
-nibbles-at [] i h = absurd (omega arith)
-nibbles-at (x ∷ ns) zero h = refl
-nibbles-at (x ∷ ns) (suc i) h = nibbles-at ns i (omega arith)
-
-module _ (ns : List ℕ) (i : ℕ) (all : allNibbles (drop i ns) ≡ allNibbles ns) where
-  pub nibble-over : i < length ns → 15 < getD ns i 0 → false ≡ allNibbles ns
-  nibble-over h l = sym (sym all ∙ nibbles-at ns i h ∙ rw (lt-leb (getD ns i 0) 15 l))
-
-  pub nibble-fine : i < length ns → getD ns i 0 ≤ 15 → allNibbles (drop (i + 1) ns) ≡ allNibbles ns
-  nibble-fine h l = rw add-one (sym (nibbles-at ns i h ∙ rw (le-leb (getD ns i 0) 15 l)) ∙ all)
-
-  pub nibbles-fine : length ns ≤ i → true ≡ allNibbles ns
-  unfolding allNibbles
-  nibbles-fine h = ap allNibbles (sym (drop-of-length-le ns {i = i} h)) ∙ all

@@ -22,6 +22,7 @@ use Rattle.format.specs.Whole.{wroteBy, bitOutside, packChecks, countIn, packSh
 use Rattle.tail.specs.Walk.{tailAt, walkedBy, walked}
 use Rattle.tail.specs.declared.Tail.{Tail}
 use Rattle.tail.specs.declared.Walked.{Walked}
+use Rattle.tail.proofs.Turns.{walked-refused, walked-ended}
 use Rattle.nibble.specs.declared.Cursor.{Cursor}
 use Rattle.card.specs.Answers.{Carded, given}
 use Rattle.laws.proofs.Order.{first-skip, first-fits, first-append-skip, first-append-some}
@@ -41,27 +42,16 @@ use Rattle.whole.specs.Steps.{FieldsPass, TailPasses}
 abbrev atTail : Cursor
 atTail = record { at = 0; packed = false }
 
-walk-refused : (o : Option Refusal) (t : Tail) (n p : ℕ) → walkedBy o t ≡ Walked.Refused n p → o ≡ some (record { number = n; place = p })
-walk-refused none t n p e = let z : _≡_ {A = ℕ} 0 1 = cc in absurd (omega arith)
-walk-refused (some r) t n p e =
-    let a : r .number ≡ n = cc in
-    let b : r .place ≡ p = cc in
-    λ i. some (record { number = a i; place = b i })
-
-walk-ended : (o : Option Refusal) (t u : Tail) → walkedBy o t ≡ Walked.Ended u → o ≡ none
-walk-ended none t u e = refl
-walk-ended (some r) t u e = let z : _≡_ {A = ℕ} 0 1 = cc in absurd (omega arith)
-
 module _ (ns : List ℕ) (count : ℕ) (w : Walked) (counted : count ≡ countIn ns) (is : w ≡ walked ns atTail count 0) where
   whole : w ≡ walkedBy (first (attachmentChecks (countIn ns) 1 [] ns)) (tailAt 0 0 (attachmentsOf (countIn ns) ns))
   unfolding walked
   whole = is ∙ ap (λ (m : ℕ). walked ns atTail m 0) counted
 
   pub says-refused : (n p : ℕ) → w ≡ Walked.Refused n p → first (attachmentChecks (countIn ns) 1 [] ns) ≡ some (record { number = n; place = p })
-  says-refused n p e = walk-refused _ _ n p (sym whole ∙ e)
+  says-refused n p e = walked-refused _ _ n p (sym whole ∙ e)
 
   pub says-ended : (t : Tail) → w ≡ Walked.Ended t → first (attachmentChecks (countIn ns) 1 [] ns) ≡ none
-  says-ended t e = walk-ended _ _ t (sym whole ∙ e)
+  says-ended t e = walked-ended _ _ t (sym whole ∙ e) .0
 
 -- ---- the presence word
 

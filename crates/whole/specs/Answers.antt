@@ -4,6 +4,7 @@ use mathlib.Core.List.{List, [], _∷_}
 use mathlib.Core.Option.{Option, some}
 use lib.IntN.{ℤ, pos}
 use Rattle.format.specs.Machine.{Answer, refused, accepted}
+use Rattle.format.specs.Whole.{contents}
 use Rattle.whole.specs.declared.Started.{Started}
 use Rattle.whole.specs.declared.Started.the-variants.{Refused as FreshRefused, Written as FreshWritten}
 use Rattle.whole.specs.declared.Contents.{Contents}
@@ -22,14 +23,7 @@ freshAnswer FreshWritten = accepted []
 
 -- the presence word, how many fields are present, RPTIN, AC, byte length, the tail's length
 abbrev pub contentsNumbers : Contents → List (Option ℤ)
-contentsNumbers c =
-    some (pos (c .word))
-    ∷ some (pos (c .present))
-    ∷ some (pos (c .rptin))
-    ∷ some (pos (c .count))
-    ∷ some (pos (c .size))
-    ∷ some (pos (c .tail))
-    ∷ []
+contentsNumbers c = contents (c .word) (c .present) (c .rptin) (c .count) (c .size) (c .tail)
 
 abbrev pub unpackAnswer : Unpacked → Answer
 unpackAnswer (UnpackRefused n p) = refusal n p

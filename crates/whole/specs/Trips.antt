@@ -11,7 +11,7 @@ use Rattle.format.specs.Order.{Refusal, first}
 use Rattle.format.specs.Sheet.{packing, size}
 use Rattle.format.specs.Report.{Verdict, judge}
 use Rattle.format.specs.Machine.{Answer, over}
-use Rattle.format.specs.Whole.{valueOrZero, tail, countIn, packSheet, packOrder}
+use Rattle.format.specs.Whole.{contents, valueOrZero, tail, countIn, packSheet, packOrder}
 use Rattle.laws.proofs.Whole.{masked}
 use Rattle.whole.specs.Answers.{refusal}
 
@@ -42,14 +42,7 @@ recoveredBy (some r) values word rptin ns out vs ts = trip (Answer.refused r) vs
 recoveredBy none values word rptin ns out vs ts =
     cond (ltb (length vs) 46 || ltb (length ts) (length ns)) (trip (refusal 13 0) vs ts (over (packing (packSheet values word rptin ns)) out))
     (trip
-    (Answer.accepted
-    (some (pos word)
-    ∷ some (pos (ones word))
-    ∷ some (pos rptin)
-    ∷ some (pos (countIn ns))
-    ∷ some (pos (size (packSheet values word rptin ns)))
-    ∷ some (pos (length ns))
-    ∷ []))
+    (Answer.accepted (contents word (ones word) rptin (countIn ns) (size (packSheet values word rptin ns)) (length ns)))
     (over (masked 1 word (take 46 values)) vs)
     (over ns ts)
     (over (packing (packSheet values word rptin ns)) out))

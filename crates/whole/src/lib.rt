@@ -3,7 +3,6 @@ ghost use mathlib.Core.Path.{_≡_};
 ghost use mathlib.Core.Bool.{cond};
 ghost use Prim.Native.Nat.{_*_, _≤_, _^_};
 ghost use lib.ListN.{length, set};
-ghost use Rattle.format.specs.Machine.{allNibbles};
 ghost use Rattle.format.specs.Nibbles.{nibbles, odd};
 ghost use Rattle.format.specs.Whole.{unpacked, countIn};
 ghost use Rattle.format.specs.Whole as spec;
@@ -125,20 +124,6 @@ fn check_fields(values: &[i64], word: u64) -> Checked
     Checked::Passed
 }
 
-// Whether each byte is a nibble.
-fn all_nibbles(ns: &[u8]) -> bool
-    ensures { λ r. ⌜ r ≡ allNibbles (now (ns .entry)) ⌝ }
-{
-    let mut i = 0;
-    while i < ns.len() {
-        if 15 < ns[i] {
-            return false;
-        }
-        i += 1;
-    }
-    true
-}
-
 // Clears the nibble at a place that is odd.
 fn pad(s: &mut [u8], at: usize)
     requires { ⌜ (at ≤ 2 * length (now s)) × (at ≤ 2 ^ 32) ⌝ }
@@ -171,7 +156,7 @@ fn pack_tail(values: &[i64], word: u64, rptin: u16, tail: &[u8], out: &mut [u8])
     requires { ⌜ FieldsPass (now values) word ⌝ }
     ensures { λ r. ⌜ record { answer = packAnswer r; out = now (out .exit) } ≡ spec.pack (now (values .entry)) word rptin (now (tail .entry)) (now (out .entry)) ⌝ }
 {
-    if all_nibbles(tail) {
+    if nibble::all_nibbles(tail) {
         let count = tail::count_in(tail);
         let w = tail::walk(
             tail,

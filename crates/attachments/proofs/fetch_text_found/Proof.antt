@@ -31,7 +31,7 @@ same-length : tie.Need-same-length
 same-length c = search needs
 
 returns-3 : tie.Need-returns-3
-returns-3 c = text-done (λ j. c .before .before .before .before .before .before .before .before .shared-slice-known .given j .fits) (c .before .before .before .before .before .before .before .before .before .pre) (c .before .before .before .before .before .before .if1 .left) _ _ (c .before .before .before .before .before .text-length .ensures) _ (c .before .before .before .before .if2 .left) (c .before .before .read .ensures)
+returns-3 c = text-done (λ j. c .before .before .before .before .before .before .before .before .shared-slice-known .given j .fits) (c .before .before .before .before .before .before .before .before .before .pre) (c .before .before .before .before .before .before .if1 .left) _ _ (c .before .before .before .before .before .text-length .ensures) _ (c .before .before .before .before .if2 .left) (c .before .before .read .ensures .0)
 
 pub fetch-text-found-spec : {M : Type 1} → statement M
 fetch-text-found-spec =

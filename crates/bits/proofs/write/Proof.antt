@@ -7,7 +7,7 @@ use mathlib.Core.List.{List}
 use lib.ListN.{length, length-set}
 use denote.Ref.{now}
 use Rattle.bits.specs.Window.{patched}
-use Rattle.bits.proofs.Window.{splice-pair}
+use Rattle.bits.proofs.Window.{splice-pair, field-written}
 use Rattle.bits.proofs.write.Statement.{statement}
 use Rattle.bits.proofs.write.Tie as tie
 
@@ -38,16 +38,16 @@ returns c =
     let s : List ℕ = now (st .args .s) in
     let at : ℕ = st .args .at in
     let w : ℕ = st .args .width in
-    let v : ℕ = st .args .v in (
-      splice-pair s (at-store .store .last .0) at w v (at-patch .patch .result)
-          (λ j. at-load .before .before .slice-known .given j .fits)
-          (λ j. c .slice-known2 .given j .fits)
-          (st .pre .0)
-          (st .pre .1)
-          (at-patch .patch .ensures .0 ∙ ap (λ (n : ℕ). patched n (16 - at % 8 - w) w v) (at-load .load .ensures .0))
-          (at-store .store .ensures),
-      ap length (at-store .store .ensures) ∙ simp length-set,
-    )
+    let v : ℕ = st .args .v in
+    let bits =
+    splice-pair s (at-store .store .last .0) at w v (at-patch .patch .result)
+    (λ j. at-load .before .before .slice-known .given j .fits)
+    (λ j. c .slice-known2 .given j .fits)
+    (st .pre .0)
+    (st .pre .1)
+    (at-patch .patch .ensures .0 ∙ ap (λ (n : ℕ). patched n (16 - at % 8 - w) w v) (at-load .load .ensures .0))
+    (at-store .store .ensures) in
+    (bits, ap length (at-store .store .ensures) ∙ simp length-set, field-written s (at-store .store .last .0) at w v (st .pre .0) (st .pre .1) bits)
 
 pub write-spec : {M : Type 1} → statement M
 write-spec =

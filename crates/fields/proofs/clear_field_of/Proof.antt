@@ -4,7 +4,8 @@ use mathlib.Core.Path.{refl}
 use denote.Ref.{now}
 use Rattle.format.specs.Report.{sheetOf}
 use Rattle.format.specs.Machine.{clearField, callChecks}
-use Rattle.fields.proofs.Calls.{number-refuses, between-in, quiet-clear-field}
+use Rattle.laws.proofs.Order.{between-in}
+use Rattle.fields.proofs.Calls.{number-refuses, quiet-clear-field}
 use Rattle.fields.proofs.Values.{field-required, field-cleared}
 use native.Mathlib.Omega.{arith}
 use borrow.Author.Needs.{needs}

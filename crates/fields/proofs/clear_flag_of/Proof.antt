@@ -4,9 +4,9 @@ use mathlib.Core.Path.{refl}
 use mathlib.Core.List.{[], _∷_}
 use denote.Ref.{now}
 use Rattle.format.specs.Report.{sheetOf}
-use Rattle.laws.proofs.Order.{first-nil, no-check}
+use Rattle.laws.proofs.Order.{between-in, first-nil, no-check}
 use Rattle.format.specs.Machine.{clearFlag, flagNumberCheck, callChecks}
-use Rattle.fields.proofs.Calls.{number-refuses, number-passes, between-in, quiet-clear-flag}
+use Rattle.fields.proofs.Calls.{number-refuses, number-passes, quiet-clear-flag}
 use Rattle.fields.proofs.Bodies.{absent-refuses, body-within, body-low, flag-cleared}
 use native.Mathlib.Omega.{arith}
 use borrow.Author.Needs.{needs}

@@ -6,7 +6,8 @@ use denote.Ref.{now}
 use Rattle.laws.proofs.Report.{passes}
 use Rattle.format.specs.Report.{sheetOf}
 use Rattle.format.specs.Machine.{readField, callChecks}
-use Rattle.fields.proofs.Calls.{number-refuses, between-in, quiet-read-field}
+use Rattle.laws.proofs.Order.{between-in}
+use Rattle.fields.proofs.Calls.{number-refuses, quiet-read-field}
 use Rattle.fields.proofs.Values.{field-missing, field-read}
 use borrow.Author.Needs.{needs}
 use Rattle.fields.proofs.field_of.Statement.{statement}

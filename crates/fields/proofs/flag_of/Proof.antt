@@ -4,10 +4,10 @@ use mathlib.Core.Path.{refl}
 use mathlib.Core.List.{[], _∷_}
 use denote.Ref.{now}
 use Rattle.format.specs.Report.{sheetOf}
-use Rattle.laws.proofs.Order.{first-nil, no-check}
+use Rattle.laws.proofs.Order.{between-in, first-nil, no-check}
 use Rattle.format.specs.Machine.{readFlag, flagNumberCheck, callChecks}
 use Rattle.laws.proofs.Nibbles.{length-nibbles}
-use Rattle.fields.proofs.Calls.{number-refuses, number-passes, between-in, quiet-read-flag}
+use Rattle.fields.proofs.Calls.{number-refuses, number-passes, quiet-read-flag}
 use Rattle.fields.proofs.Bodies.{absent-refuses, body-within, body-low, flag-missing, flag-read}
 use native.Mathlib.Omega.{arith}
 use borrow.Author.Needs.{needs}

@@ -6,7 +6,8 @@ use Rattle.format.specs.Report.{sheetOf}
 use Rattle.format.specs.Field.{fieldAt}
 use Rattle.format.specs.Machine.{setField, callChecks}
 use Rattle.card.proofs.Given.{coding-code}
-use Rattle.fields.proofs.Calls.{number-refuses, between-in, quiet-set-field}
+use Rattle.laws.proofs.Order.{between-in}
+use Rattle.fields.proofs.Calls.{number-refuses, quiet-set-field}
 use Rattle.fields.proofs.Values.{field-outside, field-set}
 use borrow.Author.Needs.{needs}
 use Rattle.fields.proofs.set_field_of.Statement.{statement}

@@ -20,7 +20,7 @@ returns-2 : tie.Need-returns-2
 unfolding bodyValid
 returns-2 c =
     let a = c .before .before .before .before .args in
-    rw (ne-eqb (a .id) 1 (c .before .before .if1 .left), eq-eqb (a .id) 4 (c .before .if2 .taken)) (c .valid2 .ensures)
+    rw (ne-eqb (a .id) 1 (c .before .before .if1 .left), eq-eqb (a .id) 4 (c .before .if2 .taken)) (c .valid2 .ensures .0)
 
 returns-3 : tie.Need-returns-3
 unfolding bodyValid

@@ -6,7 +6,7 @@ use mathlib.Core.Path.{_≡_}
 use lib.Seq.{sets}
 use lib.ListN.{length}
 use Rattle.nibble.specs.View.{view}
-use Rattle.text.proofs.Bodies.{Passed, given, pass-none, pass-held, count-none, count-small, count-fits, laid-none, laid-length, laid-end, read-more}
+use Rattle.text.proofs.Bodies.{Passed, given, pass-none, pass-held, count-none, count-small, count-fits, laid-none, laid-length, laid-end, read-more, read-shortest}
 use Rattle.text.proofs.read.Statement.{statement}
 use Rattle.text.proofs.read.Tie as tie
 
@@ -47,7 +47,7 @@ same-length : tie.Need-same-length Inv-loop μ-loop
 same-length c = laid-length _ _ _ _ _ (c .before .loop .inv .2)
 
 returns : tie.Need-returns Inv-loop μ-loop
-returns c = laid-end _ _ _ _ _ _ (c .before .loop .inv .0 .inside) (c .loop-test .left) (c .before .before .before .before .pre .3) (c .before .loop .inv .2)
+returns c = (laid-end _ _ _ _ _ _ (c .before .loop .inv .0 .inside) (c .loop-test .left) (c .before .before .before .before .pre .3) (c .before .loop .inv .2), read-shortest _)
 
 pub read-spec : {M : Type 1} → statement M
 read-spec =

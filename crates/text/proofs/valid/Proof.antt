@@ -5,7 +5,7 @@ use Prim.Native.Nat.{_-_}
 use native.Mathlib.Omega.{arith}
 use mathlib.Core.Path.{_∙_}
 use Rattle.nibble.specs.View.{view}
-use Rattle.text.proofs.Bodies.{Passed, pass-none, pass-held, pass-more, pass-end}
+use Rattle.text.proofs.Bodies.{Passed, pass-none, pass-held, pass-more, pass-end, writable}
 use Rattle.text.proofs.valid.Statement.{statement}
 use Rattle.text.proofs.valid.Tie as tie
 
@@ -40,7 +40,7 @@ at-end-requires : tie.Need-at-end-requires Inv-loop μ-loop
 at-end-requires c κs = tt
 
 returns : tie.Need-returns Inv-loop μ-loop
-returns c = c .at-end .ensures ∙ pass-end _ _ _ _ _ (c .before .before .loop .inv) (c .before .loop-test .left)
+returns c = let e = c .at-end .ensures ∙ pass-end _ _ _ _ _ (c .before .before .loop .inv) (c .before .loop-test .left) in (e, writable _ _ e)
 
 pub valid-spec : {M : Type 1} → statement M
 valid-spec =

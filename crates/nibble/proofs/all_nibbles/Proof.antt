@@ -1,16 +1,14 @@
--- `whole::all_nibbles` meets its contract. The invariant: what is still to check gives the answer.
+-- `nibble::all_nibbles` meets its contract. The invariant: what is still to check gives the answer.
 -- Assumes nothing.
-use Prim.Native.Nat.{_-_, _≤_}
-use native.Mathlib.Omega.{arith}
-use mathlib.Core.Path.{_≡_, refl}
+use Prim.Native.Nat.{_≤_, _-_}
+use mathlib.Core.Path.{_≡_, refl, _∙_}
 use lib.ListN.{length, drop}
-use denote.Ref.{now}
 use Rattle.format.specs.Machine.{allNibbles}
-use Rattle.whole.proofs.Checks.{nibble-over, nibble-fine, nibbles-fine}
+use Rattle.nibble.proofs.View.{nibble-over, nibble-fine, nibbles-end}
 use borrow.Author.Needs.{needs}
 use native.Mathlib.Omega.{arith}
-use Rattle.whole.proofs.all_nibbles.Statement.{statement}
-use Rattle.whole.proofs.all_nibbles.Tie as tie
+use Rattle.nibble.proofs.all_nibbles.Statement.{statement}
+use Rattle.nibble.proofs.all_nibbles.Tie as tie
 
 abbrev Inv-loop : tie.InvT-loop
 Inv-loop ns i₀ i = (i ≤ length ns) × (allNibbles (drop i ns) ≡ allNibbles ns)
@@ -25,19 +23,19 @@ shared-slice-read-if1 : tie.Need-shared-slice-read-if1 Inv-loop μ-loop
 shared-slice-read-if1 c = search needs
 
 returns : tie.Need-returns Inv-loop μ-loop
-returns c = nibble-over (now (c .before .before .before .before .args .ns)) (c .before .before .before .loop .i) (c .before .before .before .loop .inv .1) (c .before .before .loop-test .taken) (c .if1 .taken)
+returns c = nibble-over _ _ (c .before .before .loop-test .taken) (c .if1 .taken) ∙ c .before .before .before .loop .inv .1
 
 add-i : tie.Need-add-i Inv-loop μ-loop
 add-i c = search needs
 
 loop-less : tie.Need-loop-less Inv-loop μ-loop
-loop-less c = search needs
+loop-less c = omega arith
 
 loop-again : tie.Need-loop-again Inv-loop μ-loop
-loop-again c = (omega arith, nibble-fine (now (c .before .before .before .before .args .ns)) (c .before .before .before .loop .i) (c .before .before .before .loop .inv .1) (c .before .before .loop-test .taken) (c .if1 .left))
+loop-again c = (omega arith, nibble-fine _ _ (c .before .before .loop-test .taken) (c .if1 .left) ∙ c .before .before .before .loop .inv .1)
 
 returns-2 : tie.Need-returns-2 Inv-loop μ-loop
-returns-2 c = nibbles-fine (now (c .before .before .args .ns)) (c .before .loop .i) (c .before .loop .inv .1) (c .loop-test .left)
+returns-2 c = nibbles-end _ _ (c .loop-test .left) ∙ c .before .loop .inv .1
 
 pub all-nibbles-spec : {M : Type 1} → statement M
 all-nibbles-spec =

@@ -1,0 +1,30 @@
+-- `report::compare_second` meets its contract.
+-- Assumes nothing.
+use mathlib.Core.Path.{sym, _∙_}
+use Rattle.report.proofs.Sheets.{second-refused}
+use borrow.Author.Needs.{needs}
+use Rattle.report.proofs.compare_second.Statement.{statement}
+use Rattle.report.proofs.compare_second.Tie as tie
+
+judge-requires : tie.Need-judge-requires
+judge-requires c κs = search needs
+
+enum-known-j : tie.Need-enum-known-j
+enum-known-j c = search needs
+
+enum-known-j-2 : tie.Need-enum-known-j-2
+enum-known-j-2 c = search needs
+
+compare-requires : tie.Need-compare-requires
+compare-requires c κs = (c .before .before .before .before .before .before .pre, sym (c .before .j2 .given .1) ∙ c .before .before .before .judge .ensures .0)
+
+returns : tie.Need-returns
+returns c = second-refused _ _ _ _ _ (c .before .before .before .before .before .before .pre) (sym (c .before .j .given .1) ∙ c .before .before .before .judge .ensures .0)
+
+returns-2 : tie.Need-returns-2
+returns-2 c = search needs
+
+pub compare-second-spec : {M : Type 1} → statement M
+compare-second-spec =
+    tie.close
+    (tie.spec judge-requires enum-known-j enum-known-j-2 compare-requires returns returns-2)
