@@ -36,10 +36,10 @@ module _ (b : List ℕ) (bs : Bytes b) where
   pub sizes : (r : Judged) → r ≡ judgedOf (judge b) → Sizes r
   sizes r is = record {
     within = λ n e.
-      let a = judged-accepted (judge b) n (sym e ∙ is) in
-      let h = size-range (a .0) (judged b (a .0) bs (a .1) .good) in
-      let k = a .2 in
-      (omega arith, omega arith);
+        let a = judged-accepted (judge b) n (sym e ∙ is) in
+        let h = size-range (a .0) (judged b (a .0) bs (a .1) .good) in
+        let k = a .2 in
+        (omega arith, omega arith);
     least = let l = least-reached in (l .0, l .1, ap judgedOf (l .3) ∙ ap Judged.Accepted (l .4));
     most = let l = most-reached in (l .0, l .1, ap judgedOf (l .3) ∙ ap Judged.Accepted (l .4));
   }
