@@ -1,6 +1,6 @@
 -- Fields: what is read of one, and the layout that a code stored in one leaves.
 -- Assumes nothing.
-use Prim.Native.Nat.{ℕ, suc, _+_, _-_, _*_, _%_, _≤_, _<_}
+use Prim.Native.Nat.{ℕ, _+_, _-_, _%_, _≤_, _<_}
 use native.Mathlib.Omega.{arith}
 use mathlib.Core.Path.{_≡_, refl, sym, ap, _∙_}
 use mathlib.Core.Bool.{Bool, true, false, cond, not}
@@ -8,9 +8,7 @@ use lib.Dec.{eqb}
 use borrow.Author.Tests.{eqb-true, eqb-false}
 use mathlib.Core.List.{List, [], _∷_}
 use mathlib.Core.Option.{Option, none, some}
-use native.Mathlib.Decide.{decLt}
-use native.Mathlib.Nat.{mul-suc}
-use lib.ListN.{List·getD-eq-default, length, getD, set}
+use lib.ListN.{length, getD, set}
 use Rattle.format.specs.Bits.{total}
 use Rattle.format.specs.Field.{Field, table, fieldAt, isField, required, inRange, coded, scaledOf, codedOf, entryOf, codeOf, entries, codes}
 use Rattle.format.specs.Sheet.{checksum, cardNumbers, size}
@@ -22,13 +20,12 @@ use Rattle.format.specs.Buffer.{layout, after, effect}
 use Rattle.format.specs.declared.Coded.{Coded}
 use Rattle.format.specs.declared.Scaled.{Scaled}
 use Rattle.laws.proofs.Bits.{Bytes}
-use Rattle.laws.proofs.Fields.{table-length, codes-entries, fair-at, noField, codes-at}
-use Rattle.laws.proofs.Report.{judged, numbers-taken}
+use Rattle.laws.proofs.Fields.{table-length, codes-entries}
+use Rattle.laws.proofs.Report.{numbers-taken}
 use Rattle.laws.proofs.Laid.{field-laid, value-numbers, total-set}
 use Rattle.card.specs.Answers.{Carded, codingOf}
-use Rattle.card.proofs.Rows.{row-is}
 use Rattle.card.proofs.Weights.{codes-length}
-use Rattle.card.proofs.Entries.{entry-missing, entry-there, entry-is, entries-length, field-is}
+use Rattle.card.proofs.Entries.{entry-missing, entry-there, entry-is, entries-length}
 use Rattle.card.proofs.Given.{coding-outside, coding-code}
 use Rattle.card.specs.declared.Coding.the-variants.{Outside, Code}
 use Rattle.laws.proofs.Order.{between-in, first-nil, no-check}
@@ -69,35 +66,6 @@ module _ (b : List ℕ) (bs : Bytes b) (k : ℕ) (low : 1 ≤ k) (high : k ≤ 4
       sym (value-numbers (sheetOf b) k e long low high
       ∙ rw (← code, codes-back b, numbers-taken b (sheetOf b) bs j) refl) in
       field-laid b d (sheetOf b) (withValue (sheetOf b) k e) bs j refl bd (r .long) (r .card ∙ card) (r .behind)
-
--- ---- the sum of the codes
-
-total-le : (n : ℕ) (cs : List ℕ) → ((i : ℕ) → getD cs i 0 ≤ n) → total cs ≤ n * length cs
-unfolding total
-total-le n [] h = omega arith
-total-le n (c ∷ cs) h =
-    let e : n * suc (length cs) ≡ n + n * length cs = rw (mul-suc n (length cs)) (omega arith) in
-    omega (arith, h 0, total-le n cs (λ i. h (suc i)))
-
--- a code is at most its field's highest, and that is a row's number of three digits of 16
-highest-le : (k : ℕ) → 1 ≤ k → k ≤ 46 → fieldAt k .highest ≤ 4095
-highest-le k l h = omega (arith, row-is k l h .highest)
-
-module _ (b : List ℕ) (bs : Bytes b) (j : Accepted b) where
-  code-le : (i : ℕ) → getD (codesOf b) i 0 ≤ 4095
-  unfolding sheetOf
-  code-le i = go (decLt i 46)
-    where
-      go : Dec (i < 46) → getD (codesOf b) i 0 ≤ 4095
-      go (no h) = omega (arith, List·getD-eq-default (codesOf b) 0 {n = i} (omega (arith, codes-length b)))
-      go (yes h) =
-          let f = fair-at (judged b (sheetOf b) bs j .good .fair) i .low in
-          let e : getD (codesOf b) i 0 ≡ codeOf (getD table i noField) (getD (entries table (codesOf b)) i none) .0 =
-          ap (λ (l : List ℕ). getD l i 0) (sym (codes-back b)) ∙ codes-at table (entries table (codesOf b)) i (rw table-length h) in
-          omega (arith, highest-le (i + 1) (omega arith) (omega arith), ap (λ (x : Field). x .highest) (field-is i))
-
-  sum-le : total (codesOf b) ≤ 4095 * 46
-  sum-le = rw (codes-length b) at (total-le 4095 (codesOf b) code-le)
 
 -- ---- the returns of the calls on fields, where k is a field
 
@@ -153,20 +121,18 @@ module _ (b : List ℕ) (bs : Bytes b) (j : Accepted b) (k : ℕ) (t : Bool) (is
       call-refuses b (sheetOf b) (clearField k) (quiet-clear-field k) bs j (fieldNumberCheck k ∷ []) (requiredCheck k) [] refl
       (no-check (fieldNumberCheck k) [] known-passes first-nil) (sym eq ∙ must)
 
--- ---- the sum that seals
+-- ---- the number that seals
 
-module _ (b : List ℕ) (sum k : ℕ) (c : Coded) (bs : Bytes b) (h : Summed b sum) (low : 1 ≤ k) (high : k ≤ 46) where
-  set-total : (n : ℕ) → total (set (codesOf b) (k - 1) n) + getD (codesOf b) (k - 1) 0 ≡ sum + n
-  set-total n = total-set (codesOf b) (k - 1) n (rw (codes-length b) (omega arith)) ∙ ap (λ (x : ℕ). x + n) (sym (h .is))
-
-  pub old-le : (o : Coded) → o .0 ≡ getD (codesOf b) (k - 1) 0 → o .0 ≤ sum
-  old-le o e = omega (arith, set-total 0)
-
-  pub sum-fits : sum ≤ 4095 * 46
-  sum-fits = rw (h .is) (sum-le b bs (h .report))
-
-  pub sealed : (o : Coded) → o .0 ≡ getD (codesOf b) (k - 1) 0 → (sum - o .0 + c .0) % 255 ≡ checksum (set (codesOf b) (k - 1) (c .0))
+module _ (b : List ℕ) (n k : ℕ) (h : Summed b n) where
+  pub sum-fits : n < 255
   unfolding checksum
-  sealed o e =
-      let m : sum - o .0 + c .0 ≡ total (set (codesOf b) (k - 1) (c .0)) = omega (arith, set-total (c .0), old-le o e) in
-      ap (λ (n : ℕ). n % 255) m
+  sum-fits = omega (arith, h .is)
+
+  -- the checksum less the old code and more the new one, by a multiple of 255 above 0
+  pub sealed : 1 ≤ k → k ≤ 46 → (o c : Coded) → o .0 ≡ getD (codesOf b) (k - 1) 0 → o .0 < 65536
+      → (n + 65535 - o .0 + c .0) % 255 ≡ checksum (set (codesOf b) (k - 1) (c .0))
+  unfolding checksum
+  sealed low high o c e l =
+      let t : total (set (codesOf b) (k - 1) (c .0)) + getD (codesOf b) (k - 1) 0 ≡ total (codesOf b) + c .0 =
+      total-set (codesOf b) (k - 1) (c .0) (rw (codes-length b) (omega arith)) in
+      omega (arith, h .is)

@@ -2,8 +2,7 @@
 use Prim.Native.Nat.{ℕ, _+_, _-_}
 use mathlib.Core.Path.{_≡_}
 use mathlib.Core.List.{List, _++_}
-use lib.ListN.{length, take, drop, set}
-use Rattle.format.specs.Bits.{total}
+use lib.ListN.{take, drop, set}
 use Rattle.format.specs.Flags.{withFlag}
 use Rattle.format.specs.Sheet.{checksum}
 use Rattle.format.specs.Report.{numbersOf, codesOf, sheetOf, Verdict, judge}
@@ -12,10 +11,10 @@ use Rattle.tail.specs.Walk.{placeOf}
 abbrev pub Accepted : List ℕ → Type 0
 Accepted b = judge b ≡ Verdict.accepted (sheetOf b)
 
--- with the sum of its codes
-pub record Summed (b : List ℕ) (sum : ℕ) : Type 0 where
+-- with its checksum
+pub record Summed (b : List ℕ) (n : ℕ) : Type 0 where
   pub report : Accepted b
-  pub is : sum ≡ total (codesOf b)
+  pub is : n ≡ checksum (codesOf b)
 
 -- with the place of id 1, 0 where it does not stand
 pub record Found (b : List ℕ) (place : ℕ) : Type 0 where

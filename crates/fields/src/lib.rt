@@ -66,22 +66,23 @@ pub fn read_field(s: &[u8], k: usize) -> Reply
     }
 }
 
-// Stores a code in field k of a report with this sum of codes, seals it, and gives the code that stood there.
-fn replace(s: &mut [u8], k: usize, c: Coded, sum: u64) -> Coded
-    requires { ⌜ Summed (now s) sum × (1 ≤ k) × (k ≤ 46) × (c .0 ≤ fieldAt k .highest) ⌝ }
+// Stores a code in field k of a report with this checksum, seals it, and gives the code that stood there.
+fn replace(s: &mut [u8], k: usize, c: Coded, checksum: u64) -> Coded
+    requires { ⌜ Summed (now s) checksum × (1 ≤ k) × (k ≤ 46) × (c .0 ≤ fieldAt k .highest) ⌝ }
     ensures { λ r. ⌜ (r .0 ≡ getD (codesOf (now (s .entry))) (k - 1) 0) × Carded (now (s .entry)) (now (s .exit)) (replaced (now (s .entry)) k (c .0)) ⌝ }
 {
     let old = card::code(s, k);
     let x = c.0;
     let y = old.0;
     card::store(s, k, c);
-    card::seal(s, sum - y as u64 + x as u64);
+    // 65535 is a multiple of 255, and no code is above it
+    card::seal(s, checksum + 65535 - y as u64 + x as u64);
     old
 }
 
-// Sets field k of a report with this sum of codes.
-fn set_field_of(s: &mut [u8], k: usize, v: Scaled, sum: u64) -> Reply
-    requires { ⌜ Summed (now s) sum ⌝ }
+// Sets field k of a report with this checksum.
+fn set_field_of(s: &mut [u8], k: usize, v: Scaled, checksum: u64) -> Reply
+    requires { ⌜ Summed (now s) checksum ⌝ }
     ensures { λ r. ⌜ after (answerOf r) (now (s .exit)) [] ≡ effect (now (s .entry)) (setField k v) ⌝ }
 {
     if !within(1, 46, k) {
@@ -91,7 +92,7 @@ fn set_field_of(s: &mut [u8], k: usize, v: Scaled, sum: u64) -> Reply
     match g {
         Coding::Outside => Reply::Refused(9, k),
         Coding::Code(c) => {
-            replace(s, k, c, sum);
+            replace(s, k, c, checksum);
             Reply::Done
         }
     }
@@ -104,13 +105,13 @@ pub fn set_field(s: &mut [u8], k: usize, v: Scaled) -> Reply
     let i = report::inspect(s, 0);
     match i {
         Inspected::Refused(n, p) => Reply::Refused(n, p),
-        Inspected::Fine(r) => set_field_of(s, k, v, r.sum),
+        Inspected::Fine(r) => set_field_of(s, k, v, r.checksum),
     }
 }
 
-// Clears field k of a report with this sum of codes.
-fn clear_field_of(s: &mut [u8], k: usize, sum: u64) -> Reply
-    requires { ⌜ Summed (now s) sum ⌝ }
+// Clears field k of a report with this checksum.
+fn clear_field_of(s: &mut [u8], k: usize, checksum: u64) -> Reply
+    requires { ⌜ Summed (now s) checksum ⌝ }
     ensures { λ r. ⌜ after (answerOf r) (now (s .exit)) [] ≡ effect (now (s .entry)) (clearField k) ⌝ }
 {
     if !within(1, 46, k) {
@@ -119,7 +120,7 @@ fn clear_field_of(s: &mut [u8], k: usize, sum: u64) -> Reply
     if card::is_required(k) {
         return Reply::Refused(10, k);
     }
-    replace(s, k, Coded(0), sum);
+    replace(s, k, Coded(0), checksum);
     Reply::Done
 }
 
@@ -130,7 +131,7 @@ pub fn clear_field(s: &mut [u8], k: usize) -> Reply
     let i = report::inspect(s, 0);
     match i {
         Inspected::Refused(n, p) => Reply::Refused(n, p),
-        Inspected::Fine(r) => clear_field_of(s, k, r.sum),
+        Inspected::Fine(r) => clear_field_of(s, k, r.checksum),
     }
 }
 

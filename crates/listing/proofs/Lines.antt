@@ -1,6 +1,6 @@
 -- The lines: what each is made of, how long they are, and what is listed by outcome.
 -- Assumes nothing.
-use Prim.Native.Nat.{ℕ, zero, suc, _+_, _-_, _*_, _%_, _^_, _≤_, _<_}
+use Prim.Native.Nat.{ℕ, zero, suc, _+_, _-_, _*_, _^_, _≤_, _<_}
 use native.Mathlib.Omega.{arith}
 use native.Mathlib.Numerals.{add-one}
 use mathlib.Core.Path.{_≡_, refl, sym, ap, ap₂, _∙_}
@@ -26,7 +26,7 @@ use Rattle.card.proofs.Weights.{codes-length}
 use Rattle.report.specs.Answers.{inspected}
 use Rattle.report.specs.declared.Report.{Report}
 use Rattle.report.specs.declared.Inspected.{Inspected}
-use Rattle.report.proofs.Outcomes.{judge-refused, judge-fine, checksum-is}
+use Rattle.report.proofs.Outcomes.{judge-refused, judge-fine}
 use Rattle.listing.specs.Lines.{valueLines, totalLines, refusalLine}
 use Rattle.listing.proofs.Decimal.{decimal-short}
 
@@ -119,12 +119,12 @@ module _ (b : List ℕ) (x : Inspected) (is : x ≡ inspected b 0) where
     codes-table : length (codesOf b) ≡ length table
     codes-table = codes-length b ∙ sym table-length
 
-    pub fine-lists : (ck : ℕ) → ck ≡ r .sum % 255 → listingOf (judge b) ≡ valueLines b 0 ++ totalLines ck (r .count)
+    pub fine-lists : listingOf (judge b) ≡ valueLines b 0 ++ totalLines (r .checksum) (r .count)
     unfolding valueLines totalLines sheetOf
-    fine-lists ck q =
+    fine-lists =
         let f = judge-fine b 0 r x is e in
-        let sum : checksum (codes table (entries table (codesOf b))) ≡ ck =
-        ap checksum (codes-entries table (codesOf b) codes-table) ∙ checksum-is b (r .sum) (ap (λ (y : Report). y .sum) (f .1)) ∙ sym q in
+        let sum : checksum (codes table (entries table (codesOf b))) ≡ r .checksum =
+        ap checksum (codes-entries table (codesOf b) codes-table) ∙ sym (ap (λ (y : Report). y .checksum) (f .1)) in
         let count : length (attachmentsOf (countOf b) (tailOf b)) ≡ r .count = attachments-length (countOf b) (tailOf b) ∙ sym (ap (λ (y : Report). y .count) (f .1)) in
         ap listingOf (f .0)
         ∙ ap₂ (λ (m n : ℕ). fieldLines 1 (entries table (codesOf b)) ++ (line (67 ∷ []) (decimal m) ++ line (65 ∷ []) (decimal n))) sum count
@@ -132,20 +132,24 @@ module _ (b : List ℕ) (x : Inspected) (is : x ≡ inspected b 0) where
     pub fine-long : 38 ≤ length b
     fine-long = passes b (sheetOf b) (judge-fine b 0 r x is e .0) .0 .long
 
-    pub fine-short : (ck : ℕ) → ck < 255 → r .count < 2 ^ 64 → length (valueLines b 0 ++ totalLines ck (r .count)) ≤ 512
+    sum-fits : r .checksum < 255
+    unfolding checksum
+    sum-fits = omega (arith, ap (λ (y : Report). y .checksum) (judge-fine b 0 r x is e .1))
+
+    pub fine-short : r .count < 2 ^ 64 → length (valueLines b 0 ++ totalLines (r .checksum) (r .count)) ≤ 512
     unfolding valueLines totalLines
-    fine-short ck h g =
+    fine-short g =
         let p = passes b (sheetOf b) (judge-fine b 0 r x is e .0) .0 in
         let fields = lines-short 1 (checks-fair 1 table (codesOf b) codes-table (p .fields) .0) table-small (omega (arith, entries-length b)) in
         omega (
           arith,
           fields,
           entries-length b,
-          length-append (fieldLines 1 (entries table (codesOf b))) (line (67 ∷ []) (decimal ck) ++ line (65 ∷ []) (decimal (r .count))),
-          length-append (line (67 ∷ []) (decimal ck)) (line (65 ∷ []) (decimal (r .count))),
-          length-append (decimal ck) (10 ∷ []),
+          length-append (fieldLines 1 (entries table (codesOf b))) (line (67 ∷ []) (decimal (r .checksum)) ++ line (65 ∷ []) (decimal (r .count))),
+          length-append (line (67 ∷ []) (decimal (r .checksum))) (line (65 ∷ []) (decimal (r .count))),
+          length-append (decimal (r .checksum)) (10 ∷ []),
           length-append (decimal (r .count)) (10 ∷ []),
-          decimal-short 2 ck (omega arith),
+          decimal-short 2 (r .checksum) (omega (arith, sum-fits)),
           decimal-short 19 (r .count) (omega arith),
         )
 

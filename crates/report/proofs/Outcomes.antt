@@ -12,12 +12,11 @@ use lib.Dec.{eqb}
 use borrow.Author.Tests.{lt-ltb, le-ltb, eq-eqb, ne-eqb}
 use Rattle.format.specs.Order.{Refusal, check, first}
 use Rattle.format.specs.Field.{table}
-use Rattle.format.specs.Bits.{total}
 use Rattle.format.specs.Nibbles.{nibbles, odd, tailNibbles, attachmentsOf}
 use Rattle.format.specs.Sheet.{checksum, size}
 use Rattle.format.specs.Report.{codesOf, checksumOf, countOf, tailOf, sheetOf, fieldChecks, attachmentChecks, tailLength, reportChecks, refused, accepted, verdict, judge}
-use Rattle.card.specs.Answers.{checkedOf, cardCheck}
-use Rattle.card.specs.declared.CardCheck.{CardCheck}
+use Rattle.checks.specs.Answers.{checkedOf, cardCheck}
+use Rattle.checks.specs.declared.CardCheck.{CardCheck}
 use Rattle.tail.specs.Walk.{tailAt, walkedBy, walked}
 use Rattle.tail.specs.declared.Tail.{Tail}
 use Rattle.tail.specs.declared.Walked.{Walked}
@@ -46,17 +45,17 @@ checked-refused (some r) v n p e =
     let b : r .place ≡ p = cc in
     λ i. some (record { number = a i; place = b i })
 
-checked-sum : (o : Option Refusal) (v w : ℕ) → checkedOf o v ≡ CardCheck.Sum w → (o ≡ none) × (w ≡ v)
+checked-sum : (o : Option Refusal) (v w : ℕ) → checkedOf o v ≡ CardCheck.Checksum w → (o ≡ none) × (w ≡ v)
 checked-sum none v w e = (refl, (cc))
 checked-sum (some r) v w e = let z : _≡_ {A = ℕ} 0 1 = cc in absurd (omega arith)
 
 pub card-refused : (b : List ℕ) (n p : ℕ) (r : CardCheck) → r ≡ cardCheck b → r ≡ CardCheck.Refused n p → first (fieldChecks 1 table (codesOf b)) ≡ some (refusal n p)
 unfolding cardCheck
-card-refused b n p r is e = checked-refused (first (fieldChecks 1 table (codesOf b))) (total (codesOf b)) n p (sym is ∙ e)
+card-refused b n p r is e = checked-refused (first (fieldChecks 1 table (codesOf b))) (checksum (codesOf b)) n p (sym is ∙ e)
 
-pub card-sum : (b : List ℕ) (w : ℕ) (r : CardCheck) → r ≡ cardCheck b → r ≡ CardCheck.Sum w → (first (fieldChecks 1 table (codesOf b)) ≡ none) × (w ≡ total (codesOf b))
+pub card-sum : (b : List ℕ) (w : ℕ) (r : CardCheck) → r ≡ cardCheck b → r ≡ CardCheck.Checksum w → (first (fieldChecks 1 table (codesOf b)) ≡ none) × (w ≡ checksum (codesOf b))
 unfolding cardCheck
-card-sum b w r is e = checked-sum (first (fieldChecks 1 table (codesOf b))) (total (codesOf b)) w (sym is ∙ e)
+card-sum b w r is e = checked-sum (first (fieldChecks 1 table (codesOf b))) (checksum (codesOf b)) w (sym is ∙ e)
 
 -- the cursor behind the card
 abbrev pub behindCard : Cursor
@@ -80,15 +79,6 @@ end-within b bs long e =
     let w = checks-fine (countOf b) 1 [] (tailOf b) (drop-below 16 75 (nibbles b) (nibbles-lt b bs)) e in
     let tail = tailNibbles (attachmentsOf (countOf b) (tailOf b)) in
     omega (arith, ap length (w .starts), length-append tail (drop (length tail) (tailOf b)), length-drop 75 (nibbles b), length-nibbles b)
-
--- the checksum of the codes, from their sum
-pub checksum-is : (b : List ℕ) (v : ℕ) → v ≡ total (codesOf b) → checksum (codesOf b) ≡ v % 255
-unfolding checksum
-checksum-is b v e = ap (λ (n : ℕ). n % 255) (sym e)
-
--- the two checksums are the same
-pub same-sum : (b : List ℕ) (v x : ℕ) {y : ℕ} → x ≡ checksumOf b → y ≡ v % 255 → v ≡ total (codesOf b) → x ≡ y → checksumOf b ≡ checksum (codesOf b)
-same-sum b v x ex ey ev e = sym ex ∙ e ∙ ey ∙ sym (checksum-is b v ev)
 
 -- ---- the outcomes
 
@@ -132,7 +122,7 @@ module _ (b : List ℕ) (i : ℕ) where
 
         module _ (attachments : first (attachmentChecks (countOf b) 1 [] (tailOf b)) ≡ none) where
           -- the last nibble decides
-          pub last-decides : (v n : ℕ) (u : Tail) → v ≡ total (codesOf b) → n ≡ countOf b → u ≡ tailAt 75 i (attachmentsOf (countOf b) (tailOf b))
+          pub last-decides : (v n : ℕ) (u : Tail) → v ≡ checksum (codesOf b) → n ≡ countOf b → u ≡ tailAt 75 i (attachmentsOf (countOf b) (tailOf b))
               → lastOf b v n u ≡ inspected b i
           unfolding first
           last-decides v n u ev en eu =

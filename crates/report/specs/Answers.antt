@@ -8,9 +8,8 @@ use lib.ListN.{length, getD, take}
 use lib.Dec.{eqb}
 use Rattle.format.specs.Field.{table}
 use Rattle.format.specs.Order.{Refusal, first}
-use Rattle.format.specs.Bits.{total}
 use Rattle.format.specs.Nibbles.{Attachment, nibbles, odd, tailNibbles, attachmentsOf}
-use Rattle.format.specs.Sheet.{Sheet, size}
+use Rattle.format.specs.Sheet.{Sheet, checksum, size}
 use Rattle.format.specs.Report.{codesOf, countOf, tailOf, fieldChecks, reportChecks, Verdict, refused, accepted, judge}
 use Rattle.laws.proofs.Bits.{Bytes}
 use Rattle.format.specs.Machine.{contentOf}
@@ -56,11 +55,11 @@ pub record FrontCompared (r : Bool) (a b : List ℕ) (n : ℕ) : Type 0 where
   pub same : r ≡ true → take n a ≡ take n b
   pub other : r ≡ false → take n a ≡ take n b → ⊥
 
--- what an accepted report shows on the way: the sum of its codes, AC, its end in nibbles, and the place and AL of id i
+-- what an accepted report shows on the way: its checksum, AC, its end in nibbles, and the place and AL of id i
 abbrev pub reportOf : List ℕ → ℕ → List Attachment → Report
 reportOf b i list =
     record {
-      sum = total (codesOf b);
+      checksum = checksum (codesOf b);
       count = countOf b;
       end = 75 + length (tailNibbles list);
       place = placeOf 75 i list;
@@ -77,12 +76,12 @@ inspected b i = inspectedBy (first (reportChecks b)) (reportOf b i (attachmentsO
 
 -- what the last nibble decides, behind a tail
 abbrev pub lastOf : List ℕ → ℕ → ℕ → Tail → Inspected
-lastOf b sum count t =
+lastOf b n count t =
     cond (odd (t .end) && not (eqb (getD (nibbles b) (t .end) 0) 0)) (Refused 7 0)
-    (Fine (record { sum = sum; count = count; end = t .end; place = t .place; al = t .al }))
+    (Fine (record { checksum = n; count = count; end = t .end; place = t .place; al = t .al }))
 
 -- the length and the fields have passed
-pub record FieldsPass (b : List ℕ) (sum : ℕ) : Type 0 where
+pub record FieldsPass (b : List ℕ) (n : ℕ) : Type 0 where
   pub long : 38 ≤ length b
   pub fields : first (fieldChecks 1 table (codesOf b)) ≡ none
-  pub is : sum ≡ total (codesOf b)
+  pub is : n ≡ checksum (codesOf b)

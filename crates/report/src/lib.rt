@@ -6,7 +6,7 @@ ghost use lib.ListN.{length};
 ghost use Rattle.format.specs.Report.{judge};
 ghost use Rattle.tail.specs.Walk.{walked};
 ghost use Rattle.report.specs.Answers.{judgedOf, Sizes, inspected, lastOf, FieldsPass, Takes, comparison, FrontCompared};
-use card::CardCheck;
+use checks::CardCheck;
 use nibble::Cursor;
 use tail::Tail;
 use tail::Walked;
@@ -18,10 +18,10 @@ pub enum Judged {
     Accepted(usize),
 }
 
-// What an accepted report shows on the way: the sum of its coded fields, AC, its end in nibbles, and for the id asked for
+// What an accepted report shows on the way: its checksum, AC, its end in nibbles, and for the id asked for
 // the place of its header and its AL, both 0 where it does not stand.
 pub struct Report {
-    pub sum: u64,
+    pub checksum: u64,
     pub count: usize,
     pub end: usize,
     pub place: usize,
@@ -34,9 +34,9 @@ pub enum Inspected {
 }
 
 // The odd last nibble is 0.
-fn last(s: &[u8], sum: u64, count: usize, t: Tail) -> Inspected
+fn last(s: &[u8], checksum: u64, count: usize, t: Tail) -> Inspected
     requires { ⌜ t .end ≤ 2 * length (now s) ⌝ }
-    ensures { λ r. ⌜ r ≡ lastOf (now (s .entry)) sum count t ⌝ }
+    ensures { λ r. ⌜ r ≡ lastOf (now (s .entry)) checksum count t ⌝ }
 {
     let end = t.end;
     if end % 2 == 1 {
@@ -45,7 +45,7 @@ fn last(s: &[u8], sum: u64, count: usize, t: Tail) -> Inspected
         }
     }
     Inspected::Fine(Report {
-        sum,
+        checksum,
         count,
         end,
         place: t.place,
@@ -77,18 +77,18 @@ fn walk_behind(s: &[u8], count: usize, want: usize) -> Walked
 }
 
 // The checksum, the attachments, the last nibble.
-fn inspect_tail(s: &[u8], sum: u64, want: usize) -> Inspected
-    requires { ⌜ FieldsPass (now s) sum ⌝ }
+fn inspect_tail(s: &[u8], checksum: u64, want: usize) -> Inspected
+    requires { ⌜ FieldsPass (now s) checksum ⌝ }
     ensures { λ r. ⌜ r ≡ inspected (now (s .entry)) want ⌝ }
 {
-    if card::checksum(s) != card::checksum_of(sum) {
+    if card::checksum(s) != checksum {
         return Inspected::Refused(4, 0);
     }
     let count = card::count(s);
     let w = walk_behind(s, count, want);
     match w {
         Walked::Refused(n, p) => Inspected::Refused(n, p),
-        Walked::Ended(t) => last(s, sum, count, t),
+        Walked::Ended(t) => last(s, checksum, count, t),
     }
 }
 
@@ -99,10 +99,10 @@ pub fn inspect(s: &[u8], want: usize) -> Inspected
     if s.len() < 38 {
         return Inspected::Refused(1, 0);
     }
-    let c = card::check(s);
+    let c = checks::check(s);
     match c {
         CardCheck::Refused(n, p) => Inspected::Refused(n, p),
-        CardCheck::Sum(sum) => inspect_tail(s, sum, want),
+        CardCheck::Checksum(n) => inspect_tail(s, n, want),
     }
 }
 

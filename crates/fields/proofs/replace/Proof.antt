@@ -1,6 +1,6 @@
 -- `fields::replace` meets its contract.
 -- Assumes nothing.
-use Prim.Native.Nat.{ℕ}
+use Prim.Native.Nat.{ℕ, _<_}
 use mathlib.Core.Path.{subst}
 use mathlib.Core.List.{List}
 use lib.ListN.{set}
@@ -9,7 +9,7 @@ use Rattle.format.specs.Report.{numbersOf}
 use Rattle.laws.proofs.Report.{passes}
 use Rattle.card.specs.Answers.{Carded}
 use Rattle.card.proofs.Given.{carded-then}
-use Rattle.fields.proofs.Values.{old-le, sum-fits, sealed}
+use Rattle.fields.proofs.Values.{sum-fits, sealed}
 use native.Mathlib.Omega.{arith}
 use borrow.Author.Needs.{needs}
 use Rattle.fields.proofs.replace.Statement.{statement}
@@ -21,17 +21,20 @@ code-requires c κs = (passes _ _ (c .before .before .pre .0 .report) .0 .long, 
 store-requires : tie.Need-store-requires
 store-requires c κs = (passes _ _ (c .before .before .before .before .pre .0 .report) .0 .long, c .before .before .before .before .pre .1, c .before .before .before .before .pre .2, c .before .before .before .before .pre .3)
 
+add-seal : tie.Need-add-seal
+add-seal c = let f = sum-fits _ _ (c .before .before .before .before .before .before .before .before .args .k) (c .before .before .before .before .before .before .before .before .pre .0) in omega arith
+
 cast-seal : tie.Need-cast-seal
 cast-seal c = search needs
 
 sub-seal : tie.Need-sub-seal
-sub-seal c = old-le _ _ (c .before .before .before .before .before .before .before .before .args .k) (c .before .before .before .before .before .before .before .before .args .c) (λ i. c .before .before .before .before .before .before .before .slice-known .given i .fits) (c .before .before .before .before .before .before .before .before .pre .0) (c .before .before .before .before .before .before .before .before .pre .1) (c .before .before .before .before .before .before .before .before .pre .2) (c .before .before .before .before .before .code .result) (c .before .before .before .before .before .code .ensures)
+sub-seal c = search needs
 
 cast-seal-2 : tie.Need-cast-seal-2
 cast-seal-2 c = search needs
 
-add-seal : tie.Need-add-seal
-add-seal c = let f = sum-fits _ _ (c .before .before .before .before .before .before .before .before .args .k) (c .before .before .before .before .before .before .before .before .args .c) (λ i. c .before .before .before .before .before .before .before .slice-known .given i .fits) (c .before .before .before .before .before .before .before .before .pre .0) (c .before .before .before .before .before .before .before .before .pre .1) (c .before .before .before .before .before .before .before .before .pre .2) in search needs
+add-seal-2 : tie.Need-add-seal-2
+add-seal-2 c = let f = sum-fits _ _ (c .before .before .before .before .before .before .before .before .args .k) (c .before .before .before .before .before .before .before .before .pre .0) in search needs
 
 seal-requires : tie.Need-seal-requires
 seal-requires c κs = omega (arith, c .before .before .before .store .ensures .long, passes _ _ (c .before .before .before .before .before .before .before .before .pre .0 .report) .0 .long)
@@ -40,11 +43,15 @@ same-length : tie.Need-same-length
 same-length c = search needs
 
 returns : tie.Need-returns
-returns c = let b : List ℕ = now (c .before .before .before .before .before .before .before .before .before .before .before .args .s) in
-    let k : ℕ = c .before .before .before .before .before .before .before .before .before .before .before .args .k in
-    let x : ℕ = c .before .before .before .before .before .before .before .before .before .before .before .args .c .0 in
-    let sum = sealed b (c .before .before .before .before .before .before .before .before .before .before .before .args .sum) k (c .before .before .before .before .before .before .before .before .before .before .before .args .c) (λ i. c .before .before .before .before .before .before .before .before .before .before .slice-known .given i .fits) (c .before .before .before .before .before .before .before .before .before .before .before .pre .0) (c .before .before .before .before .before .before .before .before .before .before .before .pre .1) (c .before .before .before .before .before .before .before .before .before .before .before .pre .2) (c .before .before .before .before .before .before .before .before .code .result) (c .before .before .before .before .before .before .before .before .code .ensures) in (
-      c .before .before .before .before .before .before .before .before .code .ensures,
+returns c =
+    let st = c .before .before .before .before .before .before .before .before .before .before .before in
+    let b : List ℕ = now (st .args .s) in
+    let k : ℕ = st .args .k in
+    let x : ℕ = st .args .c .0 in
+    let old = c .before .before .before .before .before .before .before .before .code in
+    let small : old .result .0 < 65536 = search needs in
+    let sum = sealed b (st .args .checksum) k (st .pre .0) (st .pre .1) (st .pre .2) (old .result) (st .args .c) (old .ensures) small in (
+      old .ensures,
       subst (λ (n : ℕ). Carded b (c .before .before .seal .last .0) (set (set (numbersOf b) k x) 47 n)) sum
           (carded-then b (c .before .before .before .before .before .before .store .last .0) (c .before .before .seal .last .0) (set (numbersOf b) k x) 47 _ (c .before .before .before .before .before .before .store .ensures) (c .before .before .seal .ensures)),
     )
@@ -55,10 +62,11 @@ replace-spec =
     (tie.spec
     code-requires
     store-requires
+    add-seal
     cast-seal
     sub-seal
     cast-seal-2
-    add-seal
+    add-seal-2
     seal-requires
     same-length
     returns)

@@ -1,0 +1,248 @@
+-- The five words of a card: where no test fails no field is refused, and the sum at all places is the checksum.
+-- Assumes nothing.
+use Prim.Native.Nat.{ℕ, zero, suc, _+_, _-_, _*_, _/_, _%_, _^_, _≤_, _<_}
+use native.Mathlib.Nat.{add-zero}
+use native.Mathlib.Omega.{arith}
+use mathlib.Core.Path.{_≡_, refl, sym, ap, ap₂, subst, _∙_}
+use mathlib.Core.Bool.{Bool, true, false, not, _&&_}
+use mathlib.Core.List.{List, _++_}
+use mathlib.Core.Option.{Option, none, some}
+use lib.Dec.{T, eqb, leb, leb→le}
+use lib.ListN.{length, take, drop, getD, take-append-drop}
+use lib.Seq.{length-take-le}
+use borrow.Author.Tests.{ne-eqb}
+use Rattle.format.specs.Order.{Refusal, first}
+use Rattle.format.specs.Bits.{bits, bitsOf, bitField, total, offset}
+use Rattle.format.specs.Nibbles.{odd}
+use Rattle.format.specs.Field.{table, fieldAt, required}
+use Rattle.format.specs.Sheet.{widths, checksum}
+use Rattle.format.specs.Report.{codesOf, fieldChecks}
+use Rattle.format.proofs.Test.{left, right}
+use Rattle.laws.proofs.Lists.{test-case}
+use Rattle.laws.proofs.Bits.{length-bitsOf, field-bits}
+use Rattle.bits.proofs.Window.{field-in}
+use Rattle.card.proofs.Numbers.{number-at, code-at}
+use Rattle.card.proofs.Weights as weights
+use Rattle.card.specs.Weights as weightsSpec
+use Rattle.card.specs.Answers as walk
+use Rattle.card.specs.declared.CardCheck as walked
+use Rattle.checks.specs.Answers.{checkedOf, cardCheck}
+use Rattle.checks.specs.Parts.{Part, Run, runA, runB, runC, runD, runE, partAt, picked, laid, even, tops, needed, Passed, AllPassed, placed, kept, atPlace, summed}
+use Rattle.checks.specs.declared.CardCheck.{CardCheck}
+use Rattle.checks.specs.declared.CardCheck.the-variants.{Refused, Checksum}
+use Rattle.checks.proofs.Parts.{shown, lower, apart, none-above, all-above, picked-at, every, every-at}
+use Rattle.checks.proofs.Places.{Near, near-add, near-low, near-mod, near-placed, near-summed, summed-add, valued, allValued, placed-all}
+
+-- ---- the runs against the field table, computed
+
+-- field k stands in the eight bytes from `start` on
+abbrev inside : ℕ → ℕ → Bool
+inside start k = leb (8 * start) (offset widths k) && leb (offset widths k + getD widths k 0) (8 * start + 64)
+
+unfoldable pub good : Run → Bool
+good r =
+    every (inside (r .start)) (r .first) (r .count)
+    && (apart (tops odd r)
+    && (apart (tops even r)
+    && (apart (needed odd r)
+    && (apart (needed even r)
+    && every (λ p. lower (placed p r)) 0 8))))
+
+all-good : T (good runA && (good runB && (good runC && (good runD && good runE))))
+unfolding good every lower apart picked laid partAt total widths table fieldAt required
+all-good = tt
+
+pub record Good (r : Run) : Type 0 where
+  pub within : T (every (inside (r .start)) (r .first) (r .count))
+  pub odds : T (apart (tops odd r))
+  pub evens : T (apart (tops even r))
+  pub odds-needed : T (apart (needed odd r))
+  pub evens-needed : T (apart (needed even r))
+  pub lowers : T (every (λ p. lower (placed p r)) 0 8)
+
+good-is : (r : Run) → T (good r) → Good r
+unfolding good
+good-is r t =
+    let t₁ = right (every (inside (r .start)) (r .first) (r .count)) _ t in
+    let t₂ = right (apart (tops odd r)) _ t₁ in
+    let t₃ = right (apart (tops even r)) _ t₂ in
+    let t₄ = right (apart (needed odd r)) _ t₃ in
+    record {
+      within = left (every (inside (r .start)) (r .first) (r .count)) _ t;
+      odds = left (apart (tops odd r)) _ t₁;
+      evens = left (apart (tops even r)) _ t₂;
+      odds-needed = left (apart (needed odd r)) _ t₃;
+      evens-needed = left (apart (needed even r)) _ t₄;
+      lowers = right (apart (needed even r)) _ t₄;
+    }
+
+all₁ : T (good runB && (good runC && (good runD && good runE)))
+all₁ = right (good runA) _ all-good
+
+all₂ : T (good runC && (good runD && good runE))
+all₂ = right (good runB) _ all₁
+
+all₃ : T (good runD && good runE)
+all₃ = right (good runC) _ all₂
+
+goodA : Good runA
+goodA = good-is runA (left (good runA) _ all-good)
+
+goodB : Good runB
+goodB = good-is runB (left (good runB) _ all₁)
+
+goodC : Good runC
+goodC = good-is runC (left (good runC) _ all₂)
+
+goodD : Good runD
+goodD = good-is runD (left (good runD) _ all₃)
+
+goodE : Good runE
+goodE = good-is runE (right (good runD) _ all₃)
+
+-- ---- a field in a word
+
+-- r bits into the 64 bits from bit o on, with z bits behind it
+field-of-word : (s : List ℕ) (o r w z : ℕ) → r + (w + z) ≡ 64 → o + 64 ≤ 8 * length s → bitField s (o + r) w ≡ bitField s o 64 / 2 ^ z % 2 ^ w
+field-of-word s o r w z e h =
+    let b : List Bool = bitsOf s in
+    let l : length (take o b) ≡ o = length-take-le o b (rw length-bitsOf (omega arith)) in
+    let c : b ≡ take o b ++ (bits 64 (bitField s o 64) ++ drop 64 (drop o b)) =
+    sym (take-append-drop o b) ∙ ap (λ (x : List Bool). take o b ++ x) (sym (take-append-drop 64 (drop o b)) ∙ ap (λ (x : List Bool). x ++ drop 64 (drop o b)) (sym (field-bits s o 64 h))) in
+    field-in (take o b) (drop 64 (drop o b)) 64 r w z e s (bitField s o 64) o c l
+
+abbrev code : List ℕ → ℕ → ℕ
+code b k = getD (codesOf b) (k - 1) 0
+
+-- a word x of the bytes b that holds the fields of the run r
+module _ (b : List ℕ) (h : 38 ≤ length b) (x : ℕ) (r : Run) (g : Good r) (e : x ≡ bitField b (8 * r .start) 64)
+    (near : r .start + 8 ≤ 38) (low : 1 ≤ r .first) (high : r .first + r .count ≤ 47) where
+  shown-code : (most : ℕ → ℕ) (k : ℕ) → r .first ≤ k → k < r .first + r .count → shown x (partAt most (r .start) k) ≡ code b k
+  unfolding shown partAt
+  shown-code most k l u =
+      let t = every-at (inside (r .start)) (r .count) (r .first) k (g .within) l u in
+      let o : ℕ = offset widths k in
+      let w : ℕ = getD widths k 0 in
+      let i : 8 * r .start ≤ o = leb→le _ _ (left (leb (8 * r .start) o) _ t) in
+      let j : o + w ≤ 8 * r .start + 64 = leb→le _ _ (right (leb (8 * r .start) o) _ t) in
+      let z : ℕ = 8 * r .start + 64 - (o + w) in
+      let a : 8 * r .start + (o - 8 * r .start) ≡ o = omega arith in
+      ap (λ (n : ℕ). n / 2 ^ z % 2 ^ w) e
+      ∙ sym (field-of-word b (8 * r .start) (o - 8 * r .start) w z (omega arith) (omega arith))
+      ∙ ap (λ (n : ℕ). bitField b n w) a
+      ∙ number-at b k (omega arith) ∙ sym (code-at b k (omega arith) (omega arith))
+
+  -- the sum of the coded fields
+  sum-code : (n k : ℕ) → r .first ≤ k → k + n ≤ r .first + r .count
+      → allValued x (partAt (λ j. 0) (r .start)) n k + weights.rest b (k - 1 + n) ≡ weights.rest b (k - 1)
+  unfolding allValued
+  sum-code zero k l u = let q : k - 1 + 0 ≡ k - 1 = omega arith in ap (λ (n : ℕ). 0 + weights.rest b n) q ∙ omega arith
+  sum-code (suc n) k l u =
+      let q : suc k - 1 ≡ suc (k - 1) = omega arith in
+      let p : k - 1 + suc n ≡ suc k - 1 + n = omega arith in
+      omega (arith, shown-code (λ j. 0) k l (omega arith), sum-code n (suc k) (omega arith) (omega arith), weights.rest-step b (k - 1) (omega arith), ap (weights.rest b) q, ap (weights.rest b) p)
+
+  module _ (c : Passed x r) where
+    -- no field is above its highest
+    top : (k : ℕ) → r .first ≤ k → k < r .first + r .count → code b k ≤ fieldAt k .highest
+    unfolding partAt
+    top k l u =
+        let part : ℕ → Part = partAt (λ j. fieldAt j .highest) (r .start) in
+        let s : shown x (part k) ≤ fieldAt k .highest =
+        test-case (odd k)
+        (λ q. picked-at (λ p. shown x p ≤ p .most) odd part (r .count) (r .first) k l u q (none-above x (tops odd r) (g .odds) (c .odds)))
+        (λ q. picked-at (λ p. shown x p ≤ p .most) even part (r .count) (r .first) k l u (ap not q) (none-above x (tops even r) (g .evens) (c .evens))) in
+        subst (λ (n : ℕ). n ≤ fieldAt k .highest) (shown-code (λ j. fieldAt j .highest) k l u) s
+
+    -- each required one is above 0
+    present : (k : ℕ) → r .first ≤ k → k < r .first + r .count → required k && eqb (code b k) 0 ≡ false
+    unfolding partAt
+    present k l u =
+        let part : ℕ → Part = partAt (λ j. 0) (r .start) in
+        let needs : required k ≡ true → 0 < shown x (part k) =
+        λ n. test-case (odd k)
+        (λ q. picked-at (λ p. p .most < shown x p) (λ j. required j && odd j) part (r .count) (r .first) k l u (ap₂ _&&_ n q) (all-above x (needed odd r) (g .odds-needed) (c .odds-present)))
+        (λ q. picked-at (λ p. p .most < shown x p) (λ j. required j && even j) part (r .count) (r .first) k l u (ap₂ _&&_ n (ap not q)) (all-above x (needed even r) (g .evens-needed) (c .evens-present))) in
+        test-case (required k)
+        (λ n. ap₂ _&&_ n (ne-eqb (code b k) 0 (λ z. omega (arith, needs n, shown-code (λ j. 0) k l u))))
+        (λ n. ap (λ (t : Bool). t && eqb (code b k) 0) n)
+
+    -- so none is refused
+    pub none-refused : (n k : ℕ) → r .first ≤ k → k + n ≤ r .first + r .count → weights.left b (k - 1) ≡ weights.left b (k - 1 + n)
+    none-refused zero k l u = ap (weights.left b) (sym (add-zero (k - 1)))
+    none-refused (suc n) k l u =
+        let q : suc (k - 1) ≡ k = omega arith in
+        let fine : 0 ≡ weightsSpec.refusalOf (suc (k - 1)) (code b k) =
+        weights.refusal-fine (suc (k - 1)) (code b k) (subst (λ (j : ℕ). code b k ≤ fieldAt j .highest) (sym q) (top k l (omega arith))) (subst (λ (j : ℕ). required j && eqb (code b k) 0 ≡ false) (sym q) (present k l (omega arith))) in
+        let p : suc k - 1 + n ≡ k - 1 + suc n = omega arith in
+        let s : suc (k - 1) ≡ suc k - 1 = omega arith in
+        weights.walk-passed b (k - 1) 0 (omega arith) fine refl ∙ ap (weights.left b) s ∙ none-refused n (suc k) (omega arith) (omega arith) ∙ ap (weights.left b) p
+
+  pub run-sum : allValued x (partAt (λ j. 0) (r .start)) (r .count) (r .first) + weights.rest b (r .first - 1 + r .count) ≡ weights.rest b (r .first - 1)
+  run-sum = sum-code (r .count) (r .first) (omega arith) (omega arith)
+
+  pub run-left : Passed x r → weights.left b (r .first - 1) ≡ weights.left b (r .first - 1 + r .count)
+  run-left c = none-refused c (r .count) (r .first) (omega arith) (omega arith)
+
+-- ---- the card
+
+module _ (s : List ℕ) (h : 38 ≤ length s) (a b c d e : ℕ)
+    (ea : a ≡ bitField s (8 * 1) 64) (eb : b ≡ bitField s (8 * 8) 64) (ec : c ≡ bitField s (8 * 15) 64) (ed : d ≡ bitField s (8 * 22) 64) (ee : e ≡ bitField s (8 * 29) 64) where
+  passed-left : AllPassed a b c d e → weights.left s 0 ≡ none
+  passed-left t =
+      run-left s h a runA goodA ea (omega arith) (omega arith) (omega arith) (t .first)
+      ∙ run-left s h b runB goodB eb (omega arith) (omega arith) (omega arith) (t .second)
+      ∙ run-left s h c runC goodC ec (omega arith) (omega arith) (omega arith) (t .third)
+      ∙ run-left s h d runD goodD ed (omega arith) (omega arith) (omega arith) (t .fourth)
+      ∙ run-left s h e runE goodE ee (omega arith) (omega arith) (omega arith) (t .fifth)
+      ∙ weights.left-end s
+
+  -- the numbers at place p
+  valuedAt : ℕ → ℕ
+  valuedAt p =
+      valued a (placed p runA) + valued b (placed p runB)
+      + (valued c (placed p runC) + (valued d (placed p runD) + valued e (placed p runE)))
+
+  near-at : (p : ℕ) → p < 8 → Near 0 (atPlace a b c d e p) (valuedAt p)
+  unfolding atPlace valuedAt
+  near-at p l =
+      let one : (x : ℕ) (r : Run) → Good r → Near p (kept x p r) (valued x (placed p r)) =
+      λ x r g. near-placed x p r (every-at (λ q. lower (placed q r)) 8 0 p (g .lowers) (omega arith) (omega arith)) in
+      near-low p _ _ (near-add p _ _ _ _ (near-add p _ _ _ _ (one a runA goodA) (one b runB goodB)) (near-add p _ _ _ _ (one c runC goodC) (near-add p _ _ _ _ (one d runD goodD) (one e runE goodE))))
+
+  all-codes : summed 8 valuedAt ≡ total (codesOf s)
+  unfolding valuedAt
+  all-codes =
+      let at : ℕ → Run → ℕ → ℕ = λ x r p. valued x (placed p r) in
+      let sums : summed 8 valuedAt ≡ summed 8 (at a runA) + summed 8 (at b runB) + (summed 8 (at c runC) + (summed 8 (at d runD) + summed 8 (at e runE))) =
+      summed-add 8 (λ p. at a runA p + at b runB p) (λ p. at c runC p + (at d runD p + at e runE p))
+      ∙ ap₂ _+_ (summed-add 8 (at a runA) (at b runB))
+      (summed-add 8 (at c runC) (λ p. at d runD p + at e runE p) ∙ ap (λ (n : ℕ). summed 8 (at c runC) + n) (summed-add 8 (at d runD) (at e runE))) in
+      let ra : summed 8 (at a runA) + weights.rest s 7 ≡ weights.rest s 0 = rw (placed-all a runA) (run-sum s h a runA goodA ea (omega arith) (omega arith) (omega arith)) in
+      let rb : summed 8 (at b runB) + weights.rest s 19 ≡ weights.rest s 7 = rw (placed-all b runB) (run-sum s h b runB goodB eb (omega arith) (omega arith) (omega arith)) in
+      let rc : summed 8 (at c runC) + weights.rest s 28 ≡ weights.rest s 19 = rw (placed-all c runC) (run-sum s h c runC goodC ec (omega arith) (omega arith) (omega arith)) in
+      let rd : summed 8 (at d runD) + weights.rest s 38 ≡ weights.rest s 28 = rw (placed-all d runD) (run-sum s h d runD goodD ed (omega arith) (omega arith) (omega arith)) in
+      let re : summed 8 (at e runE) + weights.rest s 46 ≡ weights.rest s 38 = rw (placed-all e runE) (run-sum s h e runE goodE ee (omega arith) (omega arith) (omega arith)) in
+      sums ∙ omega (arith, weights.rest-end s)
+
+  pub sum-is : summed 8 (atPlace a b c d e) % 255 ≡ checksum (codesOf s)
+  unfolding checksum
+  sum-is = near-mod _ _ (near-summed 8 (atPlace a b c d e) valuedAt near-at) ∙ ap (λ (n : ℕ). n % 255) all-codes
+
+  pub card-passed : AllPassed a b c d e → Checksum (summed 8 (atPlace a b c d e) % 255) ≡ cardCheck s
+  unfolding cardCheck
+  card-passed t = ap₂ (λ (n : ℕ) (r : Option Refusal). checkedOf r n) sum-is (sym (passed-left t))
+
+-- ---- what the walk answers
+
+abbrev pub answered : walked.CardCheck → CardCheck
+answered (walked.the-variants.Refused n k) = Refused n k
+answered (walked.the-variants.Sum n) = Checksum (n % 255)
+
+pub walk-answered : (s : List ℕ) (f : walked.CardCheck) → f ≡ walk.cardCheck s → answered f ≡ cardCheck s
+unfolding walk.cardCheck cardCheck checksum
+walk-answered s f e = ap answered e ∙ go (first (fieldChecks 1 table (codesOf s)))
+  where
+    go : (r : Option Refusal) → answered (walk.checkedOf r (total (codesOf s))) ≡ checkedOf r (total (codesOf s) % 255)
+    go (some r) = refl
+    go none = refl

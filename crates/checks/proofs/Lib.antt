@@ -1,0 +1,4 @@
+pub mod Turned
+pub mod Parts
+pub mod Places
+pub mod Card
