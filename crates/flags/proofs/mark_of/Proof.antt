@@ -2,7 +2,7 @@
 -- Assumes nothing.
 use Prim.Native.Nat.{ℕ, _≤_}
 use native.Mathlib.Omega.{arith}
-use mathlib.Core.Path.{_≡_, refl, sym, ap}
+use mathlib.Core.Path.{refl, sym, ap}
 use Rattle.format.specs.Flags.{weight, weights}
 use Rattle.laws.proofs.Characters.{allBelow}
 use Rattle.flags.specs.Marks.{mark}
