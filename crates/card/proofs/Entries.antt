@@ -21,7 +21,7 @@ use Rattle.format.specs.declared.Scaled.{Scaled}
 use Rattle.laws.proofs.Fields.{noField, field-at, table-length, length-entries, entries-at}
 use Rattle.card.specs.Rows.{scaledIn, Row}
 use Rattle.card.proofs.Scale.{scaled-row}
-use Rattle.card.proofs.Weights.{codes-length}
+use Rattle.card.proofs.Walk.{codes-length}
 
 -- ---- a field's entry
 
