@@ -12,7 +12,7 @@ use Rattle.format.specs.Report.{codesOf}
 use Rattle.format.specs.declared.Coded.{Coded}
 use Rattle.format.specs.declared.Scaled.{Scaled}
 use Rattle.laws.proofs.Fields.{noField, field-at, table-length, length-entries, entries-at}
-use Rattle.card.proofs.Weights.{codes-length}
+use Rattle.card.proofs.Walk.{codes-length}
 
 -- ---- a field's entry
 

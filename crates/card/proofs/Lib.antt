@@ -1,6 +1,6 @@
 pub mod Rows
 pub mod Scale
 pub mod Numbers
-pub mod Weights
+pub mod Walk
 pub mod Entries
 pub mod Given

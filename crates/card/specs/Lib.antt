@@ -1,3 +1,3 @@
 pub mod Answers
 pub mod Rows
-pub mod Weights
+pub mod Walk

@@ -9,7 +9,7 @@ ghost use Rattle.format.specs.Report.{numbersOf, rptinOf, codesOf, checksumOf, 
 ghost use Rattle.bits.specs.Window.{TwoBytes};
 ghost use Rattle.card.specs.Answers.{cardCheck, codingOf, Carded};
 ghost use Rattle.card.specs.Rows.{rows, baseOf, fieldIn, Row};
-ghost use Rattle.card.specs.Weights.{ThreeFields, weighed, weighedThree, weights, refusalOf};
+ghost use Rattle.card.specs.Walk.{refusalOf};
 use format::Coded;
 use format::Scaled;
 
@@ -330,102 +330,6 @@ pub fn set_rptin(s: &mut [u8], v: u16)
     bits::write(s, 0, 16, v as u64);
 }
 
-// A coded number, and 2^32 more where it is above the highest.
-fn mark(c: u64, highest: u64) -> u64
-    requires { ⌜ c < 65536 ⌝ }
-    ensures { λ r. ⌜ (r ≡ weighed false highest c) × (r < 8589934592) ⌝ }
-{
-    if highest < c {
-        return c + 4294967296;
-    }
-    c
-}
-
-// A coded number of a required field, and 2^32 more where it is 0 or above the highest.
-fn mark_required(c: u64, highest: u64) -> u64
-    requires { ⌜ (c < 65536) × (highest < 65536) ⌝ }
-    ensures { λ r. ⌜ (r ≡ weighed true highest c) × (r < 8589934592) ⌝ }
-{
-    if highest <= (c + 65535) % 65536 {
-        return c + 4294967296;
-    }
-    c
-}
-
-// The weight of the field of width bits from bit `at` on, added to a sum.
-fn weigh(sum: u64, s: &[u8], at: usize, width: usize, highest: u64) -> u64
-    requires { ⌜ TwoBytes (length (now s)) at width × (sum < 1099511627776) ⌝ }
-    ensures { λ r. ⌜ (r ≡ sum + weighed false highest (bitField (now (s .entry)) at width)) × (r < sum + 8589934592) ⌝ }
-{
-    sum + mark(bits::read(s, at, width), highest)
-}
-
-// The same of a required field.
-fn weigh_required(sum: u64, s: &[u8], at: usize, width: usize, highest: u64) -> u64
-    requires { ⌜ TwoBytes (length (now s)) at width × (sum < 1099511627776) × (highest < 65536) ⌝ }
-    ensures { λ r. ⌜ (r ≡ sum + weighed true highest (bitField (now (s .entry)) at width)) × (r < sum + 8589934592) ⌝ }
-{
-    sum + mark_required(bits::read(s, at, width), highest)
-}
-
-// The same of three fields that are not required, one after the other from bit `at` on.
-fn weigh_three(
-    sum: u64,
-    s: &[u8],
-    at: usize,
-    w1: usize,
-    h1: u64,
-    w2: usize,
-    h2: u64,
-    w3: usize,
-    h3: u64,
-) -> u64
-    requires { ⌜ ThreeFields (length (now s)) at w1 w2 w3 × (sum < 549755813888) ⌝ }
-    ensures { λ r. ⌜ (r ≡ sum + weighedThree (now (s .entry)) at w1 h1 w2 h2 w3 h3) × (r < sum + 25769803776) ⌝ }
-{
-    let sum = weigh(sum, s, at, w1, h1);
-    let sum = weigh(sum, s, at + w1, w2, h2);
-    weigh(sum, s, at + w1 + w2, w3, h3)
-}
-
-// The weights of fields 1 to 16.
-fn weigh_1_to_16(s: &[u8]) -> u64
-    requires { ⌜ 38 ≤ length (now s) ⌝ }
-    ensures { λ r. ⌜ r ≡ weights (now (s .entry)) 1 16 ⌝ }
-{
-    let sum = 0;
-    let sum = weigh_required(sum, s, 16, 10, 648); // BOX10
-    let sum = weigh_required(sum, s, 26, 8, 255); // YEAR
-    let sum = weigh_required(sum, s, 34, 4, 12); // MONTH
-    let sum = weigh(sum, s, 38, 5, 31); // DAY
-    let sum = weigh(sum, s, 43, 5, 24); // HOUR
-    let sum = weigh_required(sum, s, 48, 12, 3600); // X
-    let sum = weigh_required(sum, s, 60, 11, 1801); // Y
-    let sum = weigh_three(sum, s, 71, 3, 4, 10, 1000, 8, 255); // XYI CD SID
-    let sum = weigh_three(sum, s, 92, 4, 8, 2, 3, 3, 6); // ST QI DS
-    let sum = weigh_three(sum, s, 101, 2, 3, 3, 2, 2, 3); // DC TC PB
-    sum
-}
-
-// The weights of fields 17 to 46.
-fn weigh_17_to_46(s: &[u8]) -> u64
-    requires { ⌜ 38 ≤ length (now s) ⌝ }
-    ensures { λ r. ⌜ r ≡ weights (now (s .entry)) 17 30 ⌝ }
-{
-    let sum = 0;
-    let sum = weigh_three(sum, s, 108, 3, 6, 9, 362, 4, 4); // DI D WI
-    let sum = weigh_three(sum, s, 124, 10, 1023, 2, 3, 4, 10); // W VI VB
-    let sum = weigh_three(sum, s, 140, 7, 100, 4, 10, 4, 10); // PW W1 W2
-    let sum = weigh_three(sum, s, 155, 11, 2047, 4, 6, 11, 1999); // P TI A
-    let sum = weigh_three(sum, s, 181, 11, 1999, 11, 1999, 11, 1999); // WB DPT S
-    let sum = weigh_three(sum, s, 214, 4, 3, 4, 10, 4, 10); // BI C NH
-    let sum = weigh_three(sum, s, 226, 4, 11, 2, 2, 4, 11); // CL HI H
-    let sum = weigh_three(sum, s, 236, 4, 11, 4, 11, 6, 39); // CM CH WD
-    let sum = weigh_three(sum, s, 250, 5, 31, 7, 100, 6, 39); // WP WH SD
-    let sum = weigh_three(sum, s, 268, 5, 31, 7, 100, 2, 2); // SP SH A6
-    sum
-}
-
 // The refusal, 2 or 3, of a coded number of field k, or 0.
 fn refusal(k: usize, c: Coded) -> u8
     requires { ⌜ (1 ≤ k) × (k ≤ 46) ⌝ }
@@ -445,7 +349,7 @@ fn refusal(k: usize, c: Coded) -> u8
 }
 
 // Checks field after field.
-fn walk(s: &[u8]) -> CardCheck
+pub fn check(s: &[u8]) -> CardCheck
     requires { ⌜ 38 ≤ length (now s) ⌝ }
     ensures { λ r. ⌜ r ≡ cardCheck (now (s .entry)) ⌝ }
 {
@@ -463,16 +367,4 @@ fn walk(s: &[u8]) -> CardCheck
         i = k;
     }
     CardCheck::Sum(sum)
-}
-
-// Checks the fields. A card with no fault is weighed in straight lines; the walk finds the first fault.
-pub fn check(s: &[u8]) -> CardCheck
-    requires { ⌜ 38 ≤ length (now s) ⌝ }
-    ensures { λ r. ⌜ r ≡ cardCheck (now (s .entry)) ⌝ }
-{
-    let weight = weigh_1_to_16(s) + weigh_17_to_46(s);
-    if weight < 4294967296 {
-        return CardCheck::Sum(weight);
-    }
-    walk(s)
 }

@@ -22,8 +22,8 @@ use Rattle.laws.proofs.Lists.{test-case}
 use Rattle.laws.proofs.Bits.{length-bitsOf, field-bits}
 use Rattle.bits.proofs.Window.{field-in}
 use Rattle.card.proofs.Numbers.{number-at, code-at}
-use Rattle.card.proofs.Weights as weights
-use Rattle.card.specs.Weights as weightsSpec
+use Rattle.card.proofs.Walk as turns
+use Rattle.card.specs.Walk.{refusalOf}
 use Rattle.card.specs.Answers as walk
 use Rattle.card.specs.declared.CardCheck as walked
 use Rattle.checks.specs.Answers.{checkedOf, cardCheck}
@@ -134,13 +134,13 @@ module _ (b : List ℕ) (h : 38 ≤ length b) (x : ℕ) (r : Run) (g : Good r) (
 
   -- the sum of the coded fields
   sum-code : (n k : ℕ) → r .first ≤ k → k + n ≤ r .first + r .count
-      → allValued x (partAt (λ j. 0) (r .start)) n k + weights.rest b (k - 1 + n) ≡ weights.rest b (k - 1)
+      → allValued x (partAt (λ j. 0) (r .start)) n k + turns.rest b (k - 1 + n) ≡ turns.rest b (k - 1)
   unfolding allValued
-  sum-code zero k l u = let q : k - 1 + 0 ≡ k - 1 = omega arith in ap (λ (n : ℕ). 0 + weights.rest b n) q ∙ omega arith
+  sum-code zero k l u = let q : k - 1 + 0 ≡ k - 1 = omega arith in ap (λ (n : ℕ). 0 + turns.rest b n) q ∙ omega arith
   sum-code (suc n) k l u =
       let q : suc k - 1 ≡ suc (k - 1) = omega arith in
       let p : k - 1 + suc n ≡ suc k - 1 + n = omega arith in
-      omega (arith, shown-code (λ j. 0) k l (omega arith), sum-code n (suc k) (omega arith) (omega arith), weights.rest-step b (k - 1) (omega arith), ap (weights.rest b) q, ap (weights.rest b) p)
+      omega (arith, shown-code (λ j. 0) k l (omega arith), sum-code n (suc k) (omega arith) (omega arith), turns.rest-step b (k - 1) (omega arith), ap (turns.rest b) q, ap (turns.rest b) p)
 
   module _ (c : Passed x r) where
     -- no field is above its highest
@@ -168,34 +168,34 @@ module _ (b : List ℕ) (h : 38 ≤ length b) (x : ℕ) (r : Run) (g : Good r) (
         (λ n. ap (λ (t : Bool). t && eqb (code b k) 0) n)
 
     -- so none is refused
-    pub none-refused : (n k : ℕ) → r .first ≤ k → k + n ≤ r .first + r .count → weights.left b (k - 1) ≡ weights.left b (k - 1 + n)
-    none-refused zero k l u = ap (weights.left b) (sym (add-zero (k - 1)))
+    pub none-refused : (n k : ℕ) → r .first ≤ k → k + n ≤ r .first + r .count → turns.left b (k - 1) ≡ turns.left b (k - 1 + n)
+    none-refused zero k l u = ap (turns.left b) (sym (add-zero (k - 1)))
     none-refused (suc n) k l u =
         let q : suc (k - 1) ≡ k = omega arith in
-        let fine : 0 ≡ weightsSpec.refusalOf (suc (k - 1)) (code b k) =
-        weights.refusal-fine (suc (k - 1)) (code b k) (subst (λ (j : ℕ). code b k ≤ fieldAt j .highest) (sym q) (top k l (omega arith))) (subst (λ (j : ℕ). required j && eqb (code b k) 0 ≡ false) (sym q) (present k l (omega arith))) in
+        let fine : 0 ≡ refusalOf (suc (k - 1)) (code b k) =
+        turns.refusal-fine (suc (k - 1)) (code b k) (subst (λ (j : ℕ). code b k ≤ fieldAt j .highest) (sym q) (top k l (omega arith))) (subst (λ (j : ℕ). required j && eqb (code b k) 0 ≡ false) (sym q) (present k l (omega arith))) in
         let p : suc k - 1 + n ≡ k - 1 + suc n = omega arith in
         let s : suc (k - 1) ≡ suc k - 1 = omega arith in
-        weights.walk-passed b (k - 1) 0 (omega arith) fine refl ∙ ap (weights.left b) s ∙ none-refused n (suc k) (omega arith) (omega arith) ∙ ap (weights.left b) p
+        turns.walk-passed b (k - 1) 0 (omega arith) fine refl ∙ ap (turns.left b) s ∙ none-refused n (suc k) (omega arith) (omega arith) ∙ ap (turns.left b) p
 
-  pub run-sum : allValued x (partAt (λ j. 0) (r .start)) (r .count) (r .first) + weights.rest b (r .first - 1 + r .count) ≡ weights.rest b (r .first - 1)
+  pub run-sum : allValued x (partAt (λ j. 0) (r .start)) (r .count) (r .first) + turns.rest b (r .first - 1 + r .count) ≡ turns.rest b (r .first - 1)
   run-sum = sum-code (r .count) (r .first) (omega arith) (omega arith)
 
-  pub run-left : Passed x r → weights.left b (r .first - 1) ≡ weights.left b (r .first - 1 + r .count)
+  pub run-left : Passed x r → turns.left b (r .first - 1) ≡ turns.left b (r .first - 1 + r .count)
   run-left c = none-refused c (r .count) (r .first) (omega arith) (omega arith)
 
 -- ---- the card
 
 module _ (s : List ℕ) (h : 38 ≤ length s) (a b c d e : ℕ)
     (ea : a ≡ bitField s (8 * 1) 64) (eb : b ≡ bitField s (8 * 8) 64) (ec : c ≡ bitField s (8 * 15) 64) (ed : d ≡ bitField s (8 * 22) 64) (ee : e ≡ bitField s (8 * 29) 64) where
-  passed-left : AllPassed a b c d e → weights.left s 0 ≡ none
+  passed-left : AllPassed a b c d e → turns.left s 0 ≡ none
   passed-left t =
       run-left s h a runA goodA ea (omega arith) (omega arith) (omega arith) (t .first)
       ∙ run-left s h b runB goodB eb (omega arith) (omega arith) (omega arith) (t .second)
       ∙ run-left s h c runC goodC ec (omega arith) (omega arith) (omega arith) (t .third)
       ∙ run-left s h d runD goodD ed (omega arith) (omega arith) (omega arith) (t .fourth)
       ∙ run-left s h e runE goodE ee (omega arith) (omega arith) (omega arith) (t .fifth)
-      ∙ weights.left-end s
+      ∙ turns.left-end s
 
   -- the numbers at place p
   valuedAt : ℕ → ℕ
@@ -218,12 +218,12 @@ module _ (s : List ℕ) (h : 38 ≤ length s) (a b c d e : ℕ)
       summed-add 8 (λ p. at a runA p + at b runB p) (λ p. at c runC p + (at d runD p + at e runE p))
       ∙ ap₂ _+_ (summed-add 8 (at a runA) (at b runB))
       (summed-add 8 (at c runC) (λ p. at d runD p + at e runE p) ∙ ap (λ (n : ℕ). summed 8 (at c runC) + n) (summed-add 8 (at d runD) (at e runE))) in
-      let ra : summed 8 (at a runA) + weights.rest s 7 ≡ weights.rest s 0 = rw (placed-all a runA) (run-sum s h a runA goodA ea (omega arith) (omega arith) (omega arith)) in
-      let rb : summed 8 (at b runB) + weights.rest s 19 ≡ weights.rest s 7 = rw (placed-all b runB) (run-sum s h b runB goodB eb (omega arith) (omega arith) (omega arith)) in
-      let rc : summed 8 (at c runC) + weights.rest s 28 ≡ weights.rest s 19 = rw (placed-all c runC) (run-sum s h c runC goodC ec (omega arith) (omega arith) (omega arith)) in
-      let rd : summed 8 (at d runD) + weights.rest s 38 ≡ weights.rest s 28 = rw (placed-all d runD) (run-sum s h d runD goodD ed (omega arith) (omega arith) (omega arith)) in
-      let re : summed 8 (at e runE) + weights.rest s 46 ≡ weights.rest s 38 = rw (placed-all e runE) (run-sum s h e runE goodE ee (omega arith) (omega arith) (omega arith)) in
-      sums ∙ omega (arith, weights.rest-end s)
+      let ra : summed 8 (at a runA) + turns.rest s 7 ≡ turns.rest s 0 = rw (placed-all a runA) (run-sum s h a runA goodA ea (omega arith) (omega arith) (omega arith)) in
+      let rb : summed 8 (at b runB) + turns.rest s 19 ≡ turns.rest s 7 = rw (placed-all b runB) (run-sum s h b runB goodB eb (omega arith) (omega arith) (omega arith)) in
+      let rc : summed 8 (at c runC) + turns.rest s 28 ≡ turns.rest s 19 = rw (placed-all c runC) (run-sum s h c runC goodC ec (omega arith) (omega arith) (omega arith)) in
+      let rd : summed 8 (at d runD) + turns.rest s 38 ≡ turns.rest s 28 = rw (placed-all d runD) (run-sum s h d runD goodD ed (omega arith) (omega arith) (omega arith)) in
+      let re : summed 8 (at e runE) + turns.rest s 46 ≡ turns.rest s 38 = rw (placed-all e runE) (run-sum s h e runE goodE ee (omega arith) (omega arith) (omega arith)) in
+      sums ∙ omega (arith, turns.rest-end s)
 
   pub sum-is : summed 8 (atPlace a b c d e) % 255 ≡ checksum (codesOf s)
   unfolding checksum

@@ -24,7 +24,7 @@ use Rattle.laws.proofs.Fields.{table-length, codes-entries}
 use Rattle.laws.proofs.Report.{numbers-taken}
 use Rattle.laws.proofs.Laid.{field-laid, value-numbers, total-set}
 use Rattle.card.specs.Answers.{Carded, codingOf}
-use Rattle.card.proofs.Weights.{codes-length}
+use Rattle.card.proofs.Walk.{codes-length}
 use Rattle.card.proofs.Entries.{entry-missing, entry-there, entry-is, entries-length}
 use Rattle.card.proofs.Given.{coding-outside, coding-code}
 use Rattle.card.specs.declared.Coding.the-variants.{Outside, Code}

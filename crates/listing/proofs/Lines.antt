@@ -22,7 +22,7 @@ use Rattle.format.proofs.Test.{left, right}
 use Rattle.laws.proofs.Fields.{table-length, Fair, FairAll, nil, cons, fair-range, coded-range, scaled-coded, codes-entries, checks-fair}
 use Rattle.laws.proofs.Report.{passes}
 use Rattle.card.proofs.Entries.{entry-there, entry-is, entries-length}
-use Rattle.card.proofs.Weights.{codes-length}
+use Rattle.card.proofs.Walk.{codes-length}
 use Rattle.report.specs.Answers.{inspected}
 use Rattle.report.specs.declared.Report.{Report}
 use Rattle.report.specs.declared.Inspected.{Inspected}

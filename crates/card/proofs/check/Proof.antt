@@ -1,46 +1,98 @@
--- `card::check` meets its contract: a weight below 2 ^ 32 is the sum of fields of which none is refused.
+-- `card::check` meets its contract. The invariant: what is left to check refuses what the whole does, and what was summed and the rest are the whole sum.
 -- Assumes nothing.
-use Prim.Native.Nat.{ℕ, _+_}
+use Prim.Native.Nat.{ℕ, suc, _+_, _-_, _*_, _≤_, _<_}
+use native.Mathlib.Numerals.{add-one}
 use native.Mathlib.Omega.{arith}
-use mathlib.Core.Path.{ap}
+use mathlib.Core.Path.{_≡_, refl, sym, ap, ap₂, _∙_}
 use mathlib.Core.List.{List}
+use lib.ListN.{getD}
 use denote.Ref.{now}
-use Rattle.card.proofs.Weights.{weights-le, weights-run, light-card}
+use Rattle.format.specs.Report.{codesOf}
+use Rattle.card.specs.Walk.{refusalOf}
+use Rattle.card.proofs.Walk.{left, rest, rest-step, walk-refused, walk-passed, walk-end}
 use borrow.Author.Needs.{needs}
 use Rattle.card.proofs.check.Statement.{statement}
 use Rattle.card.proofs.check.Tie as tie
 
-weigh-1-to-16-requires : tie.Need-weigh-1-to-16-requires
-weigh-1-to-16-requires c κs = search needs
+abbrev Inv-loop : tie.InvT-loop
+Inv-loop s sum₀ i₀ sum i = (i ≤ 46) × (sum ≤ 65536 * i) × (sum + rest s i ≡ rest s 0) × (left s i ≡ left s 0)
 
-weigh-17-to-46-requires : tie.Need-weigh-17-to-46-requires
-weigh-17-to-46-requires c κs = search needs
+abbrev μ-loop : tie.MeasureT-loop
+μ-loop s sum₀ i₀ sum i = 46 - i
 
-add-weight : tie.Need-add-weight
-add-weight c =
-    let s : List ℕ = now (c .before .before .before .args .s) in
-    omega (arith, weights-le s 16 1 (omega arith) (omega arith), weights-le s 30 17 (omega arith) (omega arith))
+found : (c : tie.After-code Inv-loop μ-loop) → c .code .result .0 ≡ getD (codesOf (now (c .before .before .before .before .args .s))) (c .before .before .loop .i) 0
+found c =
+    let i : ℕ = c .before .before .loop .i in
+    let e : i + 1 - 1 ≡ i = omega arith in
+    c .code .ensures ∙ ap (λ (n : ℕ). getD (codesOf (now (c .before .before .before .before .args .s))) n 0) e
 
-returns : tie.Need-returns
+small : (c : tie.After-code Inv-loop μ-loop) → c .code .result .0 < 65536
+small c = search needs
+
+-- what was found of the field at place i
+turn : (c : tie.After-refusal Inv-loop μ-loop)
+    → c .refusal .result ≡ refusalOf (suc (c .before .before .before .loop .i)) (getD (codesOf (now (c .before .before .before .before .before .args .s))) (c .before .before .before .loop .i) 0)
+turn c = c .refusal .ensures ∙ ap₂ refusalOf (add-one (c .before .before .before .loop .i)) (found (c .before))
+
+loop-holds : tie.Need-loop-holds Inv-loop μ-loop
+loop-holds c = (omega arith, omega arith, omega arith, refl)
+
+add-k : tie.Need-add-k Inv-loop μ-loop
+add-k c = search needs
+
+code-requires : tie.Need-code-requires Inv-loop μ-loop
+code-requires c κs = search needs
+
+refusal-requires : tie.Need-refusal-requires Inv-loop μ-loop
+refusal-requires c κs = search needs
+
+returns : tie.Need-returns Inv-loop μ-loop
 returns c =
-    let a = c .before .before .weigh-1-to-16 in
-    let z = c .before .weigh-17-to-46 in
-    let s : List ℕ = now (c .before .before .before .before .args .s) in
-    light-card s (a .result + z .result) (weights-run s 1 16 30 (a .result) (a .result + z .result) (a .ensures) (ap (λ (n : ℕ). a .result + n) (z .ensures))) (c .if1 .taken)
+    let l = c .before .before .before .before .loop in
+    let s : List ℕ = now (c .before .before .before .before .before .before .args .s) in
+    walk-refused s (l .i) (c .before .refusal .result) (c .before .before .before .loop-test .taken) (turn (c .before)) (c .if1 .taken) (l .inv .3)
 
-walk-requires : tie.Need-walk-requires
-walk-requires c κs = search needs
+cast-sum : tie.Need-cast-sum Inv-loop μ-loop
+cast-sum c = search needs
 
-returns-2 : tie.Need-returns-2
-returns-2 c = search needs
+add-sum : tie.Need-add-sum Inv-loop μ-loop
+add-sum c = omega (arith, small (c .before .before))
+
+loop-less : tie.Need-loop-less Inv-loop μ-loop
+loop-less c = search needs
+
+loop-again : tie.Need-loop-again Inv-loop μ-loop
+loop-again c =
+    let l = c .before .before .before .before .loop in
+    let s : List ℕ = now (c .before .before .before .before .before .before .args .s) in
+    let h : l .i < 46 = c .before .before .before .loop-test .taken in
+    let p : left s (l .i) ≡ left s (suc (l .i)) = walk-passed s (l .i) (c .before .refusal .result) h (turn (c .before)) (c .if1 .left) in
+    rw add-one (
+      omega arith,
+      omega (arith, small (c .before .before)),
+      omega (arith, rest-step s (l .i) h, found (c .before .before)),
+      sym p ∙ l .inv .3,
+    )
+
+returns-2 : tie.Need-returns-2 Inv-loop μ-loop
+returns-2 c =
+    let l = c .before .loop in
+    let s : List ℕ = now (c .before .before .before .args .s) in
+    walk-end s (l .i) (l .sum) (omega arith) (l .inv .3) (l .inv .2)
 
 pub check-spec : {M : Type 1} → statement M
 check-spec =
     tie.close
     (tie.spec
-    weigh-1-to-16-requires
-    weigh-17-to-46-requires
-    add-weight
+    Inv-loop
+    μ-loop
+    loop-holds
+    add-k
+    code-requires
+    refusal-requires
     returns
-    walk-requires
+    cast-sum
+    add-sum
+    loop-less
+    loop-again
     returns-2)

@@ -5,7 +5,7 @@ use mathlib.Core.Path.{sym, _∙_}
 use mathlib.Core.Bool.{and-false}
 use borrow.Author.Tests.{ne-eqb}
 use Rattle.format.specs.Field.{required}
-use Rattle.card.proofs.Weights.{refusal-above, refusal-fine, refusal-missing}
+use Rattle.card.proofs.Walk.{refusal-above, refusal-fine, refusal-missing}
 use borrow.Author.Needs.{needs}
 use Rattle.card.proofs.refusal.Statement.{statement}
 use Rattle.card.proofs.refusal.Tie as tie
