@@ -11,7 +11,8 @@ pub fn line(case: &Case) -> String {
     format!("{} -> {}", inputs(case), outcome(&case.run()))
 }
 
-fn inputs(case: &Case) -> String {
+/// What is lent.
+pub fn inputs(case: &Case) -> String {
     match case {
         Case::Judge { report } => format!("judge {}", hex(report)),
         Case::Lister { input } => format!("lister {}", hex(input)),
@@ -139,7 +140,7 @@ fn call_answer(answer: &Answer, buffer: &[u8]) -> String {
     }
 }
 
-fn hex(bytes: &[u8]) -> String {
+pub fn hex(bytes: &[u8]) -> String {
     or_dash(bytes.iter().map(|byte| format!("{byte:02X}")).collect())
 }
 

@@ -3,18 +3,18 @@
 use Prim.Native.Nat.{ℕ, _+_, _*_, _≤_, _<_}
 use native.Mathlib.Omega.{arith}
 use mathlib.Core.Path.{_≡_, refl, sym, ap, ap₂, _∙_}
-use mathlib.Core.Bool.{true, not, or-true, and-false}
+use mathlib.Core.Bool.{Bool, true, false, not, or-true, and-false}
 use mathlib.Core.List.{List, [], _∷_, _++_, append-assoc}
 use mathlib.Core.Option.{Option, none, some}
 use lib.ListN.{length, take, drop}
 use lib.IntN.{ℤ, pos}
 use lib.Dec.{ltb, leb}
-use borrow.Author.Tests.{lt-ltb, le-leb, lt-leb}
+use borrow.Author.Tests.{lt-ltb, le-leb, lt-leb, leb-true, leb-false}
 use Rattle.format.specs.Order.{Check, first, between}
 use Rattle.format.specs.Nibbles.{nibbles}
-use Rattle.format.specs.ShipText.{readText}
+use Rattle.format.specs.ShipText.{textValid, readText}
 use Rattle.format.specs.Sheet.{size}
-use Rattle.format.specs.Report.{sheetOf}
+use Rattle.format.specs.Report.{sheetOf, bodyValid}
 use Rattle.format.specs.Machine.{Call, fetch, fetchText, next, gives, lent, writes, contentOf, idCheck, standsCheck, roomCheck, callChecks, checks, Answer, over}
 use Rattle.format.specs.Buffer.{after, effect}
 use Rattle.format.specs.Reply.{refusal}
@@ -24,10 +24,10 @@ use Rattle.report.specs.Answers.{inspected}
 use Rattle.report.proofs.Outcomes.{judge-refused, judge-fine}
 use Rattle.laws.proofs.Order.{first-nil, no-check}
 use Rattle.laws.proofs.Bits.{Bytes}
-use Rattle.laws.proofs.AttachmentEdits.{Placed, placed}
+use Rattle.laws.proofs.AttachmentEdits.{Placed, placed, content-fine}
 use Rattle.laws.proofs.Effects.{effect-refused, effect-refuses, effect-same, effect-room}
 use Rattle.attachments.specs.Found.{Found}
-use Rattle.attachments.proofs.Place.{within, al-is, end-is, absent, present, inside, content-is}
+use Rattle.attachments.proofs.Place.{within, good, al-is, end-is, absent, present, inside, content-is}
 
 -- ---- what inspecting brings
 
@@ -124,18 +124,30 @@ module _ {b : List ℕ} {i : ℕ} {r : Report} (bs : Bytes b) (f : Found b i r) 
 
 -- ---- fetch text
 
-module _ {b : List ℕ} {r : Report} (bs : Bytes b) (f : Found b 4 r) (h : r .place ≡ 0 → ⊥) (n : ℕ) (out : List ℕ)
-    (count : n ≡ length (readText (take (r .al) (drop (r .place + 3) (nibbles b))))) where
-  body : readText (take (r .al) (drop (r .place + 3) (nibbles b))) ≡ readText (contentOf 4 (sheetOf b .attachments))
-  body = ap readText (content-is bs f (spot bs f h))
+module _ {b : List ℕ} {r : Report} (bs : Bytes b) (f : Found b 4 r) (h : r .place ≡ 0 → ⊥) where
+  abbrev body : List ℕ
+  body = take (r .al) (drop (r .place + 3) (nibbles b))
 
-  pub text-short : length out < n → after (refusal 13 0) b out ≡ effect b (fetchText out)
-  unfolding callChecks lent writes
-  text-short e = out-short bs f (fetchText out) (stands-passes bs f h) (omega (arith, ap length body))
+  body-is : take (r .al) (drop (r .place + 3) (nibbles b)) ≡ contentOf 4 (sheetOf b .attachments)
+  body-is = content-is bs f (spot bs f h)
 
-  pub text-done : (o : List ℕ) → n ≤ length out → o ≡ over (readText (take (r .al) (drop (r .place + 3) (nibbles b)))) out
-      → after (Answer.accepted (some (pos n) ∷ [])) b o ≡ effect b (fetchText out)
-  unfolding callChecks lent writes gives next
-  text-done o fits e =
-      out-done bs f (fetchText out) (readText (contentOf 4 (sheetOf b .attachments))) o n refl (stands-passes bs f h) refl refl (count ∙ ap length body) fits
-      (e ∙ ap₂ (λ (l : List ℕ) (m : ℕ). l ++ drop m out) body (sym count))
+  pub body-valid : textValid (take (r .al) (drop (r .place + 3) (nibbles b))) ≡ true
+  unfolding bodyValid
+  body-valid = ap textValid body-is ∙ content-fine 4 (good bs f .fine) (present bs f h) .valid
+
+  -- t: whether the text fits in out
+  module _ (out : List ℕ) (t : Bool) (e : t ≡ leb (length (readText (take (r .al) (drop (r .place + 3) (nibbles b))))) (length out)) where
+    pub text-short : t ≡ false → after (refusal 13 0) b out ≡ effect b (fetchText out)
+    unfolding callChecks lent writes
+    text-short k =
+        out-short bs f (fetchText out) (stands-passes bs f h)
+        (omega (arith, leb-false (length (readText body)) (length out) (sym e ∙ k), ap (λ (l : List ℕ). length (readText l)) body-is))
+
+    pub text-done : (o : List ℕ) (n : ℕ) → t ≡ true
+        → (o ≡ over (readText (take (r .al) (drop (r .place + 3) (nibbles b)))) out) × (n ≡ length (readText (take (r .al) (drop (r .place + 3) (nibbles b)))))
+        → after (Answer.accepted (some (pos n) ∷ [])) b o ≡ effect b (fetchText out)
+    unfolding callChecks lent writes gives next
+    text-done o n k g =
+        out-done bs f (fetchText out) (readText (contentOf 4 (sheetOf b .attachments))) o n refl (stands-passes bs f h) refl refl
+        (g .1 ∙ ap (λ (l : List ℕ). length (readText l)) body-is) (omega (arith, g .1, leb-true (length (readText body)) (length out) (sym e ∙ k)))
+        (g .0 ∙ ap₂ (λ (l : List ℕ) (m : ℕ). l ++ drop m out) (ap readText body-is) (sym (g .1)))

@@ -4,9 +4,9 @@ use Prim.Native.Nat.{ℕ, _+_, _-_, _*_, _≤_}
 use native.Mathlib.Omega.{arith}
 use mathlib.Core.Path.{_≡_, sym, ap, _∙_}
 use mathlib.Core.Bool.{true, false}
-use mathlib.Core.List.{List, _++_, append-assoc}
+use mathlib.Core.List.{List, _++_}
 use lib.ListN.{length, take, drop, length-append}
-use lib.Seq.{take-at, drop-drop, drop-append-add}
+use lib.Seq.{take-at}
 use Rattle.format.specs.Nibbles.{Attachment, attachment, nibbles, attachmentNibbles, tailNibbles}
 use Rattle.format.specs.Sheet.{packing, size}
 use Rattle.format.specs.Report.{sheetOf, Verdict, judge}
@@ -14,12 +14,11 @@ use Rattle.format.specs.Machine.{stands, contentOf}
 use Rattle.format.specs.Buffer.{zeros}
 use Rattle.report.specs.declared.Report.{Report}
 use Rattle.tail.proofs.Place as place
-use Rattle.tail.proofs.Place.{absent-at, stands-at, around}
+use Rattle.tail.proofs.Place.{absent-at, stands-at, around, beyond, body-is, body-ends}
 use Rattle.laws.proofs.Bits.{Bytes}
 use Rattle.laws.proofs.Attachments.{fine-size}
 use Rattle.laws.proofs.AttachmentEdits.{Placed}
 use Rattle.laws.proofs.Report.{Good, judged, size-is, size-range, counted}
-use Rattle.laws.proofs.Laid.{tail-taken}
 use Rattle.attachments.specs.Found.{Found}
 
 -- ---- what an accepted report shows
@@ -80,27 +79,10 @@ module _ {b : List ℕ} {i : ℕ} {r : Report} (bs : Bytes b) (f : Found b i r) 
 
     -- its header and its nibbles lie within the report
     pub inside : r .place + (3 + r .al) ≤ r .end
-    unfolding attachmentNibbles
-    inside =
-        omega (
-          arith,
-          place-is,
-          al-is,
-          end-is,
-          ap length split,
-          length-append before (attachmentNibbles (attachment i content) ++ behind),
-          length-append (attachmentNibbles (attachment i content)) behind,
-        )
+    inside = omega (arith, al-is, end-is, body-ends b i bs (f .judged) p (r .place) (ap (λ (q : Report). q .place) (f .is)))
 
     -- its nibbles
     pub content-is : take (r .al) (drop (r .place + 3) (nibbles b)) ≡ contentOf i (sheetOf b .attachments)
-    unfolding attachmentNibbles
     content-is =
-        let k : r .place + 3 ≡ 75 + (length before + 3) = omega (arith, place-is) in
-        let q : List ℕ = attachmentNibbles (attachment i content) in
-        let d : drop (r .place + 3) (nibbles b) ≡ content ++ (behind ++ rest) =
-        ap (λ (n : ℕ). drop n (nibbles b)) k ∙ sym (drop-drop (length before + 3) 75 (nibbles b))
-        ∙ ap (drop (length before + 3)) (tail-taken b (sheetOf b) bs (f .judged) ∙ ap (λ (l : List ℕ). l ++ rest) split ∙ append-assoc before (q ++ behind) rest)
-        ∙ drop-append-add before ((q ++ behind) ++ rest) 3
-        ∙ append-assoc content behind rest in
-        ap (take (r .al)) d ∙ take-at content (behind ++ rest) (r .al) (sym al-is)
+        ap (take (r .al)) (body-is b i bs (f .judged) p (r .place) (ap (λ (q : Report). q .place) (f .is)))
+        ∙ take-at content (tailNibbles (p .after) ++ beyond b i bs (f .judged) p) (r .al) (sym al-is)

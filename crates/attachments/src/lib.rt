@@ -71,12 +71,10 @@ fn fetch_text_found(s: &[u8], found: Report, out: &mut [u8]) -> Reply
         at: place + 3,
         packed: true,
     };
-    let n = text::text_length(s, c, al);
-    if out.len() < n {
-        return Reply::Refused(13, 0);
+    if text::fits(s, c, al, out.len()) {
+        return Reply::Count(text::read(s, c, al, out));
     }
-    text::read(s, c, al, out);
-    Reply::Count(n)
+    Reply::Refused(13, 0)
 }
 
 // Writes the ship text to the front of out.

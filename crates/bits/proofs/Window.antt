@@ -69,13 +69,13 @@ module _ (x q : List Bool) (m r w z : ℕ) (e : r + (w + z) ≡ m) where
   front n o l = length-append x (bits r n) ∙ ap₂ (λ (a b : ℕ). a + b) l (length-bits r n)
 
   -- the bits that stand there
-  pub window-take : (n o : ℕ) → length x ≡ o → take w (drop (o + r) (x ++ (bits m n ++ q))) ≡ bits w (n / 2 ^ z)
+  window-take : (n o : ℕ) → length x ≡ o → take w (drop (o + r) (x ++ (bits m n ++ q))) ≡ bits w (n / 2 ^ z)
   window-take n o l =
       ap (λ (b : List Bool). take w (drop (o + r) b)) (window-cut n)
       ∙ mid-take (x ++ bits r (n / 2 ^ (w + z))) (bits w (n / 2 ^ z)) (bits z n ++ q) (o + r) w (front (n / 2 ^ (w + z)) o l) (length-bits w (n / 2 ^ z))
 
   -- bits written there are a number patched
-  pub window-splice : (n o v : ℕ) → length x ≡ o → v < 2 ^ w → splice (x ++ (bits m n ++ q)) (o + r) (bits w v) ≡ x ++ (bits m (patched n z w v) ++ q)
+  window-splice : (n o v : ℕ) → length x ≡ o → v < 2 ^ w → splice (x ++ (bits m n ++ q)) (o + r) (bits w v) ≡ x ++ (bits m (patched n z w v) ++ q)
   unfolding patched
   window-splice n o v l hv =
       let p : ℕ = patched n z w v in
@@ -90,7 +90,7 @@ module _ (x q : List Bool) (m r w z : ℕ) (e : r + (w + z) ≡ m) where
       ∙ sym (window-cut p ∙ cc)
 
   -- of bytes
-  pub field-in : (s : List ℕ) (n o : ℕ) → bitsOf s ≡ x ++ (bits m n ++ q) → length x ≡ o → bitField s (o + r) w ≡ n / 2 ^ z % 2 ^ w
+  field-in : (s : List ℕ) (n o : ℕ) → bitsOf s ≡ x ++ (bits m n ++ q) → length x ≡ o → bitField s (o + r) w ≡ n / 2 ^ z % 2 ^ w
   unfolding bitField
   field-in s n o h l = ap number (ap (λ (b : List Bool). take w (drop (o + r) b)) h ∙ window-take n o l) ∙ number-bits w (n / 2 ^ z)
 

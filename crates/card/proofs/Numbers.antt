@@ -93,6 +93,17 @@ carded s t k v bs bt h hk hv written l =
       long = l;
     }
 
+-- also to the bits that a row says
+pub carded-row : (s t : List ℕ) (k r v : ℕ) → Row k r → Bytes s → Bytes t → 38 ≤ length s → 1 ≤ k → k ≤ 46 → v ≤ fieldAt k .highest
+    → bitsOf t ≡ splice (bitsOf s) (r / 4294967296) (bits (r / 268435456 % 16) v) → length t ≡ length s
+    → Carded s t (set (numbersOf s) k v)
+carded-row s t k r v w bs bt h lo hi hv written l =
+    carded s t k v bs bt h (omega arith) (code-lt k v lo hi hv) (written ∙ ap₂ (λ (o n : ℕ). splice (bitsOf s) o (bits n v)) (w .place) (w .bits)) l
+
+-- which have room for a coded number
+pub row-lt : (k r v : ℕ) → Row k r → 1 ≤ k → k ≤ 46 → v ≤ fieldAt k .highest → v < 2 ^ (r / 268435456 % 16)
+row-lt k r v w l h hv = subst (λ (n : ℕ). v < 2 ^ n) (sym (w .bits)) (code-lt k v l h hv)
+
 module _ (s t : List ℕ) (v : ℕ) (bs : Bytes s) (bt : Bytes t) (h : 38 ≤ length s) (l : length t ≡ length s) where
   pub carded-rptin : v < 65536 → bitsOf t ≡ splice (bitsOf s) 0 (bits 16 v) → Carded s t (set (numbersOf s) 0 v)
   unfolding total widths table

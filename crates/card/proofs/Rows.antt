@@ -3,7 +3,7 @@
 use Prim.Native.Nat.{ℕ, zero, suc, _+_, _/_, _%_, _≤_, _<_}
 use native.Mathlib.Omega.{arith}
 use native.Mathlib.Decide.{ℕ-discrete}
-use mathlib.Core.Path.{_≡_, sym, ap, subst}
+use mathlib.Core.Path.{_≡_, sym, ap, subst, _∙_}
 use mathlib.Core.Bool.{Bool, true, _&&_}
 use lib.ListN.{getD}
 use lib.Dec.{T, leb, eqb, eqb→eq, leb→le}
@@ -13,7 +13,9 @@ use Rattle.format.specs.Field.{table, fieldAt}
 use Rattle.format.specs.Sheet.{widths}
 use Rattle.format.proofs.Test.{left, right}
 use Rattle.format.proofs.Table.{eqZ}
-use Rattle.card.specs.Rows.{rows, baseOf, Row}
+use Rattle.laws.proofs.Fields.{width-at}
+use Rattle.bits.specs.Window.{TwoBytes}
+use Rattle.card.specs.Rows.{rows, baseOf, fieldIn, Row}
 
 -- k is none of the numbers 1 to n, as a `match` on k hands it to its last arm
 abbrev pub None : ℕ → ℕ → Type 0
@@ -77,3 +79,13 @@ tested k r t =
 
 pub row-is : (k : ℕ) → 1 ≤ k → k ≤ 46 → Row k (getD rows k 0)
 row-is k l h = tested k (getD rows k 0) (is-row 46 k all-rows l h)
+
+-- the field that a row is of
+pub field-row : (k r : ℕ) → Row k r → 1 ≤ k → k ≤ 46 → fieldIn r ≡ fieldAt k
+field-row k r w l h =
+    let b : r / 268435456 % 16 ≡ fieldAt k .bits = w .bits ∙ width-at k l h in
+    λ i. record { highest = w .highest i; base = w .base i; bits = b i }
+
+-- and the two bytes that it lies within
+pub row-window : (k r n : ℕ) → Row k r → 38 ≤ n → TwoBytes n (r / 4294967296) (r / 268435456 % 16)
+row-window k r n w h = rw (w .place, w .bits) (record { room = omega (arith, w .room); within = w .within })

@@ -11,12 +11,12 @@ use mir.Syntax.{w64}
 use mir.Val.{SFits, toZ, ofZ}
 use mir.ValLaws.{toZ-ofZ, toZ-pos}
 use borrow.Author.Tests.{ltb-true, ltb-false, le-leb, lt-leb}
-use Rattle.format.specs.Field.{Field, fieldAt, coded, scaled, codedOf, scaledOf, inRange}
+use Rattle.format.specs.Field.{Field, coded, scaled, codedOf, scaledOf, inRange}
 use Rattle.format.specs.declared.Coded.{Coded}
 use Rattle.format.specs.declared.Scaled.{Scaled}
 use Rattle.laws.proofs.Fields.{scaled-coded}
 use Rattle.card.specs.Answers.{codingOf}
-use Rattle.card.specs.Rows.{baseOf, scaledIn, Row}
+use Rattle.card.specs.Rows.{baseOf, fieldIn}
 use Rattle.card.specs.declared.Coding.the-variants.{Outside, Code}
 
 -- ---- sums with a base
@@ -66,13 +66,9 @@ module _ (c : Coded) (r : ℕ) (b : ℤ) (h : c .0 < 65536) (e : b ≡ baseOf r)
   pub scaled-fits : SFits w64 (toZ w64 (c .0) +ℤ toZ w64 (ofZ w64 b))
   scaled-fits = subst (λ (z : ℤ). SFits w64 z) (sym sum-is) (base-add-fits r (c .0) h)
 
-  pub scaled-is : scaled (toZ w64 (ofZ w64 (toZ w64 (c .0) +ℤ toZ w64 (ofZ w64 b)))) ≡ scaledIn r c
-  unfolding scaledIn
+  pub scaled-is : scaled (toZ w64 (ofZ w64 (toZ w64 (c .0) +ℤ toZ w64 (ofZ w64 b)))) ≡ scaledOf (fieldIn r) c
+  unfolding scaledOf
   scaled-is = ap scaled (toZ-ofZ w64 _ scaled-fits ∙ sum-is ∙ +ℤ-comm (baseOf r) (pos (c .0)))
-
-pub scaled-row : (k r : ℕ) (c : Coded) → Row k r → scaledIn r c ≡ scaledOf (fieldAt k) c
-unfolding scaledIn scaledOf
-scaled-row k r c w = ap (λ (z : ℤ). scaled (pos (c .0) +ℤ z)) (w .base)
 
 -- ---- a coded number
 

@@ -1,17 +1,15 @@
 -- What the card's functions answer and leave.
-use Prim.Native.Nat.{ℕ, _≤_}
+use Prim.Native.Nat.{ℕ}
 use mathlib.Core.Path.{_≡_}
 use mathlib.Core.Bool.{cond}
 use mathlib.Core.List.{List}
 use mathlib.Core.Option.{Option, none, some}
-use lib.ListN.{length, take}
+use lib.ListN.{length}
 use lib.Seq.{paste}
-use lib.IntN.{ℤ}
 use Rattle.format.specs.Order.{Refusal, first}
-use Rattle.format.specs.Field.{Field, table, inRange, codedOf, codes}
+use Rattle.format.specs.Field.{Field, table, inRange, codedOf}
 use Rattle.format.specs.Bits.{total}
 use Rattle.format.specs.Report.{numbersOf, codesOf, tailOf, fieldChecks}
-use Rattle.format.specs.Whole.{packChecks, entriesGiven}
 use Rattle.format.specs.declared.Scaled.{Scaled}
 use Rattle.card.specs.declared.CardCheck.{CardCheck}
 use Rattle.card.specs.declared.CardCheck.the-variants.{Refused, Sum}
@@ -35,15 +33,6 @@ pub record Carded (before after numbers : List ℕ) : Type 0 where
   pub card : numbersOf after ≡ numbers
   pub behind : tailOf after ≡ tailOf before
   pub long : length after ≡ length before
-
--- 46 values, of which each that is present by the word is in range
-pub record Packable (values : List ℤ) (word : ℕ) : Type 0 where
-  pub many : 46 ≤ length values
-  pub fair : first (packChecks 1 table word values) ≡ none
-
--- the coded fields of the values that are present
-abbrev pub given : List ℤ → ℕ → List ℕ
-given values word = codes table (entriesGiven 1 word (take 46 values))
 
 -- the card's numbers with the first n of these coded fields
 abbrev pub fielded : List ℕ → List ℕ → ℕ → List ℕ

@@ -3,12 +3,10 @@ use Prim.Native.Nat.{ℕ, _+_, _/_, _%_, _≤_}
 use mathlib.Core.Path.{_≡_}
 use mathlib.Core.List.{List, [], _∷_}
 use lib.ListN.{getD}
-use lib.IntN.{ℤ, pos, _+ℤ_, _-ℤ_}
+use lib.IntN.{ℤ, pos, _-ℤ_}
 use Rattle.format.specs.Bits.{offset}
-use Rattle.format.specs.Field.{fieldAt, scaled}
+use Rattle.format.specs.Field.{Field, field, fieldAt}
 use Rattle.format.specs.Sheet.{widths}
-use Rattle.format.specs.declared.Coded.{Coded}
-use Rattle.format.specs.declared.Scaled.{Scaled}
 
 -- in digits of 16: the bit at which it begins (3), its bits (1), its highest coded number (3), its base and 1000 (4)
 abbrev pub rows : List ℕ
@@ -66,9 +64,9 @@ rows =
 unfoldable pub baseOf : ℕ → ℤ
 baseOf r = pos (r % 65536) -ℤ pos 1000
 
--- the scaled value of a coded number of that field
-unfoldable pub scaledIn : ℕ → Coded → Scaled
-scaledIn r c = scaled (pos (c .0) +ℤ baseOf r)
+-- that field
+abbrev pub fieldIn : ℕ → Field
+fieldIn r = field (r / 65536 % 4096) (baseOf r) (r / 268435456 % 16)
 
 -- r is the row of field k, which lies within two adjacent bytes of the card
 pub record Row (k r : ℕ) : Type 0 where

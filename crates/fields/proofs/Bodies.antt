@@ -12,12 +12,12 @@ use lib.Seq.{length-take-le, take-at, drop-at, set-at, set-append-left, take-tak
 use borrow.Author.Tests.{eq-eqb, ne-eqb, not-false, not-true}
 use Rattle.format.specs.Order.{Check, first, between}
 use Rattle.format.specs.Bits.{readFields}
-use Rattle.format.specs.Nibbles.{Attachment, attachment, nibbles, attachmentNibbles, tailNibbles}
+use Rattle.format.specs.Nibbles.{attachment, nibbles, attachmentNibbles, tailNibbles}
 use Rattle.format.specs.Flags.{isFlag, flagInRange, qualityCode, flagAt, flagBody, withFlag}
 use Rattle.format.specs.Sheet.{Sheet, widths, cardNumbers, size}
 use Rattle.format.specs.Report.{numbersOf, tailOf, sheetOf, bodyValid}
 use Rattle.format.specs.Machine.{Call, readFlag, setFlag, clearFlag, stands, putIn, withContent, content, flagNumber, flagNumberCheck, flagValueCheck, standsCheck, callChecks, next, gives, Answer}
-use Rattle.format.specs.Buffer.{zeros, layout, after, effect}
+use Rattle.format.specs.Buffer.{layout, after, effect}
 use Rattle.format.specs.Reply.{refusal, answerOf}
 use Rattle.format.specs.declared.Reply.the-variants.{Done, Flag, Missing}
 use Rattle.laws.proofs.Order.{between-in, first-nil, no-check}
@@ -25,12 +25,12 @@ use Rattle.laws.proofs.Bits.{Bytes, uniform}
 use Rattle.laws.proofs.Nibbles.{length-nibbles}
 use Rattle.laws.proofs.Card.{front-numbers}
 use Rattle.laws.proofs.Flags.{flagFits, missing-fits, range-fits, valid-flags, flag-set-length, flag-set-valid, flag-set-nibbles}
-use Rattle.laws.proofs.Attachments.{FineAt, fine-nibbles, fine-size, tail-append, tail-length}
+use Rattle.laws.proofs.Attachments.{FineAt, fine-nibbles, fine-size, tail-append}
 use Rattle.laws.proofs.AttachmentEdits.{content-fine, put-fine, Placed, placed, put-placed, put-size, put-length}
 use Rattle.laws.proofs.Report.{size-is, judged, passes, numbers-taken}
-use Rattle.laws.proofs.Laid.{layout-is, tail-taken}
+use Rattle.laws.proofs.Laid.{layout-is}
 use Rattle.tail.specs.Walk.{placeOf}
-use Rattle.tail.proofs.Place.{absent-at, stands-at, place-is, around}
+use Rattle.tail.proofs.Place.{absent-at, stands-at, place-is, beyond, tail-split, body-is, body-ends}
 use Rattle.fields.specs.Accepted.{Accepted, Found, flagged}
 use Rattle.fields.proofs.Calls.{Quiet, call-refuses, call-reads, call-stores, number-passes, quiet-read-flag, quiet-set-flag, quiet-clear-flag}
 
@@ -113,7 +113,7 @@ module _ (b : List ℕ) (i : ℕ) (bs : Bytes b) (j : Accepted b) (st : stands i
   spot = placed i (sheetOf b .attachments) st
 
   rest : List ℕ
-  rest = zeros (2 * size (sheetOf b) - (75 + length (tailNibbles (sheetOf b .attachments)))) ++ drop (2 * size (sheetOf b)) (nibbles b)
+  rest = beyond b i bs j spot
 
   header : List ℕ
   header = length (content (sheetOf b) i) / 16 ∷ length (content (sheetOf b) i) % 16 ∷ i ∷ []
@@ -123,9 +123,7 @@ module _ (b : List ℕ) (i : ℕ) (bs : Bytes b) (j : Accepted b) (st : stands i
   split =
       sym (take-append-drop 75 (nibbles b))
       ∙ ap (λ (x : List ℕ). take 75 (nibbles b) ++ x)
-      (tail-taken b (sheetOf b) bs j
-      ∙ ap (λ (x : List ℕ). x ++ rest) (around i spot)
-      ∙ simp append-assoc)
+      (tail-split b i bs j spot)
 
   long : 38 ≤ length b
   long = passes b (sheetOf b) j .0 .long
@@ -137,9 +135,6 @@ module _ (b : List ℕ) (i : ℕ) (bs : Bytes b) (j : Accepted b) (st : stands i
     here : length (take 75 (nibbles b)) + (length (tailNibbles (spot .before)) + length header) ≡ place + 3
     unfolding header
     here = omega (arith, card-long, place-is i 75 spot)
-
-    body-is : drop (place + 3) (nibbles b) ≡ content (sheetOf b) i ++ (tailNibbles (spot .after) ++ rest)
-    body-is = run-is (nibbles b) (take 75 (nibbles b)) (tailNibbles (spot .before)) header (content (sheetOf b) i) (tailNibbles (spot .after) ++ rest) (place + 3) 0 split here
 
     -- id i with another content of the same length
     content-laid : (d ns : List ℕ) → Bytes d → length d ≡ length b → FineAt (attachment i ns) → length ns ≡ length (content (sheetOf b) i)
@@ -190,7 +185,7 @@ module _ (b : List ℕ) (bs : Bytes b) (place : ℕ) (f : Found b place) where
       (no-check (flagNumberCheck j) [] (number-passes 1 14 j t is h) first-nil) (rw (sym eu ∙ not-true u hu))
 
   module _ (there : place ≡ 0 → ⊥) where
-    pub flags-stand : stands 1 (sheetOf b .attachments) ≡ true
+    flags-stand : stands 1 (sheetOf b .attachments) ≡ true
     flags-stand = stands-at 1 75 (sheetOf b .attachments) (λ e. there (f .is ∙ e))
 
     stands-passes : standsCheck (sheetOf b) 1 .fits ≡ false
@@ -205,7 +200,7 @@ module _ (b : List ℕ) (bs : Bytes b) (place : ℕ) (f : Found b place) where
 
     flags-body : drop (place + 3) (nibbles b) ≡ content (sheetOf b) 1 ++ drop 16 (drop (place + 3) (nibbles b))
     flags-body =
-        let e = body-is b 1 bs (f .report) flags-stand place (f .is) in
+        let e = body-is b 1 bs (f .report) (spot b 1 bs (f .report) flags-stand) place (f .is) in
         e ∙ ap (λ (x : List ℕ). content (sheetOf b) 1 ++ x) (sym (ap (drop 16) e ∙ drop-at (content (sheetOf b) 1) _ 16 body-long))
 
     -- the sixteen nibbles stand in the buffer
@@ -222,15 +217,10 @@ module _ (b : List ℕ) (bs : Bytes b) (place : ℕ) (f : Found b place) where
 
     pub body-low : place + 19 ≤ 4000
     body-low =
-        let p = placed 1 (sheetOf b .attachments) flags-stand in
-        let e : length (tailNibbles (sheetOf b .attachments)) ≡ length (tailNibbles (p .before)) + length (tailNibbles (attachment 1 (content (sheetOf b) 1) ∷ p .after)) =
-        ap (λ (l : List Attachment). length (tailNibbles l)) (p .splits) ∙ ap length (tail-append (p .before) _) ∙ length-append (tailNibbles (p .before)) _ in
         omega (
           arith,
-          f .is,
-          place-is 1 75 p,
+          body-ends b 1 bs (f .report) (spot b 1 bs (f .report) flags-stand) place (f .is),
           body-long,
-          tail-length (attachment 1 (content (sheetOf b) 1)) (p .after),
           fine-size (judged b (sheetOf b) bs (f .report) .good .fine),
         )
 

@@ -56,7 +56,7 @@ coding-in f v c = go (inRange f v)
 
 module _ (b : List ℕ) (bs : Bytes b) (k : ℕ) (low : 1 ≤ k) (high : k ≤ 46) where
   -- it is that of the entry e: the buffer is the layout of the sheet with e
-  pub value-laid : (d : List ℕ) (e : Option Scaled) (c : Coded) → Accepted b → Bytes d → c ≡ codeOf (fieldAt k) e
+  value-laid : (d : List ℕ) (e : Option Scaled) (c : Coded) → Accepted b → Bytes d → c ≡ codeOf (fieldAt k) e
       → Carded b d (replaced b k (c .0)) → d ≡ layout b (size (sheetOf b)) (withValue (sheetOf b) k e)
   unfolding sheetOf
   value-laid d e c j bd is r =

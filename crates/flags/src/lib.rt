@@ -2,20 +2,51 @@
 ghost use mathlib.Core.Path.{_≡_};
 ghost use Prim.Native.Nat.{_+_, _≤_, _<_, _^_};
 ghost use lib.ListN.{length};
-ghost use Rattle.format.specs.Flags.{flagsFit, flagsValid, qualityCode, weight};
+ghost use Rattle.format.specs.Flags.{flagsValid, qualityCode};
 ghost use Rattle.nibble.specs.View.{view, part};
+ghost use Rattle.flags.specs.Marks.{mark, marks, codeIn};
 use nibble::Cursor;
 
-// What a flag adds to the quality code.
-fn weight_of(v: u8) -> u8
-    ensures { λ r. ⌜ (r ≡ weight v) × (r ≤ 3) ⌝ }
+// A flag's mark: its weight, 256 if it is given, and 65536 if it is over 10.
+fn mark_of(v: u8) -> usize
+    ensures { λ r. ⌜ (r ≡ mark v) × (r ≤ 65795) ⌝ }
 {
     match v {
-        2..=3 => 1,
-        4..=6 => 2,
-        7..=10 => 3,
-        _ => 0,
+        0 => 0,
+        1 => 0x0_01_00,
+        2..=3 => 0x0_01_01,
+        4..=6 => 0x0_01_02,
+        7..=10 => 0x0_01_03,
+        _ => 0x1_01_00,
     }
+}
+
+// The sum of the marks of the fourteen flags from a place on.
+fn sum_marks(s: &[u8], c: Cursor) -> usize
+    requires { ⌜ (c .at + 14 ≤ length (view (c .packed) (now s))) × (c .at ≤ 2 ^ 32) ⌝ }
+    ensures { λ r. ⌜ r ≡ marks (part (now (s .entry)) c 14) ⌝ }
+{
+    let at = c.at;
+    let packed = c.packed;
+    let mut sum = 0;
+    let mut i = 0;
+    while i < 7 {
+        let u = nibble::nibble_at(s, at + 2 * i, packed);
+        let v = nibble::nibble_at(s, at + 2 * i + 1, packed);
+        sum += mark_of(u) + mark_of(v);
+        i += 1;
+    }
+    sum
+}
+
+// The quality code that a sum of marks shows.
+fn code_in(sum: usize) -> usize
+    ensures { λ r. ⌜ r ≡ codeIn sum ⌝ }
+{
+    if sum / 256 % 256 == 0 {
+        return 0;
+    }
+    1 + sum % 256
 }
 
 // The quality code of the fourteen flags from a place on.
@@ -23,38 +54,8 @@ pub fn quality(s: &[u8], c: Cursor) -> u8
     requires { ⌜ (c .at + 14 ≤ length (view (c .packed) (now s))) × (c .at ≤ 2 ^ 32) ⌝ }
     ensures { λ r. ⌜ r ≡ qualityCode (part (now (s .entry)) c 14) ⌝ }
 {
-    let at = c.at;
-    let packed = c.packed;
-    let mut weights: u8 = 0;
-    let mut values: usize = 0;
-    let mut i = 0;
-    while i < 14 {
-        let v = nibble::nibble_at(s, at + i, packed);
-        weights += weight_of(v);
-        values += nibble::wide(v);
-        i += 1;
-    }
-    if values == 0 {
-        return 0;
-    }
-    1 + weights
-}
-
-// Whether each of the fourteen flags from a place on is missing or from 1 to 10.
-fn fit(s: &[u8], c: Cursor) -> bool
-    requires { ⌜ (c .at + 14 ≤ length (view (c .packed) (now s))) × (c .at ≤ 2 ^ 32) ⌝ }
-    ensures { λ r. ⌜ r ≡ flagsFit 1 (part (now (s .entry)) c 14) ⌝ }
-{
-    let at = c.at;
-    let packed = c.packed;
-    let mut i = 0;
-    while i < 14 {
-        if 10 < nibble::nibble_at(s, at + i, packed) {
-            return false;
-        }
-        i += 1;
-    }
-    true
+    let q = code_in(sum_marks(s, c));
+    q as u8
 }
 
 // Whether len nibbles from a place on are a body of attachment 1.
@@ -67,10 +68,11 @@ pub fn valid(s: &[u8], c: Cursor, len: usize) -> bool
     if len != 16 {
         return false;
     }
-    if fit(s, c) {
+    let sum = sum_marks(s, c);
+    if sum < 65536 {
         let high = nibble::wide(nibble::nibble_at(s, at + 14, packed));
         let low = nibble::wide(nibble::nibble_at(s, at + 15, packed));
-        return high * 16 + low == nibble::wide(quality(s, c));
+        return high * 16 + low == code_in(sum);
     }
     false
 }

@@ -87,12 +87,12 @@ module _
       let p = or-false (eqb (a .id) i) (stands i before) h in
       keeps a (before ++ rest) (p .0) ∙ ap (λ (l : List Attachment). a ∷ l) (edit-past before rest (p .1))
 
-pub put-past : (i : ℕ) (ns : List ℕ) (before rest : List Attachment) → stands i before ≡ false
+put-past : (i : ℕ) (ns : List ℕ) (before rest : List Attachment) → stands i before ≡ false
     → putIn i ns (before ++ rest) ≡ before ++ putIn i ns rest
 unfolding putIn
 put-past i ns = edit-past i (putIn i ns) (λ a more e. rw e)
 
-pub remove-past : (i : ℕ) (before rest : List Attachment) → stands i before ≡ false
+remove-past : (i : ℕ) (before rest : List Attachment) → stands i before ≡ false
     → removeFrom i (before ++ rest) ≡ before ++ removeFrom i rest
 unfolding removeFrom
 remove-past i = edit-past i (removeFrom i) (λ a more e. rw e)

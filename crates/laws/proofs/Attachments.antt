@@ -40,11 +40,11 @@ all-nibbles (x ∷ ns) e (suc i) = all-nibbles ns (and-true (leb x 15) (allNibbl
 
 -- what is read at the head of a tail is what was written there
 module _ (a : Attachment) (more : List Attachment) (r : List ℕ) where
-  pub length-at : lengthAt (tailNibbles (a ∷ more) ++ r) ≡ length (a .content)
+  length-at : lengthAt (tailNibbles (a ∷ more) ++ r) ≡ length (a .content)
   unfolding tailNibbles attachmentNibbles
   length-at = omega arith
 
-  pub id-at : idAt (tailNibbles (a ∷ more) ++ r) ≡ a .id
+  id-at : idAt (tailNibbles (a ∷ more) ++ r) ≡ a .id
   unfolding tailNibbles attachmentNibbles
   id-at = refl
 
@@ -52,10 +52,10 @@ module _ (a : Attachment) (more : List Attachment) (r : List ℕ) where
   unfolding tailNibbles attachmentNibbles
   data-at = append-assoc (a .content) (tailNibbles more) r
 
-  pub content-at : contentAt (tailNibbles (a ∷ more) ++ r) ≡ a .content
+  content-at : contentAt (tailNibbles (a ∷ more) ++ r) ≡ a .content
   content-at = rw (length-at, data-at) (take-at (a .content) (tailNibbles more ++ r) (length (a .content)) refl)
 
-  pub behind-at : behind (tailNibbles (a ∷ more) ++ r) ≡ tailNibbles more ++ r
+  behind-at : behind (tailNibbles (a ∷ more) ++ r) ≡ tailNibbles more ++ r
   behind-at = rw (length-at, data-at) (drop-at (a .content) (tailNibbles more ++ r) (length (a .content)) refl)
 
 pub tail-append : (xs ys : List Attachment) → tailNibbles (xs ++ ys) ≡ tailNibbles xs ++ tailNibbles ys
@@ -191,7 +191,7 @@ header (x ∷ y ∷ []) h = absurd (omega arith)
 header (x ∷ y ∷ z ∷ ns) h = refl
 
 -- nibbles are an attachment and what stands behind it, if its header and its data fit
-pub headed : (ns : List ℕ) (more : List Attachment) (r : List ℕ) → Nibbles ns → 3 ≤ length ns → lengthAt ns ≤ length (drop 3 ns)
+headed : (ns : List ℕ) (more : List Attachment) (r : List ℕ) → Nibbles ns → 3 ≤ length ns → lengthAt ns ≤ length (drop 3 ns)
     → behind ns ≡ tailNibbles more ++ r → ns ≡ tailNibbles (attachment (idAt ns) (contentAt ns) ∷ more) ++ r
 unfolding tailNibbles attachmentNibbles
 headed ns more r b head fits e =
@@ -290,7 +290,7 @@ unfolding room among
 fine-count f = fine-weigh length (λ i. 1) refl (λ a more at. omega arith) f
 
 -- flags have 16 nibbles
-pub flags-length : (ns : List ℕ) → bodyValid 1 ns ≡ true → length ns ≡ 16
+flags-length : (ns : List ℕ) → bodyValid 1 ns ≡ true → length ns ≡ 16
 unfolding bodyValid flagsValid
 flags-length ns e = eqb-true (length ns) 16 (and-true _ _ e .0)
 

@@ -63,12 +63,12 @@ digit-inj false false e = refl
 digit-inj true false e = absurd (omega arith)
 digit-inj false true e = absurd (omega arith)
 
-pub number-lt : (bs : List Bool) → number bs < 2 ^ length bs
+number-lt : (bs : List Bool) → number bs < 2 ^ length bs
 unfolding number
 number-lt [] = omega arith
 number-lt (b ∷ bs) = rw (pow-succ' 2 (length bs)) (digits-lt (digit-lt b) (number-lt bs))
 
-pub number-append : (xs ys : List Bool) → number (xs ++ ys) ≡ number xs * 2 ^ length ys + number ys
+number-append : (xs ys : List Bool) → number (xs ++ ys) ≡ number xs * 2 ^ length ys + number ys
 unfolding number
 number-append [] ys = omega arith
 number-append (x ∷ xs) ys =
@@ -82,7 +82,7 @@ number-bits (suc w) x =
     rw (number-bits w x, length-bits w x, digit-of (x / 2 ^ w % 2) (mod-lt _ (zero-lt-suc 1)), ← one-add w) (sym (mod-pow-add x 1 w))
 
 -- bits are known by how many they are and their number
-pub number-inj : (xs ys : List Bool) → length xs ≡ length ys → number xs ≡ number ys → xs ≡ ys
+number-inj : (xs ys : List Bool) → length xs ≡ length ys → number xs ≡ number ys → xs ≡ ys
 unfolding number
 number-inj [] [] l e = refl
 number-inj [] (y ∷ ys) l e = absurd (omega arith)
@@ -101,7 +101,7 @@ pub bits-mod : (w x y : ℕ) → x % 2 ^ w ≡ y % 2 ^ w → bits w x ≡ bits w
 bits-mod w x y e = number-inj _ _ (length-bits w x ∙ sym (length-bits w y)) (number-bits w x ∙ e ∙ sym (number-bits w y))
 
 -- the bits of the number of bits are those bits
-pub bits-number : (bs : List Bool) → bits (length bs) (number bs) ≡ bs
+bits-number : (bs : List Bool) → bits (length bs) (number bs) ≡ bs
 bits-number bs = number-inj _ _ (length-bits _ _) (number-bits _ _ ∙ mod-eq-of-lt (number-lt bs))
 
 -- j + k bits: the j bits above the k low ones, then those
@@ -158,29 +158,29 @@ module _ (b f : List Bool) (o : ℕ) (within : o + length f ≤ length b) where
   length-front = length-take-le o b (omega arith)
 
   -- what was written is read
-  pub splice-same : take (length f) (drop o (splice b o f)) ≡ f
+  splice-same : take (length f) (drop o (splice b o f)) ≡ f
   unfolding splice
   splice-same = mid-take (take o b) f (drop (o + length f) b) o (length f) length-front refl
 
   -- what lies before is as it was
-  pub splice-before : (p u : ℕ) → p + u ≤ o → take u (drop p (splice b o f)) ≡ take u (drop p b)
+  splice-before : (p u : ℕ) → p + u ≤ o → take u (drop p (splice b o f)) ≡ take u (drop p b)
   unfolding splice
   splice-before p u h =
       let l : p + u ≤ length (take o b) = rw length-front h in
       take-drop p u _ ∙ ap (drop p) (take-append-le (p + u) (take o b) _ l ∙ take-take (p + u) o b h) ∙ sym (take-drop p u b)
 
   -- what lies behind is as it was
-  pub drop-splice : drop (o + length f) (splice b o f) ≡ drop (o + length f) b
+  drop-splice : drop (o + length f) (splice b o f) ≡ drop (o + length f) b
   unfolding splice
   drop-splice =
       ap (drop (o + length f)) (sym (append-assoc (take o b) f (drop (o + length f) b)))
       ∙ drop-at (take o b ++ f) (drop (o + length f) b) (o + length f) (rw (length-append, length-front))
 
-  pub splice-after : (p u : ℕ) → o + length f ≤ p → take u (drop p (splice b o f)) ≡ take u (drop p b)
+  splice-after : (p u : ℕ) → o + length f ≤ p → take u (drop p (splice b o f)) ≡ take u (drop p b)
   splice-after p u h = ap (take u) (drop-later (o + length f) p (splice b o f) b h drop-splice)
 
 -- what was read, written back, changes nothing
-pub splice-back : (b : List Bool) (o w : ℕ) → o + w ≤ length b → splice b o (take w (drop o b)) ≡ b
+splice-back : (b : List Bool) (o w : ℕ) → o + w ≤ length b → splice b o (take w (drop o b)) ≡ b
 unfolding splice
 splice-back b o w h =
     let l : length (take w (drop o b)) ≡ w = length-take-le w (drop o b) (rw length-drop (omega arith)) in
@@ -193,7 +193,7 @@ unfolding bitField
 bitField-lt s o w = number-take-lt w (drop o (bitsOf s))
 
 -- the bits of a field's number are the bits that stand there
-pub field-bits : (s : List ℕ) (o w : ℕ) → o + w ≤ 8 * length s → bits w (bitField s o w) ≡ take w (drop o (bitsOf s))
+field-bits : (s : List ℕ) (o w : ℕ) → o + w ≤ 8 * length s → bits w (bitField s o w) ≡ take w (drop o (bitsOf s))
 unfolding bitField
 field-bits s o w h = bits-number-take w (drop o (bitsOf s)) (simp (length-drop, length-bitsOf) (omega arith))
 
@@ -246,14 +246,14 @@ unfolding total
 total-end x k h = ap total (drop-of-length-le x h)
 
 -- field k ends within the fields
-pub offset-end : (ws : List ℕ) (k : ℕ) → k < length ws → offset ws k + getD ws k 0 ≤ total ws
+offset-end : (ws : List ℕ) (k : ℕ) → k < length ws → offset ws k + getD ws k 0 ≤ total ws
 unfolding total
 offset-end [] k h = absurd (not-suc-le-zero h)
 offset-end (w ∷ ws) zero h = omega arith
 offset-end (w ∷ ws) (suc k) h = omega (arith, offset-end ws k (le-of-suc-le-suc h))
 
 -- field k stands at its offset
-pub readFields-at : (ws : List ℕ) (b : List Bool) (k : ℕ) → k < length ws → getD (readFields ws b) k 0 ≡ number (take (getD ws k 0) (drop (offset ws k) b))
+readFields-at : (ws : List ℕ) (b : List Bool) (k : ℕ) → k < length ws → getD (readFields ws b) k 0 ≡ number (take (getD ws k 0) (drop (offset ws k) b))
 unfolding readFields total
 readFields-at [] b k h = absurd (not-suc-le-zero h)
 readFields-at (w ∷ ws) b zero h = refl

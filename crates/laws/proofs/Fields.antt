@@ -49,7 +49,7 @@ leZ-down a b k = sym (leZ-up a b (predℤ k)) ∙ ap (λ (x : ℤ). leZ (a +ℤ 
 leZ-zero : (a b : ℤ) → leZ (a +ℤ pos 0) (b +ℤ pos 0) ≡ leZ a b
 leZ-zero a b = ap₂ leZ (+ℤ-idr a) (+ℤ-idr b)
 
-pub leZ-add : (a b k : ℤ) → leZ (a +ℤ k) (b +ℤ k) ≡ leZ a b
+leZ-add : (a b k : ℤ) → leZ (a +ℤ k) (b +ℤ k) ≡ leZ a b
 leZ-add a b (pos zero) = leZ-zero a b
 leZ-add a b (pos (suc n)) = leZ-up a b (pos n) ∙ leZ-add a b (pos n)
 leZ-add a b (negsuc zero) = leZ-down a b (pos 0) ∙ leZ-zero a b
@@ -58,7 +58,7 @@ leZ-add a b (negsuc (suc n)) = leZ-down a b (negsuc n) ∙ leZ-add a b (negsuc n
 -- ---- a field's coded number and its scaled value
 
 module _ (f : Field) where
-  pub coded-scaled : (c : Coded) → codedOf f (scaledOf f c) ≡ c
+  coded-scaled : (c : Coded) → codedOf f (scaledOf f c) ≡ c
   unfolding codedOf scaledOf
   coded-scaled c = ap (λ (z : ℤ). coded (natAbs z)) (+ℤ-negℤ-cancel (pos (c .0)) (f .base))
 
@@ -97,7 +97,7 @@ module _ (f : Field) where
   unfolding scaledOf
   scaled-coded v e = ap (λ (z : ℤ). scaled (z +ℤ f .base)) (sym (in-codes v e .less)) ∙ ap scaled (-ℤ-+ℤ-cancel (v .0) (f .base))
 
-  pub scaled-range : (c : Coded) → 1 ≤ c .0 → c .0 ≤ f .highest → inRange f (scaledOf f c) ≡ true
+  scaled-range : (c : Coded) → 1 ≤ c .0 → c .0 ≤ f .highest → inRange f (scaledOf f c) ≡ true
   unfolding scaledOf
   scaled-range c l h =
       range-is (scaledOf f c)
@@ -106,7 +106,7 @@ module _ (f : Field) where
 
   -- ---- a field's entry on the sheet
 
-  pub code-entry : (c : Coded) → codeOf f (entryOf f c) ≡ c
+  code-entry : (c : Coded) → codeOf f (entryOf f c) ≡ c
   unfolding codeOf entryOf
   code-entry c = go (eqb (c .0) 0) refl
     where
@@ -130,7 +130,7 @@ module _ (f : Field) where
       let r = coded-range f v e in
       record { low = r .1; back = rw (ne-eqb (codedOf f v .0) 0 (omega arith), scaled-coded f v e) }
 
-  pub entry-fair : (c : Coded) → c .0 ≤ f .highest → Fair f (entryOf f c)
+  entry-fair : (c : Coded) → c .0 ≤ f .highest → Fair f (entryOf f c)
   entry-fair c h = record { low = rw (code-entry f c) h; back = ap (entryOf f) (code-entry f c) }
 
   pub fair-range : (v : Scaled) → Fair f (some v) → inRange f v ≡ true
@@ -224,7 +224,7 @@ abbrev pub fieldRefusal : ℕ → Field → ℕ → Option Refusal → Option Re
 fieldRefusal k f c r =
     cond (ltb (f .highest) c) (some (record { number = 2; place = k })) (cond (required k && eqb c 0) (some (record { number = 3; place = k })) r)
 
-pub checks-cons : (k : ℕ) (f : Field) (fs : List Field) (c : ℕ) (cs : List ℕ)
+checks-cons : (k : ℕ) (f : Field) (fs : List Field) (c : ℕ) (cs : List ℕ)
     → first (fieldChecks k (f ∷ fs) (c ∷ cs)) ≡ fieldRefusal k f c (first (fieldChecks (suc k) fs cs))
 unfolding fieldChecks first
 checks-cons k f fs c cs = refl
@@ -293,7 +293,7 @@ fair-checks k (f ∷ fs) (e ∷ es) (cons h t) p =
     missing false q = rw q
 
 -- a required field keeps a value
-pub present-set : (k : ℕ) (es : List (Option Scaled)) (i : ℕ) (e : Option Scaled) → (required (k + i) ≡ true → e ≡ none → ⊥)
+present-set : (k : ℕ) (es : List (Option Scaled)) (i : ℕ) (e : Option Scaled) → (required (k + i) ≡ true → e ≡ none → ⊥)
     → Present k es → Present k (set es i e)
 present-set k es i e h p j l r n = go (ℕ-discrete j i)
   where

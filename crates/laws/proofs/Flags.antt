@@ -34,7 +34,7 @@ flag-le j v e = go (eqb v 0) refl e
     go false q e = leb-true v 10 (and-true (leb 1 v) (leb v 10) (and-true (between 1 10 v) (permitted j v) e .0) .1)
 
 -- no flag is over 10
-pub flags-le : (j : ℕ) (flags : List ℕ) → flagsFit j flags ≡ true → (i : ℕ) → getD flags i 0 ≤ 10
+flags-le : (j : ℕ) (flags : List ℕ) → flagsFit j flags ≡ true → (i : ℕ) → getD flags i 0 ≤ 10
 unfolding flagsFit
 flags-le j [] e i = omega arith
 flags-le j (v ∷ vs) e zero = flag-le j v (and-true (flagFits j v) (flagsFit (suc j) vs) e .0)
@@ -92,11 +92,11 @@ quality-nibble q h (suc zero) = omega arith
 quality-nibble q h (suc (suc n)) = omega arith
 
 module _ (flags : List ℕ) (l : length flags ≡ 14) where
-  pub body-length : length (flagBody flags) ≡ 16
+  body-length : length (flagBody flags) ≡ 16
   unfolding flagBody
   body-length = simp (length-append, l)
 
-  pub body-flags : take 14 (flagBody flags) ≡ flags
+  body-flags : take 14 (flagBody flags) ≡ flags
   unfolding flagBody
   body-flags = take-at flags _ 14 l
 
@@ -105,7 +105,7 @@ module _ (flags : List ℕ) (l : length flags ≡ 14) where
   unfolding flagBody
   body-behind n = rw l at (getD-append-add flags (qualityCode flags / 16 ∷ qualityCode flags % 16 ∷ []) n 0)
 
-  pub body-quality : getD (flagBody flags) 14 0 * 16 + getD (flagBody flags) 15 0 ≡ qualityCode flags
+  body-quality : getD (flagBody flags) 14 0 * 16 + getD (flagBody flags) 15 0 ≡ qualityCode flags
   body-quality = rw (body-behind 0, body-behind 1) (omega arith)
 
   module _ (e : flagsFit 1 flags ≡ true) where
@@ -113,7 +113,7 @@ module _ (flags : List ℕ) (l : length flags ≡ 14) where
     unfolding flagsValid
     flags-body = rw (body-length, body-flags, e, body-quality, eq-eqb (qualityCode flags) (qualityCode flags) refl)
 
-    pub body-nibbles : (i : ℕ) → getD (flagBody flags) i 0 < 16
+    body-nibbles : (i : ℕ) → getD (flagBody flags) i 0 < 16
     body-nibbles i = go (decLt i 14)
       where
         go : Dec (i < 14) → getD (flagBody flags) i 0 < 16

@@ -55,7 +55,7 @@ module _ (b : List ℕ) (e : ℕ) (s : Sheet) (lt : Nibbles (tailNibbles (s .att
       ∙ sym (append-assoc (zeros (n % 2)) (zeros (2 * (e - size s))) (drop (2 * max e (size s)) (nibbles b)))
       ∙ ap (λ (x : List ℕ). x ++ drop (2 * max e (size s)) (nibbles b)) z
 
-  pub nibbles-layout : nibbles (layout b e s)
+  nibbles-layout : nibbles (layout b e s)
       ≡ cardNibbles s ++ (tailNibbles (s .attachments) ++ (zeros (2 * max e (size s) - (75 + length (tailNibbles (s .attachments)))) ++ drop (2 * max e (size s)) (nibbles b)))
   unfolding layout packing cardNibbles
   nibbles-layout =
@@ -81,7 +81,7 @@ module _ (b : List ℕ) (e : ℕ) (s : Sheet) (lt : Nibbles (tailNibbles (s .att
       ∙ sym nibbles-layout)
 
   -- and what a layout holds behind its card
-  pub tail-laid : tailOf (layout b e s)
+  tail-laid : tailOf (layout b e s)
       ≡ tailNibbles (s .attachments) ++ (zeros (2 * max e (size s) - (75 + length (tailNibbles (s .attachments)))) ++ drop (2 * max e (size s)) (nibbles b))
   unfolding cardNibbles
   tail-laid = ap (drop 75) nibbles-layout ∙ drop-at (cardNibbles s) _ 75 (card-length (cardNumbers s))

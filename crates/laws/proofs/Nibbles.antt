@@ -84,7 +84,7 @@ bytes-lt (a ∷ c ∷ ns) h zero = omega (arith, h 0, h 1)
 bytes-lt (a ∷ c ∷ ns) h (suc k) = bytes-lt ns (λ i. h (suc (suc i))) k
 
 -- back and forth: no bound on the bytes is needed
-pub bytes-nibbles : (b : List ℕ) → bytes (nibbles b) ≡ b
+bytes-nibbles : (b : List ℕ) → bytes (nibbles b) ≡ b
 unfolding nibbles bytes
 bytes-nibbles [] = refl
 bytes-nibbles (x ∷ b) = ap₂ _∷_ (omega arith) (bytes-nibbles b)
@@ -127,7 +127,7 @@ padded-is ns = choice (odd (length ns))
     choice true = refl
     choice false = sym (append-nil ns)
 
-pub length-padded : (ns : List ℕ) → length (padded ns) ≡ length ns + length ns % 2
+length-padded : (ns : List ℕ) → length (padded ns) ≡ length ns + length ns % 2
 length-padded ns = rw (padded-is, length-append) (ap (λ (n : ℕ). length ns + n) (one (length ns % 2) (mod-lt _ (zero-lt-suc 1))))
   where
     one : (r : ℕ) → r < 2 → length (cond {A = List ℕ} (eqb r 1) (0 ∷ []) []) ≡ r

@@ -45,7 +45,7 @@ abbrev pub orElse : Option Refusal → Option Refusal → Option Refusal
 orElse none s = s
 orElse (some r) s = some r
 
-pub first-append : (xs ys : List Check) → first (xs ++ ys) ≡ orElse (first xs) (first ys)
+first-append : (xs ys : List Check) → first (xs ++ ys) ≡ orElse (first xs) (first ys)
 unfolding first
 first-append [] ys = refl
 first-append (x ∷ xs) ys = go (x .fits) (first-append xs ys)

@@ -80,7 +80,7 @@ even-below n m j =
     omega arith
 
 -- below the first entry's bit none is set
-pub presence-below : (k : ℕ) (es : List (Option Scaled)) (j : ℕ) → j < k → bitAt (presenceFrom k es) j ≡ false
+presence-below : (k : ℕ) (es : List (Option Scaled)) (j : ℕ) → j < k → bitAt (presenceFrom k es) j ≡ false
 presence-below k es j h =
     let e : k ≡ suc (k - suc j) + j = omega arith in
     let q : presenceFrom k es / 2 ^ j % 2 ≡ 0 =

@@ -58,11 +58,11 @@ ok-original b e = let t = and-true (ltb b 256) (not (short b)) e in (ltb-true b 
 
 -- ---- the writer, one symbol at a time
 
-pub write-space : (s : ℕ) (x : Symbol) (t : List Symbol) → isSpace x ≡ true → writeFrom s (x ∷ t) ≡ writeFrom (suc s) t
+write-space : (s : ℕ) (x : Symbol) (t : List Symbol) → isSpace x ≡ true → writeFrom s (x ∷ t) ≡ writeFrom (suc s) t
 unfolding writeFrom
 write-space s x t e = rw (e, writeFrom)
 
-pub write-symbol : (s : ℕ) (x : Symbol) (t : List Symbol) → isSpace x ≡ false → writeFrom s (x ∷ t) ≡ spaceRun s ++ (symbolNibbles x ++ writeFrom 0 t)
+write-symbol : (s : ℕ) (x : Symbol) (t : List Symbol) → isSpace x ≡ false → writeFrom s (x ∷ t) ≡ spaceRun s ++ (symbolNibbles x ++ writeFrom 0 t)
 unfolding writeFrom
 write-symbol s x t e = rw (e, writeFrom)
 
@@ -92,7 +92,7 @@ unfolding endFrom
 end-append [] ys st = refl
 end-append (n ∷ xs) ys st = end-append xs ys (stateAfter (textStep st n))
 
-pub invalid-ends : (ns : List ℕ) → endFrom Invalid ns ≡ Invalid
+invalid-ends : (ns : List ℕ) → endFrom Invalid ns ≡ Invalid
 unfolding endFrom textStep stateAfter
 invalid-ends [] = refl
 invalid-ends (n ∷ ns) = invalid-ends ns
@@ -281,12 +281,12 @@ written (x ∷ t) s f =
     })
 
 -- "a body is valid" if the writer gives it
-pub symbols-valid : (t : List Symbol) → fine t ≡ true → textValid (writeSymbols t) ≡ true
+symbols-valid : (t : List Symbol) → fine t ≡ true → textValid (writeSymbols t) ≡ true
 unfolding textValid atEnd
 symbols-valid t f = ap atEnd (written t 0 f .reads .end)
 
 -- and what is read of it is the text without spaces at its end
-pub symbols-back : (t : List Symbol) → fine t ≡ true → (k : ℕ) × (t ≡ readFrom (Between 0) (writeSymbols t) ++ spaces k)
+symbols-back : (t : List Symbol) → fine t ≡ true → (k : ℕ) × (t ≡ readFrom (Between 0) (writeSymbols t) ++ spaces k)
 unfolding spaces
 symbols-back t f = let w = written t 0 f in (w .dropped, w .whole ∙ ap (λ (l : List Symbol). l ++ spaces (w .dropped)) (sym (w .reads .text)))
 
@@ -427,11 +427,11 @@ back [] st e = record { same = sym (append-nil (consumed st) ∙ ended st e); go
 back (n ∷ ns) st e = back-by st n ns (textStep st n) (brings st n) (back ns) e
 
 -- what is read of a valid body gives it again
-pub body-back : (ns : List ℕ) → textValid ns ≡ true → writeSymbols (readFrom (Between 0) ns) ≡ ns
+body-back : (ns : List ℕ) → textValid ns ≡ true → writeSymbols (readFrom (Between 0) ns) ≡ ns
 unfolding textValid
 body-back ns e = rw none-consumed at (back ns (Between 0) e .same)
 
-pub body-fine : (ns : List ℕ) → textValid ns ≡ true → fine (readFrom (Between 0) ns) ≡ true
+body-fine : (ns : List ℕ) → textValid ns ≡ true → fine (readFrom (Between 0) ns) ≡ true
 unfolding textValid
 body-fine ns e = back ns (Between 0) e .good
 
@@ -456,11 +456,11 @@ rest-nibbles (suc zero) h = refl
 rest-nibbles (suc (suc zero)) h = refl
 rest-nibbles (suc (suc (suc r))) h = rw (le-leb r 15 (omega arith))
 
-pub run-nibbles : (s : ℕ) → allNibbles (spaceRun s) ≡ true
+run-nibbles : (s : ℕ) → allNibbles (spaceRun s) ≡ true
 unfolding spaceRun
 run-nibbles s = nibbles-append (fulls (s / 18)) (rest (s % 18)) (fulls-nibbles (s / 18)) (rest-nibbles (s % 18) (omega arith))
 
-pub code-nibbles : (v : ℕ) → v < 4096 → allNibbles (codeNibbles v) ≡ true
+code-nibbles : (v : ℕ) → v < 4096 → allNibbles (codeNibbles v) ≡ true
 unfolding codeNibbles allNibbles
 code-nibbles v h =
     cond-case (λ (l : List ℕ). allNibbles l ≡ true) (ltb v 16) _ _ (λ e. rw (le-leb v 15 (omega (arith, ltb-true v 16 e))))
@@ -484,7 +484,7 @@ write-nibbles (x ∷ t) s f =
     (λ _. nibbles-append (spaceRun s) (symbolNibbles x ++ writeFrom 0 t) (run-nibbles s)
     (nibbles-append (symbolNibbles x) (writeFrom 0 t) (symbol-nibbles x (p .0)) (write-nibbles t 0 (p .1))))
 
-pub symbols-nibbles : (t : List Symbol) → fine t ≡ true → allNibbles (writeSymbols t) ≡ true
+symbols-nibbles : (t : List Symbol) → fine t ≡ true → allNibbles (writeSymbols t) ≡ true
 symbols-nibbles t f = write-nibbles t 0 f
 
 -- ---- bounds
@@ -505,7 +505,7 @@ pub run-length : (s : ℕ) → length (spaceRun s) ≤ s
 unfolding spaceRun
 run-length s = omega (arith, length-append (fulls (s / 18)) (rest (s % 18)), fulls-length (s / 18), rest-length (s % 18))
 
-pub code-length : (v : ℕ) → length (codeNibbles v) ≤ 3
+code-length : (v : ℕ) → length (codeNibbles v) ≤ 3
 unfolding codeNibbles
 code-length v =
     cond-case (λ (l : List ℕ). length l ≤ 3) (ltb v 16) _ _ (λ _. omega arith)
@@ -524,7 +524,7 @@ write-length (x ∷ t) s =
     (λ _. omega (arith, write-length t 0, length-append (spaceRun s) (symbolNibbles x ++ writeFrom 0 t), length-append (symbolNibbles x) (writeFrom 0 t), run-length s, symbol-length x))
 
 -- no text of m symbols takes over 3 m nibbles
-pub costliest : (t : List Symbol) → length (writeSymbols t) ≤ 3 * length t
+costliest : (t : List Symbol) → length (writeSymbols t) ≤ 3 * length t
 costliest t = omega (arith, write-length t 0)
 
 -- the spaces that wait, and 9 for an 11, half of the 18 that it may bring
@@ -685,7 +685,7 @@ text-trailing t k =
     ap writeSymbols (map-append classify t (replicate k 32) ∙ ap (λ (l : List Symbol). map classify t ++ l) (symbols-spaces k))
     ∙ write-trailing (map classify t) k 0
 
-pub read-writes : (t : List ℕ) → Bytes t → (k : ℕ) × (t ≡ readText (writeText t) ++ replicate k 32)
+read-writes : (t : List ℕ) → Bytes t → (k : ℕ) × (t ≡ readText (writeText t) ++ replicate k 32)
 unfolding readText writeText
 read-writes t h =
     let r = symbols-back (map classify t) (bytes-fine t h) in
@@ -711,3 +711,7 @@ text-all-nibbles t h = symbols-nibbles (map classify t) (bytes-fine t h)
 pub text-length : (t : List ℕ) → length (writeText t) ≤ 3 * length t
 unfolding writeText
 text-length t = omega (arith, costliest (map classify t), length-map t classify)
+
+pub read-text-length : (ns : List ℕ) → length (readText ns) ≤ 9 * length ns
+unfolding readText credit
+read-text-length ns = omega (arith, read-length ns (Between 0), length-map (readFrom (Between 0) ns) byteOf)

@@ -41,7 +41,7 @@ either P k m b f g = go (eqb k m) refl
     go false q e = g e
 
 -- what holds of the five fields holds of every required field
-pub required-is : (P : ℕ → Type 0) → P BOX10 → P YEAR → P MONTH → P X → P Y → (k : ℕ) → required k ≡ true → P k
+required-is : (P : ℕ → Type 0) → P BOX10 → P YEAR → P MONTH → P X → P Y → (k : ℕ) → required k ≡ true → P k
 unfolding required
 required-is P p1 p2 p3 p6 p7 k =
     either (P k) k BOX10 _ (λ e. rw e p1)
@@ -72,7 +72,7 @@ module _ (box10 year month x y : Scaled) where
       (some-none box10) (some-none year) (some-none month) (some-none x) (some-none y) (1 + i) r (rw z n)
 
   -- values in range make a good sheet
-  pub fresh-good : valueCheck BOX10 box10 .fits ≡ false → valueCheck YEAR year .fits ≡ false → valueCheck MONTH month .fits ≡ false
+  fresh-good : valueCheck BOX10 box10 .fits ≡ false → valueCheck YEAR year .fits ≡ false → valueCheck MONTH month .fits ≡ false
       → valueCheck X x .fits ≡ false → valueCheck Y y .fits ≡ false → Good (freshSheet box10 year month x y)
   unfolding freshSheet
   fresh-good e1 e2 e3 e6 e7 = record {
@@ -171,7 +171,7 @@ values-given k word (v ∷ vs) = ap₂ _∷_ (go (bitAt word k)) (values-given (
     go false = refl
 
 -- the values on the sheet are those given, where the word says so
-pub pack-values : (values : List ℤ) (word rptin : ℕ) (ns : List ℕ)
+pack-values : (values : List ℤ) (word rptin : ℕ) (ns : List ℕ)
     → map valueOrZero (packSheet values word rptin ns .values) ≡ masked 1 word (take 46 values)
 unfolding packSheet
 pack-values values word rptin ns = values-given 1 word (take 46 values)
@@ -185,7 +185,7 @@ module _ (n : ℕ) (values : List ℤ) (word rptin : ℕ) (ns : List ℕ) (e : f
   passed = packs n values word rptin ns e
 
   -- its presence word is the word given
-  pub pack-presence : presence (packSheet values word rptin ns) ≡ word
+  pack-presence : presence (packSheet values word rptin ns) ≡ word
   unfolding packSheet
   pack-presence = word-back word (take 46 values) (length-take-le 46 values (passed .long)) (passed .inside)
 
@@ -204,7 +204,7 @@ module _ (n : ℕ) (values : List ℤ) (word rptin : ℕ) (ns : List ℕ) (e : f
   walked = checks-fine (countIn ns) 1 [] ns (all-nibbles ns (passed .nibbles)) (passed .attachments)
 
   -- as many attachments as are counted from the tail, and nothing of the tail is left behind them
-  pub pack-count : length (packSheet values word rptin ns .attachments) ≡ countIn ns
+  pack-count : length (packSheet values word rptin ns .attachments) ≡ countIn ns
   unfolding packSheet
   pack-count = walked .count
 
@@ -212,7 +212,7 @@ module _ (n : ℕ) (values : List ℤ) (word rptin : ℕ) (ns : List ℕ) (e : f
   unfolding packSheet
   pack-tail = sym (count-all ns (all-nibbles ns (passed .nibbles)) (passed .attachments))
 
-  pub pack-good : rptin < 2 ^ 16 → Good (packSheet values word rptin ns)
+  pack-good : rptin < 2 ^ 16 → Good (packSheet values word rptin ns)
   unfolding packSheet
   pack-good r = record {
     rptin = r;
@@ -265,7 +265,7 @@ module _ (s : Sheet) (g : Good s) where
   values-out = length-map (s .values) valueOrZero ∙ values-length
 
   -- the sheet comes back from what unpack gives of it
-  pub sheet-back : packSheet (map valueOrZero (s .values)) (presence s) (s .rptin) (tail s) ≡ s
+  sheet-back : packSheet (map valueOrZero (s .values)) (presence s) (s .rptin) (tail s) ≡ s
   unfolding packSheet
   sheet-back =
       let v : entriesGiven 1 (presence s) (take 46 (map valueOrZero (s .values))) ≡ s .values =
@@ -296,7 +296,7 @@ pack-good-sheet s out g h =
     rw (packs-none (length out) (map valueOrZero (s .values)) (presence s) (s .rptin) (tail s) (sheet-packs s g (length out) h), sheet-back s g)
 
 -- pack after unpack: the parts of an accepted report are packed to the same bytes
-pub pack-after-unpack : (b : List ℕ) (s : Sheet) (out : List ℕ) → Bytes b → judge b ≡ Verdict.accepted s → size s ≤ length out
+pack-after-unpack : (b : List ℕ) (s : Sheet) (out : List ℕ) → Bytes b → judge b ≡ Verdict.accepted s → size s ≤ length out
     → (pack (map valueOrZero (s .values)) (presence s) (s .rptin) (tail s) out
     ≡ record { answer = Answer.accepted (some (pos (size s)) ∷ []); out = over (packing s) out })
     × (packing s ≡ take (size s) b)
@@ -319,7 +319,7 @@ checks-more k [] word vs more l = refl
 checks-more k (f ∷ fs) word [] more l = absurd (omega arith)
 checks-more k (f ∷ fs) word (v ∷ vs) more l = rw (checks-more (suc k) fs word vs more (omega arith))
 
-pub pack-more : (values more : List ℤ) (word rptin : ℕ) (ns out : List ℕ) → 46 ≤ length values
+pack-more : (values more : List ℤ) (word rptin : ℕ) (ns out : List ℕ) → 46 ≤ length values
     → pack (values ++ more) word rptin ns out ≡ pack values word rptin ns out
 unfolding pack packOrder packSheet
 pack-more values more word rptin ns out l =
@@ -374,7 +374,7 @@ largest =
     ∷ map (λ (i : ℕ). attachment i (replicate 255 0)) (2 ∷ 3 ∷ 4 ∷ 5 ∷ 6 ∷ 7 ∷ 8 ∷ 9 ∷ 10 ∷ 11 ∷ 12 ∷ 13 ∷ 14 ∷ 15 ∷ []))
 
 -- the most that a report takes (`size-range` of Report)
-pub largest-size : size largest ≡ 1853
+largest-size : size largest ≡ 1853
 unfolding largest tailNibbles attachmentNibbles
 largest-size = size-is largest
 
@@ -385,7 +385,7 @@ largest-fine =
     let w = checks-fine 15 1 [] (tailNibbles list) (all-nibbles (tailNibbles list) refl) refl in
     subst (Fine []) (rw append-nil at (tail-reads list [])) (w .fine)
 
-pub largest-good : Good largest
+largest-good : Good largest
 unfolding largest inRange fieldAt table
 largest-good =
     let g = fresh-good (scaled (pos 1)) (scaled (pos 1900)) (scaled (pos 1)) (scaled (pos 0)) (scaled (pos 0)) refl refl refl refl refl in

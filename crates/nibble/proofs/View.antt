@@ -36,7 +36,7 @@ module _ (b : List ℕ) (c : Cursor) where
   pub from-length : length (from b c) ≡ length (view (c .packed) b) - c .at
   from-length = length-drop (c .at) (view (c .packed) b)
 
-  pub from-at : (i : ℕ) → getD (from b c) i 0 ≡ getD (view (c .packed) b) (c .at + i) 0
+  from-at : (i : ℕ) → getD (from b c) i 0 ≡ getD (view (c .packed) b) (c .at + i) 0
   from-at i = getD-drop (c .at) (view (c .packed) b) i 0
 
   pub from-moved : (n : ℕ) → drop n (from b c) ≡ from b (moved c n)

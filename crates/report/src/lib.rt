@@ -1,8 +1,10 @@
 // A report judged: its length, fields, checksum, attachments and odd last nibble, in one walk.
 ghost use mathlib.Core.Path.{_≡_};
+ghost use mathlib.Core.Bool.{true};
 ghost use Prim.Native.Nat.{_*_, _≤_};
 ghost use lib.ListN.{length};
 ghost use Rattle.format.specs.Report.{judge};
+ghost use Rattle.tail.specs.Walk.{walked};
 ghost use Rattle.report.specs.Answers.{judgedOf, Sizes, inspected, lastOf, FieldsPass, Takes, comparison, FrontCompared};
 use checks::CardCheck;
 use nibble::Cursor;
@@ -51,6 +53,29 @@ fn last(s: &[u8], checksum: u64, count: usize, t: Tail) -> Inspected
     })
 }
 
+// The attachments behind the card. A card alone is not walked.
+fn walk_behind(s: &[u8], count: usize, want: usize) -> Walked
+    requires { ⌜ 38 ≤ length (now s) ⌝ }
+    ensures { λ r. ⌜ r ≡ walked (now (s .entry)) (record { at = 75; packed = true }) count want ⌝ }
+{
+    if count == 0 {
+        return Walked::Ended(Tail {
+            end: 75,
+            place: 0,
+            al: 0,
+        });
+    }
+    tail::walk(
+        s,
+        Cursor {
+            at: 75,
+            packed: true,
+        },
+        count,
+        want,
+    )
+}
+
 // The checksum, the attachments, the last nibble.
 fn inspect_tail(s: &[u8], checksum: u64, want: usize) -> Inspected
     requires { ⌜ FieldsPass (now s) checksum ⌝ }
@@ -60,15 +85,7 @@ fn inspect_tail(s: &[u8], checksum: u64, want: usize) -> Inspected
         return Inspected::Refused(4, 0);
     }
     let count = card::count(s);
-    let w = tail::walk(
-        s,
-        Cursor {
-            at: 75,
-            packed: true,
-        },
-        count,
-        want,
-    );
+    let w = walk_behind(s, count, want);
     match w {
         Walked::Refused(n, p) => Inspected::Refused(n, p),
         Walked::Ended(t) => last(s, checksum, count, t),

@@ -1,18 +1,24 @@
 -- The place of an attachment among those that begin at a place.
 -- Assumes nothing.
-use Prim.Native.Nat.{ℕ, _+_, _≤_}
+use Prim.Native.Nat.{ℕ, _+_, _-_, _*_, _≤_}
 use native.Mathlib.Omega.{arith}
-use mathlib.Core.Path.{_≡_, refl, ap, _∙_}
+use mathlib.Core.Path.{_≡_, refl, sym, ap, _∙_}
 use mathlib.Core.Bool.{true, false}
-use mathlib.Core.List.{List, [], _∷_, _++_}
-use lib.ListN.{length}
+use mathlib.Core.List.{List, [], _∷_, _++_, append-assoc}
+use lib.ListN.{length, drop, length-append}
+use lib.Seq.{drop-drop, drop-append-add}
 use lib.Dec.{eqb}
 use borrow.Author.Tests.{eq-eqb}
-use Rattle.format.specs.Nibbles.{Attachment, attachment, attachmentNibbles, tailNibbles}
-use Rattle.format.specs.Machine.{stands}
+use Rattle.format.specs.Nibbles.{Attachment, attachment, nibbles, attachmentNibbles, tailNibbles}
+use Rattle.format.specs.Sheet.{size}
+use Rattle.format.specs.Report.{tailOf, sheetOf, accepted, judge}
+use Rattle.format.specs.Machine.{stands, contentOf}
+use Rattle.format.specs.Buffer.{zeros}
 use Rattle.laws.proofs.Lists.{or-false, test-case}
+use Rattle.laws.proofs.Bits.{Bytes}
 use Rattle.laws.proofs.Attachments.{tail-length, tail-append}
 use Rattle.laws.proofs.AttachmentEdits.{Placed}
+use Rattle.laws.proofs.Laid.{tail-taken}
 use Rattle.tail.specs.Walk.{placeOf}
 
 module _ (i : ℕ) where
@@ -50,3 +56,43 @@ module _ (i : ℕ) where
       → tailNibbles list ≡ tailNibbles (p .before) ++ (attachmentNibbles (attachment i ns) ++ tailNibbles (p .after))
   unfolding tailNibbles
   around {ns} p = ap tailNibbles (p .splits) ∙ tail-append (p .before) (attachment i ns ∷ p .after)
+
+-- ---- in an accepted report
+
+module _ (b : List ℕ) (i : ℕ) (bs : Bytes b) (j : judge b ≡ accepted (sheetOf b))
+    (p : Placed i (contentOf i (sheetOf b .attachments)) (sheetOf b .attachments)) where
+  abbrev list : List Attachment
+  list = sheetOf b .attachments
+
+  abbrev content : List ℕ
+  content = contentOf i (sheetOf b .attachments)
+
+  -- what follows the attachments
+  abbrev pub beyond : List ℕ
+  beyond = zeros (2 * size (sheetOf b) - (75 + length (tailNibbles list))) ++ drop (2 * size (sheetOf b)) (nibbles b)
+
+  pub tail-split : tailOf b ≡ tailNibbles (p .before) ++ (attachmentNibbles (attachment i content) ++ (tailNibbles (p .after) ++ beyond))
+  tail-split = tail-taken b (sheetOf b) bs j ∙ ap (λ (x : List ℕ). x ++ beyond) (around i p) ∙ simp append-assoc
+
+  module _ (place : ℕ) (is : place ≡ placeOf 75 i list) where
+    -- its nibbles stand behind its header
+    pub body-is : drop (place + 3) (nibbles b) ≡ content ++ (tailNibbles (p .after) ++ beyond)
+    unfolding attachmentNibbles
+    body-is =
+        let k : place + 3 ≡ 75 + (length (tailNibbles (p .before)) + 3) = omega (arith, place-is i 75 p) in
+        ap (λ (n : ℕ). drop n (nibbles b)) k
+        ∙ sym (drop-drop (length (tailNibbles (p .before)) + 3) 75 (nibbles b))
+        ∙ ap (drop (length (tailNibbles (p .before)) + 3)) tail-split
+        ∙ drop-append-add (tailNibbles (p .before)) (attachmentNibbles (attachment i content) ++ (tailNibbles (p .after) ++ beyond)) 3
+
+    -- and end within the attachments
+    pub body-ends : place + (3 + length content) ≤ 75 + length (tailNibbles list)
+    unfolding attachmentNibbles
+    body-ends =
+        omega (
+          arith,
+          place-is i 75 p,
+          ap length (around i p),
+          length-append (tailNibbles (p .before)) (attachmentNibbles (attachment i content) ++ tailNibbles (p .after)),
+          length-append (attachmentNibbles (attachment i content)) (tailNibbles (p .after)),
+        )

@@ -1,61 +1,26 @@
--- What the reader has done after i nibbles of a body, and after one more.
+-- What the check and the reader have done after i nibbles of a body, and after more.
 -- Assumes nothing.
 use Prim.Native.Nat.{ℕ, _+_, _-_, _*_, _≤_, _<_}
 use native.Mathlib.Omega.{arith}
-use native.Mathlib.Numerals.{add-one}
-use mathlib.Core.Path.{_≡_, refl, sym, ap, ap₂, subst, _∙_}
-use mathlib.Core.Bool.{Bool}
-use mathlib.Core.List.{List, [], _∷_, _++_, map, append-nil, map-append}
-use lib.ListN.{length, getD, take, drop, length-append, length-take, length-drop, length-map}
-use lib.Seq.{take-suc, take-add, getD-drop, sets}
+use native.Mathlib.Nat.{add-zero}
+use mathlib.Core.Path.{_≡_, refl, sym, ap, subst, _∙_}
+use mathlib.Core.Bool.{true}
+use mathlib.Core.List.{List, [], _∷_, _++_, map, append-nil, append-assoc, map-append}
+use lib.Dec.{eqb, leb}
+use lib.ListN.{length, getD, take, drop, replicate, length-append, length-take, length-drop, length-map, length-replicate}
+use lib.Seq.{take-suc, take-add, drop-drop, getD-drop, sets}
+use borrow.Author.Tests.{le-leb}
 use Rattle.format.specs.declared.TextState.{TextState}
-use Rattle.format.specs.declared.TextState.the-variants.{Between, Run, Pair, Escape, Half, Invalid}
-use Rattle.format.specs.declared.TextStep.{TextStep}
-use Rattle.format.specs.declared.TextStep.the-variants.{On, Plain, Original}
-use Rattle.format.specs.ShipText.{Symbol, plain, original, byteOf, spaces, textStep, stateAfter, symbolsOf, readFrom, endFrom, atEnd, textValid, readText}
+use Rattle.format.specs.declared.TextState.the-variants.{Between}
+use Rattle.format.specs.ShipText.{byteOf, textStep, stateAfter, readFrom, endFrom, atEnd, textValid, readText}
 use Rattle.format.specs.Machine.{over}
-use Rattle.laws.proofs.Lists.{true-false}
-use Rattle.laws.proofs.ShipText.{read-append, end-append, credit, step-credit, read-length, bytes-spaces, valid-written, written-valid, text-back, text-bytes, text-trailing, strip-tail, shortest}
-use Rattle.text.specs.Answers.{held, word, bytesOf, Moved, Writable, Shortest}
-use Rattle.text.proofs.Stores.{word-is, word-length, stores, stores-length, stores-over}
-
--- ---- one step
-
-bytes-word : (s : ℕ) (x : Symbol) → word (s + 1) (byteOf x) ≡ map byteOf (spaces s ++ (x ∷ []))
-bytes-word s x = word-is s (byteOf x) ∙ sym (map-append byteOf (spaces s) (x ∷ []) ∙ ap (λ (l : List ℕ). l ++ (byteOf x ∷ [])) (bytes-spaces s))
-
-pub moved-on : (to : TextState) → Moved (On to) to 0 0
-unfolding stateAfter symbolsOf bytesOf word
-moved-on to = record { state = refl; bytes = refl }
-
-pub moved-plain : (s b : ℕ) → Moved (Plain s b) (Between 0) (s + 1) b
-unfolding stateAfter symbolsOf bytesOf byteOf
-moved-plain s b = record { state = refl; bytes = bytes-word s (plain b) }
-
-pub moved-original : (s b : ℕ) → Moved (Original s b) (Between 0) (s + 1) b
-unfolding stateAfter symbolsOf bytesOf byteOf
-moved-original s b = record { state = refl; bytes = bytes-word s (original b) }
-
--- of the step that a call gave
-pub moved : (t u w : TextStep) (to : TextState) (more byte : ℕ) → t ≡ w → t ≡ u → Moved w to more byte → Moved u to more byte
-moved t u w to more byte e f m = subst (λ (x : TextStep). Moved x to more byte) (sym e ∙ f) m
-
-moved-length : (t : TextStep) (to : TextState) (more byte : ℕ) → Moved t to more byte → more ≡ length (symbolsOf t)
-unfolding bytesOf
-moved-length t to more byte m = sym (word-length more byte) ∙ ap length (m .bytes) ∙ length-map (symbolsOf t) byteOf
-
-held-credit : (st : TextState) → (held st ≤ credit st) × (credit st ≤ held st + 9)
-unfolding held credit
-held-credit (Between s) = (omega arith, omega arith)
-held-credit (Run s) = (omega arith, omega arith)
-held-credit (Pair s z) = (omega arith, omega arith)
-held-credit (Escape s) = (omega arith, omega arith)
-held-credit (Half s h) = (omega arith, omega arith)
-held-credit Invalid = (omega arith, omega arith)
-
--- a nibble brings 18 bytes more than the spaces that wait, at most
-pub moved-bound : (st to : TextState) (n more byte : ℕ) → Moved (textStep st n) to more byte → more ≤ held st + 18
-moved-bound st to n more byte m = omega (arith, moved-length (textStep st n) to more byte m, step-credit st n, held-credit st .1)
+use Rattle.laws.proofs.ShipText.{read-append, end-append, credit, read-length, read-text-length}
+use Rattle.text.specs.declared.Code.{Code}
+use Rattle.text.specs.Rows.{place, next}
+use Rattle.text.specs.Codes.{codeAt, Begins}
+use Rattle.text.proofs.Rows.{place-step, place-bound, place-end}
+use Rattle.text.proofs.Stores.{stores, stores-length, stores-over}
+use Rattle.text.proofs.Reading.{Taken, taken, held, end-held, held-given, held-credit}
 
 -- ---- i nibbles from a place on
 
@@ -71,19 +36,6 @@ module _ (v : List ℕ) (at : ℕ) where
   unfolding reached endFrom
   reached-none = refl
 
-  given-none : [] ≡ given v at 0
-  unfolding given readText readFrom
-  given-none = refl
-
-  pub count-none : 0 ≡ length (given v at 0)
-  count-none = ap length given-none
-
-  pub laid-none : (d : List ℕ) → d ≡ sets d 0 (given v at 0)
-  laid-none d = ap (sets d 0) given-none
-
-  pub laid-length : (i : ℕ) (d out : List ℕ) → out ≡ sets d 0 (given v at i) → length out ≡ length d
-  laid-length i d out e = stores-length d out (given v at i) 0 e
-
   -- nothing wraps
   given-bound : (i : ℕ) → length (given v at i) + held (reached v at i) ≤ 9 * i
   unfolding given readText reached credit
@@ -92,124 +44,209 @@ module _ (v : List ℕ) (at : ℕ) where
       omega (
         arith,
         read-length ns (Between 0),
-        held-credit (endFrom (Between 0) ns) .0,
+        held-credit (endFrom (Between 0) ns),
         length-take i (drop at v),
         length-map (readFrom (Between 0) ns) byteOf,
       )
 
-  -- what i nibbles gave stands in what more give
-  given-le : (i k : ℕ) → length (given v at i) ≤ length (given v at (i + k))
-  unfolding given readText
-  given-le i k =
-      let l = drop at v in
-      let xs = readFrom (Between 0) (take i l) in
-      let ys = readFrom (endFrom (Between 0) (take i l)) (take k (drop i l)) in
-      let e : readFrom (Between 0) (take (i + k) l) ≡ xs ++ ys = ap (readFrom (Between 0)) (take-add i k l) ∙ read-append (take i l) (take k (drop i l)) (Between 0) in
-      omega (arith, ap length e, length-append xs ys, length-map xs byteOf, length-map (readFrom (Between 0) (take (i + k) l)) byteOf)
+  -- k nibbles more
+  take-more : (i k : ℕ) → take (i + k) (drop at v) ≡ take i (drop at v) ++ take k (drop (at + i) v)
+  take-more i k = take-add i k (drop at v) ∙ ap (λ (l : List ℕ). take i (drop at v) ++ take k l) (drop-drop i at v)
 
-  -- one nibble more
-  module _ (i n : ℕ) (h : at + i < length v) (e : n ≡ getD v (at + i) 0) where
-    take-more : take (i + 1) (drop at v) ≡ take i (drop at v) ++ (n ∷ [])
-    take-more =
-        rw add-one
-        (take-suc (drop at v) i 0 (omega (arith, length-drop at v)) ∙ ap (λ (x : ℕ). take i (drop at v) ++ (x ∷ [])) (getD-drop at v i 0 ∙ sym e))
+  reached-more : (i k : ℕ) → reached v at (i + k) ≡ endFrom (reached v at i) (take k (drop (at + i) v))
+  unfolding reached
+  reached-more i k = ap (endFrom (Between 0)) (take-more i k) ∙ end-append (take i (drop at v)) (take k (drop (at + i) v)) (Between 0)
 
-    reached-more : stateAfter (textStep (reached v at i) n) ≡ reached v at (i + 1)
-    unfolding reached endFrom
-    reached-more = sym (ap (endFrom (Between 0)) take-more ∙ end-append (take i (drop at v)) (n ∷ []) (Between 0))
+  given-more : (i k : ℕ) → given v at (i + k) ≡ given v at i ++ map byteOf (readFrom (reached v at i) (take k (drop (at + i) v)))
+  unfolding given readText reached
+  given-more i k =
+      let xs = take i (drop at v) in
+      let ys = take k (drop (at + i) v) in
+      ap (λ (l : List ℕ). map byteOf (readFrom (Between 0) l)) (take-more i k)
+      ∙ ap (map byteOf) (read-append xs ys (Between 0))
+      ∙ map-append byteOf (readFrom (Between 0) xs) (readFrom (endFrom (Between 0) xs) ys)
 
-    given-more : given v at i ++ bytesOf (textStep (reached v at i) n) ≡ given v at (i + 1)
-    unfolding given readText reached readFrom bytesOf
-    given-more =
-        let ns = take i (drop at v) in
-        let xs = readFrom (Between 0) ns in
-        let ys = symbolsOf (textStep (endFrom (Between 0) ns) n) in
-        sym
-        (ap (λ (l : List ℕ). map byteOf (readFrom (Between 0) l)) take-more
-        ∙ ap (map byteOf) (read-append ns (n ∷ []) (Between 0) ∙ ap (λ (l : List Symbol). xs ++ l) (append-nil ys))
-        ∙ map-append byteOf xs ys)
+  reached-one : (i n : ℕ) → at + i < length v → n ≡ getD v (at + i) 0 → reached v at (i + 1) ≡ stateAfter (textStep (reached v at i) n)
+  unfolding endFrom
+  reached-one i n h e =
+      reached-more i 1
+      ∙ ap (endFrom (reached v at i))
+      (take-suc (drop (at + i) v) 0 0 (omega (arith, length-drop (at + i) v)) ∙ ap (λ (x : ℕ). x ∷ []) (getD-drop (at + i) v 0 0 ∙ ap (λ (j : ℕ). getD v j 0) (add-zero (at + i)) ∙ sym e))
 
--- ---- the loops
+-- ---- the check
 
--- the state after i nibbles
-pub record Passed (v : List ℕ) (at len : ℕ) (st : TextState) (i : ℕ) : Type 0 where
+-- the place after i nibbles
+pub record Stands (v : List ℕ) (at len p i : ℕ) : Type 0 where
   pub inside : i ≤ len
-  pub state : st ≡ reached v at i
+  pub place : p ≡ place (reached v at i)
 
 module _ (v : List ℕ) (at len : ℕ) where
-  pub pass-none : Passed v at len (Between 0) 0
-  pass-none = record { inside = omega arith; state = reached-none v at }
+  pub stand-none : Stands v at len 4 0
+  unfolding place
+  stand-none = record { inside = omega arith; place = ap place (reached-none v at) }
 
-  pub pass-held : (st : TextState) (i : ℕ) → Passed v at len st i → held st ≤ 9 * len
-  pass-held st i p = omega (arith, given-bound v at i, ap held (p .state), p .inside)
+  pub stand-low : (p i : ℕ) → Stands v at len p i → p < 64
+  stand-low p i s = omega (arith, s .place, place-bound (reached v at i))
 
-  pub pass-end : (st : TextState) (i : ℕ) → Passed v at len st i → len ≤ i → atEnd st ≡ textValid (take len (drop at v))
+  pub stand-end : (p i : ℕ) → Stands v at len p i → len ≤ i → eqb p 4 ≡ textValid (take len (drop at v))
   unfolding reached textValid
-  pass-end st i p h =
-      let e : i ≡ len = omega (arith, p .inside) in
-      ap atEnd (p .state ∙ ap (reached v at) e)
+  stand-end p i s h =
+      let e : i ≡ len = omega (arith, s .inside) in
+      ap (λ (q : ℕ). eqb q 4) (s .place) ∙ place-end (reached v at i) ∙ ap (λ (k : ℕ). atEnd (reached v at k)) e
 
-  pub count-end : (i m : ℕ) → i ≤ len → len ≤ i → m ≡ length (given v at i) → m ≡ length (readText (take len (drop at v)))
-  unfolding given
-  count-end i m h k e =
-      let j : i ≡ len = omega arith in
-      e ∙ ap (λ (x : ℕ). length (given v at x)) j
-
-  module _ (st to : TextState) (i n more byte : ℕ) (p : Passed v at len st i) (h : i < len) (k : at + len ≤ length v) (e : n ≡ getD v (at + i) 0)
-      (f : Moved (textStep st n) to more byte) where
-    pub pass-more : Passed v at len to (i + 1)
-    pass-more = record {
+  module _ (k : at + len ≤ length v) (p i : ℕ) (s : Stands v at len p i) where
+    pub stand-more : (n q : ℕ) → i < len → n ≡ getD v (at + i) 0 → q ≡ next p n → Stands v at len q (i + 1)
+    stand-more n q h e f = record {
       inside = omega arith;
-      state = f .state ∙ ap (λ (u : TextState). stateAfter (textStep u n)) (p .state) ∙ reached-more v at i n (omega arith) e;
+      place = f ∙ ap (λ (x : ℕ). next x n) (s .place) ∙ sym (place-step (reached v at i) n) ∙ ap place (sym (reached-one v at i n (omega arith) e));
     }
 
-    bytes-more : given v at i ++ word more byte ≡ given v at (i + 1)
-    bytes-more = ap (λ (l : List ℕ). given v at i ++ l) (f .bytes ∙ ap (λ (u : TextState). bytesOf (textStep u n)) (p .state)) ∙ given-more v at i n (omega arith) e
+  pub stand-two : at + len ≤ length v → (p q r i m n : ℕ) → Stands v at len p i → i + 1 < len → m ≡ getD v (at + i) 0 → n ≡ getD v (at + i + 1) 0
+      → q ≡ next p m → r ≡ next q n → Stands v at len r (i + 2)
+  stand-two k p q r i m n s h e f g u =
+      let a : at + i + 1 ≡ at + (i + 1) = omega arith in
+      let b : i + 1 + 1 ≡ i + 2 = omega arith in
+      subst (Stands v at len r) b (stand-more k q (i + 1) (stand-more k p i s m q (omega arith) e g) n r h (f ∙ ap (λ (j : ℕ). getD v j 0) a) u)
 
-    count-more : (m : ℕ) → m ≡ length (given v at i) → m + more ≡ length (given v at (i + 1))
-    count-more m g = ap₂ _+_ g (sym (word-length more byte)) ∙ sym (length-append (given v at i) (word more byte)) ∙ ap length bytes-more
+-- ---- the reader
 
-    pub pass-count : (m : ℕ) → m ≡ length (given v at i) → Passed v at len to (i + 1) × (m + more ≡ length (given v at (i + 1)))
-    pass-count m g = (pass-more, count-more m g)
+-- the text so far: what i nibbles gave, and the spaces that wait
+unfoldable pub laid : List ℕ → ℕ → ℕ → List ℕ
+laid v at i = given v at i ++ replicate (held (reached v at i)) 32
 
-    pub count-small : (m : ℕ) → m ≡ length (given v at i) → m + more ≤ 9 * len
-    count-small m g = omega (arith, count-more m g, given-bound v at (i + 1))
+-- i nibbles of whole codes, and the length of their text
+pub record Parsed (v : List ℕ) (at len count i : ℕ) : Type 0 where
+  pub inside : i ≤ len
+  pub state : reached v at i ≡ Between (held (reached v at i))
+  pub long : count ≡ length (laid v at i)
 
-    -- what the nibble gives fits where the whole text fits
-    pub count-fits : (m size : ℕ) → m ≡ length (given v at i) → length (readText (take len (drop at v))) ≤ size → m + more ≤ size
-    unfolding given
-    count-fits m size g room =
-        let j : (i + 1) + (len - (i + 1)) ≡ len = omega arith in
-        omega (arith, count-more m g, given-le v at (i + 1) (len - (i + 1)), ap (λ (x : ℕ). length (given v at x)) j)
+module _ (v : List ℕ) (at : ℕ) where
+  laid-length : (i : ℕ) → length (laid v at i) ≡ length (given v at i) + held (reached v at i)
+  unfolding laid
+  laid-length i = length-append (given v at i) (replicate (held (reached v at i)) 32) ∙ ap (λ (k : ℕ). length (given v at i) + k) (length-replicate {A = ℕ} (held (reached v at i)) 32)
 
-    laid-more : (m : ℕ) (d out o : List ℕ) → m ≡ length (given v at i) → out ≡ sets d 0 (given v at i) → o ≡ sets out m (word more byte)
-        → o ≡ sets d 0 (given v at (i + 1))
-    laid-more m d out o g q r =
-        let x : m ≡ 0 + length (given v at i) = omega arith in
-        stores d out o (given v at i) (word more byte) 0 m q x r ∙ ap (sets d 0) bytes-more
+  pub laid-none : [] ≡ laid v at 0
+  unfolding laid given readText readFrom reached endFrom held
+  laid-none = refl
 
-    pub read-more : (m : ℕ) (d out o : List ℕ) → m ≡ length (given v at i) → out ≡ sets d 0 (given v at i) → o ≡ sets out m (word more byte)
-        → Passed v at len to (i + 1) × (m + more ≡ length (given v at (i + 1))) × (o ≡ sets d 0 (given v at (i + 1)))
-    read-more m d out o g q r = (pass-more, count-more m g, laid-more m d out o g q r)
+  pub laid-room : (i : ℕ) (d out : List ℕ) → out ≡ sets d 0 (laid v at i) → length out ≡ length d
+  laid-room i d out e = stores-length d out (laid v at i) 0 e
 
-  pub laid-end : (i : ℕ) (d out : List ℕ) → i ≤ len → len ≤ i → length (readText (take len (drop at v))) ≤ length d → out ≡ sets d 0 (given v at i)
-      → out ≡ over (readText (take len (drop at v))) d
+  pub parse-none : (len : ℕ) → Parsed v at len 0 0
+  unfolding reached endFrom held
+  parse-none len = record { inside = omega arith; state = refl; long = ap length laid-none }
+
+module _ (v : List ℕ) (at len : ℕ) (valid : textValid (take len (drop at v)) ≡ true) where
+  -- the body from nibble i on
+  ends : (i : ℕ) → i ≤ len → atEnd (endFrom (reached v at i) (take (len - i) (drop (at + i) v))) ≡ true
+  unfolding reached textValid
+  ends i h =
+      let e : i + (len - i) ≡ len = omega arith in
+      ap atEnd (sym (reached-more v at i (len - i)) ∙ ap (reached v at) e) ∙ valid
+
+  -- its text so far is no longer than the whole
+  pub laid-within : (i : ℕ) → i ≤ len → length (laid v at i) ≤ length (readText (take len (drop at v)))
   unfolding given
-  laid-end i d out h k room e =
-      let j : i ≡ len = omega arith in
-      stores-over d out (readText (take len (drop at v))) room (e ∙ ap (λ (x : ℕ). sets d 0 (given v at x)) j)
+  laid-within i h =
+      let e : i + (len - i) ≡ len = omega arith in
+      let ns = take (len - i) (drop (at + i) v) in
+      let xs = readFrom (reached v at i) ns in
+      omega (
+        arith,
+        laid-length v at i,
+        held-given ns (reached v at i) (ends i h),
+        ap length (given-more v at i (len - i)),
+        ap (λ (k : ℕ). length (given v at k)) e,
+        length-append (given v at i) (map byteOf xs),
+        length-map xs byteOf,
+      )
 
--- ---- what a body and a text are to each other
+  pub laid-all : (i : ℕ) → i ≤ len → len ≤ i → laid v at i ≡ readText (take len (drop at v))
+  unfolding laid given reached textValid
+  laid-all i h k =
+      let e : i ≡ len = omega arith in
+      ap (laid v at) e ∙ ap (λ (w : ℕ). given v at len ++ replicate w 32) (end-held (reached v at len) valid) ∙ append-nil (given v at len)
 
-pub writable : (ns : List ℕ) (t : Bool) → t ≡ textValid ns → Writable t ns
-writable ns t e = record {
-  some-text = λ q. valid-written ns (sym e ∙ q);
-  no-text = λ q u h w. true-false (textValid ns) (written-valid u ns h w) (sym e ∙ q);
-}
+  module _ (fits : at + len ≤ length v) (count i : ℕ) (p : Parsed v at len count i) (h : i < len) where
+    code-taken : Taken (held (reached v at i)) (len - i) (drop (at + i) v) (codeAt (drop (at + i) v))
+    code-taken =
+        taken (held (reached v at i)) (len - i) (drop (at + i) v) (omega arith)
+        (ap (λ (st : TextState). atEnd (endFrom st (take (len - i) (drop (at + i) v)))) (sym (p .state)) ∙ ends i (p .inside))
+        (omega (arith, length-drop (at + i) v))
 
-pub read-shortest : (ns : List ℕ) → Shortest (readText ns) ns
-read-shortest ns = record {
-  gives = λ v. (text-bytes ns v, λ k. text-trailing (readText ns) k ∙ text-back ns v);
-  only = strip-tail ns;
-  least = shortest ns;
-}
+    pub code-begins : Begins (drop (at + i) v)
+    code-begins = record { inside = omega (arith, code-taken .inside, length-drop (at + i) v); byte = code-taken .byte }
+
+    module _ (c : Code) (e : c ≡ codeAt (drop (at + i) v)) where
+      this : Taken (held (reached v at i)) (len - i) (drop (at + i) v) c
+      this = subst (Taken (held (reached v at i)) (len - i) (drop (at + i) v)) (sym e) code-taken
+
+      reached-code : reached v at (i + c .nibbles) ≡ Between (this .waits)
+      reached-code =
+          reached-more v at i (c .nibbles)
+          ∙ ap (λ (st : TextState). endFrom st (take (c .nibbles) (drop (at + i) v))) (p .state)
+          ∙ this .state
+
+      held-code : held (reached v at (i + c .nibbles)) ≡ this .waits
+      unfolding held
+      held-code = ap held reached-code
+
+      pub laid-code : laid v at (i + c .nibbles) ≡ laid v at i ++ replicate (c .count) (c .byte)
+      unfolding laid
+      laid-code =
+          let w = held (reached v at i) in
+          let ns = take (c .nibbles) (drop (at + i) v) in
+          let xs = map byteOf (readFrom (Between w) ns) in
+          ap (λ (k : ℕ). given v at (i + c .nibbles) ++ replicate k 32) held-code
+          ∙ ap (λ (l : List ℕ). l ++ replicate (this .waits) 32)
+          (given-more v at i (c .nibbles) ∙ ap (λ (st : TextState). given v at i ++ map byteOf (readFrom st ns)) (p .state))
+          ∙ append-assoc (given v at i) xs (replicate (this .waits) 32)
+          ∙ ap (λ (l : List ℕ). given v at i ++ l) (this .bytes)
+          ∙ sym (append-assoc (given v at i) (replicate w 32) (replicate (c .count) (c .byte)))
+
+      count-code : count + c .count ≡ length (laid v at (i + c .nibbles))
+      count-code =
+          omega (
+            arith,
+            p .long,
+            ap length laid-code,
+            length-append (laid v at i) (replicate (c .count) (c .byte)),
+            length-replicate {A = ℕ} (c .count) (c .byte),
+          )
+
+      pub code-inside : (0 < c .nibbles) × (i + c .nibbles ≤ len)
+      code-inside = (this .some, omega (arith, this .inside))
+
+      pub parse-more : Parsed v at len (count + c .count) (i + c .nibbles)
+      unfolding held
+      parse-more = record {
+        inside = code-inside .1;
+        state = reached-code ∙ ap Between (sym held-code);
+        long = count-code;
+      }
+
+      -- it fits where the whole text fits
+      pub code-fits : count + c .count ≤ length (readText (take len (drop at v)))
+      code-fits = omega (arith, count-code, laid-within (i + c .nibbles) (code-inside .1))
+
+      -- nothing wraps
+      pub code-small : count + c .count ≤ 9 * len
+      code-small = omega (arith, count-code, laid-length v at (i + c .nibbles), given-bound v at (i + c .nibbles), code-inside .1)
+
+      pub store-code : (d out o : List ℕ) → out ≡ sets d 0 (laid v at i) → o ≡ sets out count (replicate (c .count) (c .byte))
+          → o ≡ sets d 0 (laid v at (i + c .nibbles))
+      store-code d out o q r =
+          let x : count ≡ 0 + length (laid v at i) = omega (arith, p .long) in
+          stores d out o (laid v at i) (replicate (c .count) (c .byte)) 0 count q x r ∙ ap (sets d 0) (sym laid-code)
+
+  pub count-end : (count i : ℕ) → Parsed v at len count i → len ≤ i → count ≡ length (readText (take len (drop at v)))
+  count-end count i p k = p .long ∙ ap length (laid-all i (p .inside) k)
+
+  pub store-end : (count i : ℕ) (d out : List ℕ) → Parsed v at len count i → len ≤ i → length (readText (take len (drop at v))) ≤ length d
+      → out ≡ sets d 0 (laid v at i) → out ≡ over (readText (take len (drop at v))) d
+  store-end count i d out p k room e = stores-over d out (readText (take len (drop at v))) room (e ∙ ap (sets d 0) (laid-all i (p .inside) k))
+
+-- it fits where nine bytes a nibble fit
+pub fits-all : (v : List ℕ) (at len room : ℕ) → 9 * len ≤ room → true ≡ leb (length (readText (take len (drop at v)))) room
+fits-all v at len room h =
+    sym (le-leb _ room (omega (arith, read-text-length (take len (drop at v)), length-take len (drop at v))))

@@ -1,14 +1,14 @@
 -- The codes of the characters, as the code gives them: tests computed over the bytes of each arm.
 -- Assumes nothing.
-use Prim.Native.Nat.{ℕ, _+_, _-_, _*_, _/_, _%_, _≤_, _<_}
+use Prim.Native.Nat.{ℕ, _+_, _-_, _≤_, _<_}
 use native.Mathlib.Omega.{arith}
 use native.Mathlib.Nat.{add-comm}
-use mathlib.Core.Path.{_≡_, refl, sym, ap, ap₂, _∙_}
+use mathlib.Core.Path.{_≡_, refl, sym, ap, _∙_}
 use mathlib.Core.Bool.{true, false}
 use lib.Dec.{leb, eqb}
 use borrow.Author.Tests.{eqb-true, ne-eqb, leb-true}
 use Rattle.format.specs.Order.{between}
-use Rattle.format.specs.ShipText.{charCode, pairByte}
+use Rattle.format.specs.ShipText.{charCode}
 use Rattle.laws.proofs.Lists.{and-true, test-case}
 use Rattle.laws.proofs.Characters.{allBelow, at-below}
 
@@ -88,38 +88,3 @@ code-other b n digit letter =
       ne-eqb b 125 (n .0 .1),
     )
     (add-comm b 3840)
-
--- ---- pairs
-
--- a pair, from the pair as one number
-pub pair-is : (z n b : ℕ) → n ≤ 15 → b ≡ pairByte ((z * 16 + n) / 16) ((z * 16 + n) % 16) → b ≡ pairByte z n
-pair-is z n b h e =
-    let d : (z * 16 + n) / 16 ≡ z = omega arith in
-    let m : (z * 16 + n) % 16 ≡ n = omega arith in
-    e ∙ ap₂ pairByte d m
-
-abbrev pairAt : ℕ → ℕ
-pairAt v = pairByte (v / 16) (v % 16)
-
-pub pair-fits : (z n : ℕ) → z ≤ 15 → n ≤ 15 → z * 16 + n < 256
-pair-fits z n h k = omega arith
-
-pub pair-key : (z n k b : ℕ) → n ≤ 15 → z * 16 + n ≡ k → b ≡ pairByte (k / 16) (k % 16) → b ≡ pairByte z n
-pair-key z n k b h e f = pair-is z n b h (f ∙ ap pairAt (sym e))
-
-pub pair-a-i : (v : ℕ) → 193 ≤ v → v < 202 → v - 128 ≡ pairByte (v / 16) (v % 16)
-unfolding pairByte allBelow
-pair-a-i = agree (λ v. v - 128) pairAt 193 9 refl
-
-pub pair-j-r : (v : ℕ) → 209 ≤ v → v < 218 → v - 135 ≡ pairByte (v / 16) (v % 16)
-unfolding pairByte allBelow
-pair-j-r = agree (λ v. v - 135) pairAt 209 9 refl
-
-pub pair-s-z : (v : ℕ) → 226 ≤ v → v < 234 → v - 143 ≡ pairByte (v / 16) (v % 16)
-unfolding pairByte allBelow
-pair-s-z = agree (λ v. v - 143) pairAt 226 8 refl
-
--- the gaps between them: undefined
-pub pair-none : (low n : ℕ) → allBelow n (λ i. eqb 0 (pairByte ((low + i) / 16) ((low + i) % 16))) ≡ true
-    → (v : ℕ) → low ≤ v → v < low + n → 0 ≡ pairByte (v / 16) (v % 16)
-pair-none low n e = agree (λ v. 0) pairAt low n e

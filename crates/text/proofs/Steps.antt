@@ -1,16 +1,14 @@
--- One law for each answer of the functions that take a nibble.
+-- One law for each answer of `textStep`.
 -- Assumes nothing.
 use Prim.Native.Nat.{ℕ, _+_, _*_, _%_, _≤_, _<_}
 use native.Mathlib.Omega.{arith}
-use mathlib.Core.Path.{_≡_, refl, subst}
+use mathlib.Core.Path.{_≡_}
 use lib.Dec.{ltb}
 use borrow.Author.Tests.{lt-ltb, le-ltb, eq-eqb, ne-eqb}
-use Rattle.format.specs.declared.TextState.{TextState}
 use Rattle.format.specs.declared.TextState.the-variants.{Between, Run, Pair, Escape, Half, Invalid}
-use Rattle.format.specs.declared.TextStep.the-variants.{On, Plain, Original}
-use Rattle.format.specs.ShipText.{charCode, short, escapable, pairByte, textStep}
+use Rattle.format.specs.declared.TextStep.the-variants.{On, Plain}
+use Rattle.format.specs.ShipText.{escapable, textStep}
 use Rattle.laws.proofs.Lists.{test-case}
-use Rattle.text.specs.Answers.{held}
 
 -- ---- between two codes
 
@@ -45,10 +43,6 @@ between-over s n h =
 
 -- ---- in a run
 
-pub run-fits : (s n : ℕ) → s % 18 ≡ 0 → n < 16 → On (Between (s + (n + 3))) ≡ textStep (Run s) n
-unfolding textStep
-run-fits s n h k = rw (eq-eqb (s % 18) 0 h, lt-ltb n 16 k)
-
 pub run-over : (s n : ℕ) → s % 18 ≡ 0 → 16 ≤ n → On Invalid ≡ textStep (Run s) n
 unfolding textStep
 run-over s n h k = rw (eq-eqb (s % 18) 0 h, le-ltb n 16 k)
@@ -57,21 +51,7 @@ pub run-crowd : (s n : ℕ) → (s % 18 ≡ 0 → ⊥) → On Invalid ≡ textSt
 unfolding textStep
 run-crowd s n h = rw (ne-eqb (s % 18) 0 h)
 
--- ---- in a pair
-
-pub pair-bad : (s z n b : ℕ) → b ≡ pairByte z n → b ≡ 0 → On Invalid ≡ textStep (Pair s z) n
-unfolding textStep
-pair-bad s z n b e h = rw (← e, h)
-
-pub pair-good : (s z n b : ℕ) → b ≡ pairByte z n → (b ≡ 0 → ⊥) → Plain s b ≡ textStep (Pair s z) n
-unfolding textStep
-pair-good s z n b e h = rw (← e, ne-eqb b 0 h)
-
 -- ---- in an escape
-
-pub escape-high : (s n : ℕ) → n < 16 → On (Half s n) ≡ textStep (Escape s) n
-unfolding textStep
-escape-high s n h = rw (lt-ltb n 16 h)
 
 pub escape-over : (s n : ℕ) → 16 ≤ n → On Invalid ≡ textStep (Escape s) n
 unfolding textStep
@@ -85,25 +65,3 @@ pub half-large : (s h n : ℕ) → 16 ≤ h → On Invalid ≡ textStep (Half s 
 unfolding textStep escapable
 half-large s h n k =
     test-case (ltb n 16) (λ e. rw (e, le-ltb (h * 16 + n) 256 (omega arith))) (λ e. rw e)
-
-pub half-short : (s h n v : ℕ) → h < 16 → n < 16 → v ≡ charCode (h * 16 + n) → v < 256 → On Invalid ≡ textStep (Half s h) n
-unfolding textStep escapable short
-half-short s h n v g k e l = rw (lt-ltb n 16 k, lt-ltb (h * 16 + n) 256 (omega arith), ← e, lt-ltb v 256 l)
-
-pub half-good : (s h n v : ℕ) → h < 16 → n < 16 → v ≡ charCode (h * 16 + n) → 256 ≤ v → Original s (h * 16 + n) ≡ textStep (Half s h) n
-unfolding textStep escapable short
-half-good s h n v g k e l = rw (lt-ltb n 16 k, lt-ltb (h * 16 + n) 256 (omega arith), ← e, le-ltb v 256 l)
-
--- ---- any state
-
-pub invalid-step : (n : ℕ) → On Invalid ≡ textStep Invalid n
-unfolding textStep
-invalid-step n = refl
-
-pub held-between : (st : TextState) (s m : ℕ) → st ≡ Between s → held st ≤ m → s ≤ m
-unfolding held
-held-between st s m e h = subst (λ (u : TextState). held u ≤ m) e h
-
-pub held-run : (st : TextState) (s m : ℕ) → st ≡ Run s → held st ≤ m → s ≤ m
-unfolding held
-held-run st s m e h = subst (λ (u : TextState). held u ≤ m) e h

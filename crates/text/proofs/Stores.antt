@@ -12,7 +12,6 @@ use borrow.Author.Tests.{lt-ltb, le-ltb}
 use Rattle.format.specs.ShipText.{codeNibbles, fulls, rest, spaceRun}
 use Rattle.format.specs.Machine.{over}
 use Rattle.laws.proofs.ShipText.{fulls-more, fulls-length}
-use Rattle.text.specs.Answers.{word}
 
 sets-append : (xs ys d : List ℕ) (at : ℕ) → sets d at (xs ++ ys) ≡ sets (sets d at xs) (at + length xs) ys
 sets-append [] ys d at = ap (λ (k : ℕ). sets d k ys) (sym (add-zero at))
@@ -51,34 +50,20 @@ module _ (d : List ℕ) (at : ℕ) (xs : List ℕ) where
       let k : at + 2 ≡ suc (suc at) = omega arith in
       rw e (refl, rw (k, add-one) at (h ∙ ap (λ (l : List ℕ). set l (at + 2) c) (g ∙ ap (λ (l : List ℕ). set l (at + 1) b) f)))
 
--- ---- a word
+-- ---- one byte so many times
 
-pub word-is : (s b : ℕ) → word (s + 1) b ≡ replicate s 32 ++ (b ∷ [])
-unfolding word
-word-is s b = rw add-one
+pub bytes-more : (d o : List ℕ) (at i b : ℕ) → o ≡ sets d at (replicate i b) → set o (at + i) b ≡ sets d at (replicate (i + 1) b)
+bytes-more d o at i b e =
+    let k : at + i ≡ at + length (replicate {A = ℕ} i b) = omega (arith, length-replicate {A = ℕ} i b) in
+    stores d o (set o (at + i) b) (replicate i b) (b ∷ []) at (at + i) e k refl ∙ ap (sets d at) (replicate-append-replicate i 1 b)
 
-pub word-length : (n b : ℕ) → length (word n b) ≡ n
-unfolding word
-word-length zero b = refl
-word-length (suc s) b = omega (arith, length-append (replicate s 32) (b ∷ []), length-replicate {A = ℕ} s 32)
+pub bytes-end : (d o : List ℕ) (at n i b : ℕ) → o ≡ sets d at (replicate i b) → i ≤ n → n ≤ i → o ≡ sets d at (replicate n b)
+bytes-end d o at n i b e h k =
+    let j : i ≡ n = omega arith in
+    e ∙ ap (λ (x : ℕ). sets d at (replicate x b)) j
 
-pub word-none : (d : List ℕ) (at n b : ℕ) → n ≡ 0 → d ≡ sets d at (word n b)
-unfolding word
-word-none d at n b e = ap (λ (k : ℕ). sets d at (word k b)) (sym e)
-
-spaces-more : (d o : List ℕ) (at i a : ℕ) → o ≡ sets d at (replicate i 32) → set o (at + i) a ≡ sets d at (replicate i 32 ++ (a ∷ []))
-spaces-more d o at i a e =
-    let k : at + i ≡ at + length (replicate {A = ℕ} i 32) = omega (arith, length-replicate {A = ℕ} i 32) in
-    stores d o (set o (at + i) a) (replicate i 32) (a ∷ []) at (at + i) e k refl
-
-pub word-turn : (d o : List ℕ) (at i : ℕ) → o ≡ sets d at (replicate i 32) → set o (at + i) 32 ≡ sets d at (replicate (i + 1) 32)
-word-turn d o at i e = spaces-more d o at i 32 e ∙ ap (sets d at) (replicate-append-replicate i 1 32)
-
-pub word-end : (d o : List ℕ) (at n i b : ℕ) → o ≡ sets d at (replicate i 32) → i ≤ n - 1 → n - 1 ≤ i → (n ≡ 0 → ⊥) → set o (at + (n - 1)) b ≡ sets d at (word n b)
-word-end d o at n i b e h k z =
-    let j : i ≡ n - 1 = omega arith in
-    let m : (n - 1) + 1 ≡ n = omega arith in
-    spaces-more d o at (n - 1) b (e ∙ ap (λ (x : ℕ). sets d at (replicate x 32)) j) ∙ ap (sets d at) (sym (word-is (n - 1) b) ∙ ap (λ (x : ℕ). word x b) m)
+pub byte-one : (d : List ℕ) (at n b : ℕ) → n ≡ 1 → set d at b ≡ sets d at (replicate n b)
+byte-one d at n b e = rw e
 
 -- ---- a run
 

@@ -1,14 +1,16 @@
-// The ship text of attachment 4: whether a body is valid, and the text of a body.
+// The ship text of attachment 4: whether a body is valid, and the text of a valid one.
 ghost use mathlib.Core.Path.{_≡_};
+ghost use mathlib.Core.Bool.{true};
 ghost use Prim.Native.Nat.{_+_, _*_, _≤_, _<_, _^_};
-ghost use lib.ListN.{length, set};
+ghost use lib.Dec.{leb};
+ghost use lib.ListN.{length, getD, drop, replicate};
 ghost use lib.Seq.{sets};
-ghost use Rattle.format.specs.ShipText.{charCode, pairByte, textStep, atEnd, textValid, readText};
+ghost use Rattle.format.specs.ShipText.{charCode, pairByte, textValid, readText};
 ghost use Rattle.format.specs.Machine.{over};
 ghost use Rattle.nibble.specs.View.{view, part};
-ghost use Rattle.text.specs.Answers.{held, word, Moved, Writable, Shortest};
-use format::TextState;
-use format::TextStep;
+ghost use Rattle.text.specs.Answers.{Writable, Shortest};
+ghost use Rattle.text.specs.Rows.{rows, next, pairRows};
+ghost use Rattle.text.specs.Codes.{code, codeAt, Begins};
 use nibble::Cursor;
 
 // ---- characters
@@ -34,173 +36,39 @@ pub fn char_code(b: u8) -> u16
     }
 }
 
-// The byte of a pair, 0 where the pair is undefined.
-fn pair_byte(z: u8, n: u8) -> u8
-    ensures { λ r. ⌜ r ≡ pairByte z n ⌝ }
+// ---- whether a body is valid
+
+// For each of sixteen states, four bits: the state after a nibble.
+fn row(n: u8) -> u64
+    ensures { λ r. ⌜ (r ≡ getD rows n 0) × (r < 2 ^ 62) ⌝ }
 {
-    if 15 < z {
-        return 0;
-    }
-    if 15 < n {
-        return 0;
-    }
-    let v = z * 16 + n;
-    match v {
-        192 => 123,
-        202 => 38,
-        203 => 43,
-        208 => 125,
-        218 => 45,
-        225 => 47,
-        193..=201 => v - 128,
-        209..=217 => v - 135,
-        226..=233 => v - 143,
+    match n {
+        0 => 0x1101_00f0_1141_1110,
+        1 => 0x1100_01f1_1141_1110,
+        2 => 0x1100_01a1_1141_1110,
+        3 => 0x1100_01b1_1141_1110,
+        4 => 0x1100_01c1_1141_1110,
+        5 => 0x1100_01d1_1141_1110,
+        6 => 0x1100_00f1_1141_1110,
+        7 => 0x1100_01e1_1141_1110,
+        8 => 0x1100_01f1_1141_1110,
+        9 => 0x1100_01f1_1141_1110,
+        10 => 0x1100_11f0_1140_4330,
+        11 => 0x1010_10f0_0140_0550,
+        12 => 0x1110_11f0_0046_6660,
+        13 => 0x1010_10f0_0047_7770,
+        14 => 0x1110_11f0_0048_8880,
+        15 => 0x1110_10f0_0029_9990,
         _ => 0,
     }
 }
 
-// ---- one nibble
-
-// Between two codes, behind s spaces.
-fn between_step(s: usize, n: u8) -> TextStep
-    requires { ⌜ s ≤ 2 ^ 32 ⌝ }
-    ensures { λ r. ⌜ r ≡ textStep (TextState.Between s) n ⌝ }
+// The state after a nibble, each as its place in a row.
+fn after(st: u64, n: u8) -> u64
+    requires { ⌜ st < 64 ⌝ }
+    ensures { λ r. ⌜ r ≡ next st n ⌝ }
 {
-    if n < 10 {
-        return TextStep::Plain(s, 48 + n);
-    }
-    if n == 10 {
-        if s % 18 < 2 {
-            return TextStep::On(TextState::Between(s + 1));
-        }
-        return TextStep::On(TextState::Invalid);
-    }
-    if n == 11 {
-        return TextStep::On(TextState::Run(s));
-    }
-    if n < 15 {
-        return TextStep::On(TextState::Pair(s, n));
-    }
-    if n == 15 {
-        return TextStep::On(TextState::Escape(s));
-    }
-    TextStep::On(TextState::Invalid)
-}
-
-// After an 11, behind full eighteens.
-fn run_step(s: usize, n: u8) -> TextStep
-    requires { ⌜ s ≤ 2 ^ 32 ⌝ }
-    ensures { λ r. ⌜ r ≡ textStep (TextState.Run s) n ⌝ }
-{
-    if s % 18 == 0 {
-        if n < 16 {
-            return TextStep::On(TextState::Between(s + (n as usize + 3)));
-        }
-        return TextStep::On(TextState::Invalid);
-    }
-    TextStep::On(TextState::Invalid)
-}
-
-// After a 12, 13 or 14.
-fn pair_step(s: usize, z: u8, n: u8) -> TextStep
-    ensures { λ r. ⌜ r ≡ textStep (TextState.Pair s z) n ⌝ }
-{
-    let b = pair_byte(z, n);
-    if b == 0 {
-        return TextStep::On(TextState::Invalid);
-    }
-    TextStep::Plain(s, b)
-}
-
-// After a 15.
-fn escape_step(s: usize, n: u8) -> TextStep
-    ensures { λ r. ⌜ r ≡ textStep (TextState.Escape s) n ⌝ }
-{
-    if n < 16 {
-        return TextStep::On(TextState::Half(s, n));
-    }
-    TextStep::On(TextState::Invalid)
-}
-
-// After a 15 and the high half of a byte.
-fn half_step(s: usize, h: u8, n: u8) -> TextStep
-    ensures { λ r. ⌜ r ≡ textStep (TextState.Half s h) n ⌝ }
-{
-    if 15 < h {
-        return TextStep::On(TextState::Invalid);
-    }
-    if 15 < n {
-        return TextStep::On(TextState::Invalid);
-    }
-    let b = h * 16 + n;
-    let v = char_code(b);
-    if v < 256 {
-        return TextStep::On(TextState::Invalid);
-    }
-    TextStep::Original(s, b)
-}
-
-// What a nibble brings.
-pub fn step(st: TextState, n: u8) -> TextStep
-    requires { ⌜ held st ≤ 2 ^ 32 ⌝ }
-    ensures { λ r. ⌜ r ≡ textStep st n ⌝ }
-{
-    match st {
-        TextState::Between(s) => between_step(s, n),
-        TextState::Run(s) => run_step(s, n),
-        TextState::Pair(s, z) => pair_step(s, z, n),
-        TextState::Escape(s) => escape_step(s, n),
-        TextState::Half(s, h) => half_step(s, h, n),
-        TextState::Invalid => TextStep::On(TextState::Invalid),
-    }
-}
-
-// ---- a whole body
-
-pub struct Move {
-    pub to: TextState,
-    // How many bytes: none, or spaces and one byte behind them.
-    pub more: usize,
-    pub byte: u8,
-}
-
-// The state after a nibble, and the bytes that it gave.
-fn advance(st: TextState, n: u8) -> Move
-    requires { ⌜ held st ≤ 2 ^ 32 ⌝ }
-    ensures { λ r. ⌜ Moved (textStep st n) (r .to) (r .more) (r .byte) ⌝ }
-{
-    let t = step(st, n);
-    match t {
-        TextStep::On(to) => Move {
-            to,
-            more: 0,
-            byte: 0,
-        },
-        TextStep::Plain(s, b) => Move {
-            to: TextState::Between(0),
-            more: s + 1,
-            byte: b,
-        },
-        TextStep::Original(s, b) => Move {
-            to: TextState::Between(0),
-            more: s + 1,
-            byte: b,
-        },
-    }
-}
-
-// Whether a body may end here.
-fn at_end(st: TextState) -> bool
-    ensures { λ r. ⌜ r ≡ atEnd st ⌝ }
-{
-    match st {
-        TextState::Between(s) => s == 0,
-        TextState::Run(_) => false,
-        TextState::Pair(_, _) => false,
-        TextState::Escape(_) => false,
-        TextState::Half(_, _) => false,
-        TextState::Invalid => false,
-    }
+    ((row(n) * 4) >> st) / 4 % 16 * 4
 }
 
 // Whether the writer gives these nibbles for some text.
@@ -210,70 +78,153 @@ pub fn valid(s: &[u8], c: Cursor, len: usize) -> bool
 {
     let at = c.at;
     let packed = c.packed;
-    let mut st = TextState::Between(0);
+    let mut st = 4;
     let mut i = 0;
-    while i < len {
-        let n = nibble::nibble_at(s, at + i, packed);
-        let m = advance(st, n);
-        st = m.to;
-        i += 1;
+    while i + 1 < len {
+        let m = nibble::nibble_at(s, at + i, packed);
+        let n = nibble::nibble_at(s, at + i + 1, packed);
+        st = after(after(st, m), n);
+        i += 2;
     }
-    at_end(st)
+    if i < len {
+        let n = nibble::nibble_at(s, at + i, packed);
+        return after(st, n) == 4;
+    }
+    st == 4
 }
 
-// The length of the text of a body.
-pub fn text_length(s: &[u8], c: Cursor, len: usize) -> usize
-    requires { ⌜ (c .at + len ≤ length (view (c .packed) (now s))) × (c .at ≤ 2 ^ 32) × (len ≤ 4096) ⌝ }
+// ---- a code
+
+// For a pair's low nibble, eight bits for each high one from 12 on: the pair's byte.
+fn pairs(n: u8) -> u64
+    ensures { λ r. ⌜ r ≡ getD pairRows n 0 ⌝ }
+{
+    match n {
+        0 => 0x00_7d_7b,
+        1 => 0x2f_4a_41,
+        2 => 0x53_4b_42,
+        3 => 0x54_4c_43,
+        4 => 0x55_4d_44,
+        5 => 0x56_4e_45,
+        6 => 0x57_4f_46,
+        7 => 0x58_50_47,
+        8 => 0x59_51_48,
+        9 => 0x5a_52_49,
+        10 => 0x00_2d_26,
+        11 => 0x00_00_2b,
+        _ => 0,
+    }
+}
+
+// The byte of a pair, 0 where the pair is undefined.
+fn pair_byte(z: u8, n: u8) -> u8
+    requires { ⌜ (12 ≤ z) × (z ≤ 14) ⌝ }
+    ensures { λ r. ⌜ r ≡ pairByte z n ⌝ }
+{
+    let shift = (z - 12) as u64 * 8;
+    ((pairs(n) >> shift) % 256) as u8
+}
+
+// How many nibbles, and the bytes that they stand for: so many times one byte.
+struct Code {
+    nibbles: usize,
+    count: usize,
+    byte: u8,
+}
+
+fn coded(nibbles: usize, count: usize, byte: u8) -> Code
+    ensures { λ r. ⌜ r ≡ code nibbles count byte ⌝ }
+{
+    Code {
+        nibbles,
+        count,
+        byte,
+    }
+}
+
+// The code at a place.
+fn code_at(s: &[u8], at: usize, packed: bool) -> Code
+    requires { ⌜ Begins (drop at (view packed (now s))) × (at ≤ 2 ^ 33) ⌝ }
+    ensures { λ r. ⌜ r ≡ codeAt (drop at (view packed (now (s .entry)))) ⌝ }
+{
+    let n = nibble::nibble_at(s, at, packed);
+    if n < 10 {
+        return coded(1, 1, 48 + n);
+    }
+    if n == 10 {
+        return coded(1, 1, 32);
+    }
+    let m = nibble::nibble_at(s, at + 1, packed);
+    if n == 11 {
+        return coded(2, m as usize + 3, 32);
+    }
+    if n < 15 {
+        return coded(2, 1, pair_byte(n, m));
+    }
+    let l = nibble::nibble_at(s, at + 2, packed);
+    coded(3, 1, m * 16 + l)
+}
+
+// ---- the text of a valid body
+
+// Its length.
+fn text_length(s: &[u8], c: Cursor, len: usize) -> usize
+    requires { ⌜ (c .at + len ≤ length (view (c .packed) (now s))) × (c .at ≤ 2 ^ 32) × (len ≤ 4096) × (textValid (part (now s) c len) ≡ true) ⌝ }
     ensures { λ r. ⌜ r ≡ length (readText (part (now (s .entry)) c len)) ⌝ }
 {
     let at = c.at;
     let packed = c.packed;
-    let mut st = TextState::Between(0);
     let mut count = 0;
     let mut i = 0;
     while i < len {
-        let n = nibble::nibble_at(s, at + i, packed);
-        let m = advance(st, n);
-        st = m.to;
-        count += m.more;
-        i += 1;
+        let k = code_at(s, at + i, packed);
+        count += k.count;
+        i += k.nibbles;
     }
     count
 }
 
-// Writes so many bytes, spaces and one byte behind them, from a place on.
-fn put_word(out: &mut [u8], at: usize, more: usize, b: u8)
-    requires { ⌜ at + more ≤ length (now out) ⌝ }
-    ensures { λ _. ⌜ now (out .exit) ≡ sets (now (out .entry)) at (word more b) ⌝ }
+// Whether it fits in so many bytes. Two nibbles give 18 bytes at most.
+pub fn fits(s: &[u8], c: Cursor, len: usize, room: usize) -> bool
+    requires { ⌜ (c .at + len ≤ length (view (c .packed) (now s))) × (c .at ≤ 2 ^ 32) × (len ≤ 4096) × (textValid (part (now s) c len) ≡ true) ⌝ }
+    ensures { λ r. ⌜ r ≡ leb (length (readText (part (now (s .entry)) c len))) room ⌝ }
 {
-    if more == 0 {
-        return;
+    if 9 * len <= room {
+        return true;
     }
-    let s = more - 1;
-    let mut i = 0;
-    while i < s {
-        out[at + i] = 32;
-        i += 1;
-    }
-    out[at + s] = b;
+    text_length(s, c, len) <= room
 }
 
-// Writes the text of a body.
-pub fn read(s: &[u8], c: Cursor, len: usize, out: &mut [u8])
-    requires { ⌜ (c .at + len ≤ length (view (c .packed) (now s))) × (c .at ≤ 2 ^ 32) × (len ≤ 4096) × (length (readText (part (now s) c len)) ≤ length (now out)) ⌝ }
-    ensures { λ _. ⌜ (now (out .exit) ≡ over (readText (part (now (s .entry)) c len)) (now (out .entry))) × Shortest (readText (part (now (s .entry)) c len)) (part (now (s .entry)) c len) ⌝ }
+// Writes a byte so many times, from a place on.
+fn put_bytes(out: &mut [u8], at: usize, count: usize, b: u8)
+    requires { ⌜ at + count ≤ length (now out) ⌝ }
+    ensures { λ _. ⌜ now (out .exit) ≡ sets (now (out .entry)) at (replicate count b) ⌝ }
+{
+    if count == 1 {
+        out[at] = b;
+        return;
+    }
+    let mut i = 0;
+    while i < count {
+        out[at + i] = b;
+        i += 1;
+    }
+}
+
+// Writes it, and gives its length.
+pub fn read(s: &[u8], c: Cursor, len: usize, out: &mut [u8]) -> usize
+    requires { ⌜ (c .at + len ≤ length (view (c .packed) (now s))) × (c .at ≤ 2 ^ 32) × (len ≤ 4096) × (length (readText (part (now s) c len)) ≤ length (now out)) × (textValid (part (now s) c len) ≡ true) ⌝ }
+    ensures { λ r. ⌜ (now (out .exit) ≡ over (readText (part (now (s .entry)) c len)) (now (out .entry))) × (r ≡ length (readText (part (now (s .entry)) c len))) × Shortest (readText (part (now (s .entry)) c len)) (part (now (s .entry)) c len) ⌝ }
 {
     let at = c.at;
     let packed = c.packed;
-    let mut st = TextState::Between(0);
     let mut count = 0;
     let mut i = 0;
     while i < len {
-        let n = nibble::nibble_at(s, at + i, packed);
-        let m = advance(st, n);
-        put_word(out, count, m.more, m.byte);
-        st = m.to;
-        count += m.more;
-        i += 1;
+        let k = code_at(s, at + i, packed);
+        put_bytes(out, count, k.count, k.byte);
+        count += k.count;
+        i += k.nibbles;
     }
+    count
 }

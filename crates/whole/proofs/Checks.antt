@@ -1,4 +1,4 @@
--- The checks of pack: the refusal of one field, the fields from a place on, and the tail's bytes.
+-- The checks of pack: the fields from a place on, and the tail's bytes.
 -- Assumes nothing.
 use Prim.Native.Nat.{ℕ, zero, suc, _+_, _≤_, _<_}
 use native.Mathlib.Numerals.{add-one}
@@ -10,53 +10,20 @@ use mathlib.Core.Option.{Option, none, some}
 use lib.ListN.{length, getD, drop, drop-of-length-le}
 use lib.IntN.{ℤ, pos}
 use Rattle.format.specs.Order.{Refusal, first}
-use Rattle.format.specs.Field.{Field, table, fieldAt, required, scaled, inRange, codedOf}
+use Rattle.format.specs.Field.{Field, table, required, scaled, inRange}
 use Rattle.format.specs.Whole.{bitAt, packChecks}
-use Rattle.format.specs.declared.Coded.{Coded}
-use Rattle.format.specs.declared.Scaled.{Scaled}
 use Rattle.laws.proofs.Fields.{noField, table-length}
-use Rattle.card.specs.Answers.{codingOf}
-use Rattle.card.specs.declared.Coding.{Coding}
 use Rattle.card.proofs.Entries.{field-is}
-use Rattle.whole.specs.Steps.{refusalOf, checkedBy, fieldsChecked}
+use Rattle.values.specs.Runs.{sumRun}
+use Rattle.values.specs.Given.{refusalOf, refusalAt}
+use Rattle.values.proofs.Runs.{sum-zero}
+use Rattle.whole.specs.Steps.{checkedBy, fieldsChecked}
 use Rattle.whole.specs.declared.Checked.{Checked}
 
--- ---- one field
-
--- a value that has a coded number is in range
-pub coding-inside : (f : Field) (v : Scaled) (c : Coded) → Coding.Code c ≡ codingOf f v → inRange f v ≡ true
-unfolding codingOf
-coding-inside f v c = go (inRange f v)
-  where
-    go : (t : Bool) → Coding.Code c ≡ cond t (Coding.Code (codedOf f v)) Coding.Outside → t ≡ true
-    go true e = refl
-    go false e = let z : _≡_ {A = ℕ} 0 1 = cc in absurd (omega arith)
+-- ---- the fields from place i on
 
 abbrev byTests : Bool → Bool → ℕ
 byTests s t = cond s 10 (cond t 9 0)
-
-and-false : (t : Bool) → t && false ≡ false
-and-false true = refl
-and-false false = refl
-
-module _ (k word : ℕ) (v : ℤ) where
-  pub refusal-missing : bitAt word k ≡ false → required k ≡ true → 10 ≡ refusalOf k word v
-  unfolding refusalOf
-  refusal-missing b q = rw (q, b)
-
-  pub refusal-absent : bitAt word k ≡ false → required k ≡ false → 0 ≡ refusalOf k word v
-  unfolding refusalOf
-  refusal-absent b q = rw (q, b)
-
-  pub refusal-outside : bitAt word k ≡ true → inRange (fieldAt k) (scaled v) ≡ false → 9 ≡ refusalOf k word v
-  unfolding refusalOf
-  refusal-outside b r = rw (b, r, and-false (required k))
-
-  pub refusal-fine : bitAt word k ≡ true → inRange (fieldAt k) (scaled v) ≡ true → 0 ≡ refusalOf k word v
-  unfolding refusalOf
-  refusal-fine b r = rw (b, r, and-false (required k))
-
--- ---- the fields from place i on
 
 abbrev pub left : List ℤ → ℕ → ℕ → Option Refusal
 left values word i = first (packChecks (suc i) (drop i table) word (drop i values))
@@ -119,6 +86,17 @@ fields-passed values word i e all =
     let end : left values word 46 ≡ none =
     ap (λ (fs : List Field). first (packChecks 47 fs word (drop 46 values))) (drop-of-length-le table {i = 46} (rw table-length (omega arith))) in
     ap checkedBy (sym (sym all ∙ ap (left values word) e ∙ end))
+
+-- no field is refused where the sum of refusals is 0
+module _ (values : List ℤ) (word : ℕ) (long : 46 ≤ length values) (e : sumRun (refusalAt values word) 0 46 ≡ 0) where
+  all-pass : (i : ℕ) → i ≤ 46 → left values word i ≡ left values word 0
+  all-pass zero h = refl
+  all-pass (suc i) h =
+      sym (field-passed values word i _ long h refl (sum-zero (refusalAt values word) 46 0 i e (omega arith) (omega arith)))
+      ∙ all-pass i (omega arith)
+
+  pub none-refused : Checked.Passed ≡ fieldsChecked values word
+  none-refused = fields-passed values word 46 refl (all-pass 46 (omega arith))
 
 -- what the answer says
 

@@ -1,16 +1,16 @@
 -- What the parts of unpack and pack know and answer.
 use Prim.Native.Nat.{ℕ, _≤_}
 use mathlib.Core.Path.{_≡_}
-use mathlib.Core.Bool.{true, false, cond, not, _&&_}
+use mathlib.Core.Bool.{true, false}
 use mathlib.Core.List.{List, []}
 use mathlib.Core.Option.{Option, none, some}
 use lib.ListN.{length}
 use lib.IntN.{ℤ}
 use Rattle.format.specs.Order.{Refusal, first}
-use Rattle.format.specs.Field.{table, fieldAt, required, inRange, scaled}
+use Rattle.format.specs.Field.{table}
 use Rattle.format.specs.Report.{Verdict, sheetOf, attachmentChecks, judge}
 use Rattle.format.specs.Machine.{allNibbles}
-use Rattle.format.specs.Whole.{bitAt, bitOutside, packChecks, countIn}
+use Rattle.format.specs.Whole.{bitOutside, packChecks, countIn}
 use Rattle.report.specs.Answers.{reportOf}
 use Rattle.report.specs.declared.Report.{Report}
 use Rattle.whole.specs.declared.Checked.{Checked}
@@ -20,11 +20,6 @@ use Rattle.whole.specs.declared.Checked.the-variants.{Refused, Passed}
 pub record Shown (b : List ℕ) (r : Report) : Type 0 where
   pub verdict : judge b ≡ Verdict.accepted (sheetOf b)
   pub is : r ≡ reportOf b 0 (sheetOf b .attachments)
-
--- the refusal of field k, given as a presence word and a value, or 0
-unfoldable pub refusalOf : ℕ → ℕ → ℤ → ℕ
-refusalOf k word v =
-    cond (required k && not (bitAt word k)) 10 (cond (bitAt word k && not (inRange (fieldAt k) (scaled v))) 9 0)
 
 -- the first refusal of a field, or that there is none
 abbrev pub checkedBy : Option Refusal → Checked

@@ -8,8 +8,7 @@ ghost use Rattle.format.specs.Whole.{unpacked, countIn};
 ghost use Rattle.format.specs.Whole as spec;
 ghost use Rattle.whole.specs.Answers.{freshAnswer, unpackAnswer, packAnswer};
 ghost use Rattle.whole.specs.Trips.{trip, restored, recovered};
-ghost use Rattle.whole.specs.Steps.{Shown, refusalOf, fieldsChecked, FieldsPass, TailPasses};
-use card::Coding;
+ghost use Rattle.whole.specs.Steps.{Shown, fieldsChecked, FieldsPass, TailPasses};
 use format::Scaled;
 use nibble::Cursor;
 use report::Inspected;
@@ -64,7 +63,7 @@ fn give(s: &[u8], r: Report, values: &mut [i64], tail: &mut [u8]) -> Unpacked
     if tail.len() < n {
         return Unpacked::Refused(13, 0);
     }
-    let presence = card::values(s, values);
+    let presence = values::show(s, values);
     shift::fetch(s, 75, n, tail);
     Unpacked::Given(Contents {
         word: presence,
@@ -89,39 +88,32 @@ pub fn unpack(s: &[u8], values: &mut [i64], tail: &mut [u8]) -> Unpacked
 
 // ---- pack
 
-// The refusal of field k, given as a presence word and a value, or 0.
-fn refusal(k: usize, word: u64, v: i64) -> u8
-    requires { ⌜ (1 ≤ k) × (k ≤ 46) ⌝ }
-    ensures { λ r. ⌜ r ≡ refusalOf k word v ⌝ }
-{
-    if (word >> k) % 2 == 0 {
-        if card::is_required(k) {
-            return 10;
-        }
-        return 0;
-    }
-    let g = card::coded(k, Scaled(v));
-    match g {
-        Coding::Outside => 9,
-        Coding::Code(_) => 0,
-    }
-}
-
-// Checks the fields in ascending order.
-fn check_fields(values: &[i64], word: u64) -> Checked
+// Checks field after field.
+fn walk_fields(values: &[i64], word: u64) -> Checked
     requires { ⌜ 46 ≤ length (now values) ⌝ }
     ensures { λ r. ⌜ r ≡ fieldsChecked (now (values .entry)) word ⌝ }
 {
     let mut i = 0;
     while i < 46 {
         let k = i + 1;
-        let n = refusal(k, word, values[i]);
+        let n = values::refusal(k, card::row(k), word, values[i]);
         if n != 0 {
             return Checked::Refused(n, k);
         }
         i = k;
     }
     Checked::Passed
+}
+
+// Checks the fields in ascending order. Where no field is refused straight lines tell; the walk finds the first refusal.
+fn check_fields(values: &[i64], word: u64) -> Checked
+    requires { ⌜ 46 ≤ length (now values) ⌝ }
+    ensures { λ r. ⌜ r ≡ fieldsChecked (now (values .entry)) word ⌝ }
+{
+    if values::refusals(values, word) == 0 {
+        return Checked::Passed;
+    }
+    walk_fields(values, word)
 }
 
 // Clears the nibble at a place that is odd.
@@ -147,7 +139,7 @@ fn write(values: &[i64], word: u64, rptin: u16, tail: &[u8], count: usize, out: 
     }
     shift::lay(out, 75, tail);
     pad(out, n);
-    card::write(out, rptin, values, word, count);
+    values::write(out, rptin, values, word, count);
     Packed::Written(size)
 }
 

@@ -58,7 +58,7 @@ fn report(prng: &mut Prng) -> Vec<u8> {
 }
 
 /// Damages a draft in one of the ways that a refusal names.
-fn damage(prng: &mut Prng, draft: &mut Draft) {
+pub fn damage(prng: &mut Prng, draft: &mut Draft) {
     match prng.below(8) {
         0 => {
             let field = prng.pick(&fields());
@@ -76,7 +76,7 @@ fn damage(prng: &mut Prng, draft: &mut Draft) {
 
 /// Changes a nibble, a header's nibble or the length of the tail, or adds an
 /// attachment that may be invalid or repeated.
-fn damage_tail(prng: &mut Prng, draft: &mut Draft) {
+pub fn damage_tail(prng: &mut Prng, draft: &mut Draft) {
     let length = draft.tail.len();
     match prng.below(4) {
         0 if length > 0 => draft.tail[prng.below(length)] = prng.below(16) as u8,

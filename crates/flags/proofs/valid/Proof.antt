@@ -1,13 +1,13 @@
 -- `flags::valid` meets its contract.
 -- Assumes nothing.
-use mathlib.Core.Path.{sym, ap, _∙_}
 use native.Mathlib.Omega.{arith}
+use mathlib.Core.Path.{sym, ap, _∙_}
 use denote.Ref.{now}
+use borrow.Author.Needs.{needs}
 use Rattle.format.specs.Flags.{flagsFit, qualityCode}
 use Rattle.nibble.specs.View.{part}
 use Rattle.nibble.proofs.View.{part-length, part-at, part-take}
-use Rattle.flags.proofs.Body.{not-sixteen, unfit, coded}
-use borrow.Author.Needs.{needs}
+use Rattle.flags.proofs.Body.{not-sixteen, unfit, coded, code-is, all-fit, not-fit}
 use Rattle.flags.proofs.valid.Statement.{statement}
 use Rattle.flags.proofs.valid.Tie as tie
 
@@ -16,8 +16,8 @@ returns c =
     let a = c .before .before .args in
     not-sixteen (part (now (a .s)) (a .c) (a .len)) (a .len) (part-length (now (a .s)) (a .c) (a .len) (c .before .before .pre .0)) (c .if1 .taken)
 
-fit-requires : tie.Need-fit-requires
-fit-requires c κs = search needs
+sum-marks-requires : tie.Need-sum-marks-requires
+sum-marks-requires c κs = search needs
 
 add-nibble-at : tie.Need-add-nibble-at
 add-nibble-at c = search needs
@@ -43,28 +43,26 @@ mul-result c = search needs
 add-result : tie.Need-add-result
 add-result c = search needs
 
-quality-requires : tie.Need-quality-requires
-quality-requires c κs = search needs
-
-wide-requires-3 : tie.Need-wide-requires-3
-wide-requires-3 c κs = search needs
+code-in-requires : tie.Need-code-in-requires
+code-in-requires c κs = search needs
 
 returns-2 : tie.Need-returns-2
 returns-2 c =
-    let a = c .before .before .before .before .before .before .before .before .before .before .args in
-    coded (part (now (a .s)) (a .c) (a .len)) (a .len) (part-length (now (a .s)) (a .c) (a .len) (c .before .before .before .before .before .before .before .before .before .before .pre .0)) (c .before .before .before .before .before .before .before .before .if1 .left) _ _ _ (ap (flagsFit 1) (part-take (now (a .s)) (a .c) 14 (a .len) (omega arith)) ∙ sym (c .before .before .before .before .before .before .before .fit .ensures) ∙ c .before .before .before .before .before .before .if2 .taken) (c .before .before .before .before .wide .ensures .0 ∙ c .before .before .before .before .before .nibble-at .ensures ∙ sym (part-at (now (a .s)) (a .c) (a .len) 14 (omega arith))) (c .before .before .wide2 .ensures .0 ∙ c .before .before .before .nibble-at2 .ensures ∙ sym (part-at (now (a .s)) (a .c) (a .len) 15 (omega arith))) (c .wide3 .ensures .0 ∙ c .before .quality .ensures ∙ ap qualityCode (sym (part-take (now (a .s)) (a .c) 14 (a .len) (omega arith))))
+    let a = c .before .before .before .before .before .before .before .before .before .args in
+    let e = part-take (now (a .s)) (a .c) 14 (a .len) (omega arith) in
+    coded (part (now (a .s)) (a .c) (a .len)) (a .len) (part-length (now (a .s)) (a .c) (a .len) (c .before .before .before .before .before .before .before .before .before .pre .0)) (c .before .before .before .before .before .before .before .if1 .left) _ _ _ (ap (flagsFit 1) e ∙ all-fit (part (now (a .s)) (a .c) 14) (part-length (now (a .s)) (a .c) 14 (omega (arith, c .before .before .before .before .before .before .before .before .before .pre .0))) _ (c .before .before .before .before .before .before .sum-marks .ensures) (c .before .before .before .before .before .if2 .taken)) (c .before .before .before .wide .ensures .0 ∙ c .before .before .before .before .nibble-at .ensures ∙ sym (part-at (now (a .s)) (a .c) (a .len) 14 (omega arith))) (c .before .wide2 .ensures .0 ∙ c .before .before .nibble-at2 .ensures ∙ sym (part-at (now (a .s)) (a .c) (a .len) 15 (omega arith))) (c .code-in .ensures ∙ code-is (part (now (a .s)) (a .c) 14) (part-length (now (a .s)) (a .c) 14 (omega (arith, c .before .before .before .before .before .before .before .before .before .pre .0))) _ (c .before .before .before .before .before .before .sum-marks .ensures) ∙ ap qualityCode (sym e))
 
 returns-3 : tie.Need-returns-3
 returns-3 c =
     let a = c .before .before .before .before .args in
-    unfit (part (now (a .s)) (a .c) (a .len)) (a .len) (part-length (now (a .s)) (a .c) (a .len) (c .before .before .before .before .pre .0)) (c .before .before .if1 .left) (ap (flagsFit 1) (part-take (now (a .s)) (a .c) 14 (a .len) (omega arith)) ∙ sym (c .before .fit .ensures) ∙ c .if2 .left)
+    unfit (part (now (a .s)) (a .c) (a .len)) (a .len) (part-length (now (a .s)) (a .c) (a .len) (c .before .before .before .before .pre .0)) (c .before .before .if1 .left) (ap (flagsFit 1) (part-take (now (a .s)) (a .c) 14 (a .len) (omega arith)) ∙ not-fit (part (now (a .s)) (a .c) 14) (part-length (now (a .s)) (a .c) 14 (omega (arith, c .before .before .before .before .pre .0))) _ (c .before .sum-marks .ensures) (c .if2 .left))
 
 pub valid-spec : {M : Type 1} → statement M
 valid-spec =
     tie.close
     (tie.spec
     returns
-    fit-requires
+    sum-marks-requires
     add-nibble-at
     nibble-at-requires
     wide-requires
@@ -73,7 +71,6 @@ valid-spec =
     wide-requires-2
     mul-result
     add-result
-    quality-requires
-    wide-requires-3
+    code-in-requires
     returns-2
     returns-3)

@@ -1,77 +1,66 @@
 use mir.ValLaws.{toZ-ofZ}
-use mir.Val.{toZ, ofZ}
 use mir.Syntax.{w64}
-use Prim.Native.Nat.{ℕ, _+_, _-_}
-use native.Mathlib.Omega.{arith}
-use mathlib.Core.Path.{_≡_, refl, sym, ap, ap₂, _∙_}
-use mathlib.Core.List.{List}
-use lib.ListN.{length, take, drop}
-use Rattle.format.specs.Machine as machine
-use Rattle.format.specs.Machine.{Call, lent}
-use Rattle.format.specs.Reply.{answerOf}
-use Rattle.format.specs.declared.Scaled.{Scaled}
-use Rattle.words.specs.Words.{signed}
-use Rattle.list.specs.Script.{Entry, entry, kinds, numberAt, bytesAt, valueAt, recordSize}
+use Prim.Native.Nat.{ℕ}
 use lib.IntN.{ℤ}
-use Rattle.list.proofs.Driver.{turn-cut, turn-plain}
+use Rattle.words.specs.Words.{signed}
+use Rattle.script.proofs.Driver.{turn-cut, turn-plain}
+use mathlib.Core.Path.{refl, ap, ap₂, _∙_}
+use Rattle.format.specs.Machine as machine
+use Rattle.format.specs.Machine.{lent}
+use Rattle.script.specs.Script.{kinds}
+use Rattle.list.specs.Counts.{leaves}
 use borrow.Author.Needs.{needs}
 use Rattle.list.proofs.set_field.Statement.{statement}
 use Rattle.list.proofs.set_field.Tie as tie
-use Rattle.list.proofs.set_field.Reads as reads
-use Rattle.list.proofs.set_field.Lts as lts
-use Rattle.fields.proofs.set_field.Reads as set-field-reads
-use Rattle.list.proofs.number_at.Reads as number-at-reads
-use Rattle.list.proofs.put_reply.Reads as put-reply-reads
-use Rattle.words.proofs.signed_of.Reads as signed-of-reads
 
--- src/lib.rt:97:9
+-- src/lib.rt:50:9
+idle-requires : tie.Need-idle-requires
+idle-requires c κs = search needs
+
+-- src/lib.rt:50:9
 returns : tie.Need-returns
 unfolding kinds
-returns c = turn-cut (c .before .before .before .before .args .b .now) (c .before .before .before .before .args .script .now) (c .before .before .before .before .args .log .now) 2 (entry (machine.setField (numberAt (c .before .before .before .before .args .script .now) 1) (valueAt (c .before .before .before .before .args .script .now) 9)) (17)) (c .before .before .before .before .pre .0) refl (c .if1 .taken)
+returns c = ap (leaves _ _) (c .idle .ensures) ∙ turn-cut _ (c .before .before .before .before .before .args .s .now) _ 2 _ (c .before .before .before .before .before .pre .of-kind) refl (c .before .if1 .taken)
 
--- src/lib.rt:99:9
+-- src/lib.rt:52:9
 number-at-requires : tie.Need-number-at-requires
 number-at-requires c κs = search needs
 
--- src/lib.rt:100:9
-number-at-requires-2 : tie.Need-number-at-requires-2
-number-at-requires-2 c κs = search needs
-
--- src/lib.rt:101:9
+-- src/lib.rt:53:9
 signed-of-requires : tie.Need-signed-of-requires
 signed-of-requires c κs = search needs
 
--- src/lib.rt:102:9
+-- src/lib.rt:54:9
 set-field-requires : tie.Need-set-field-requires
 set-field-requires c κs = search needs
 
--- src/lib.rt:103:5
-put-reply-requires : tie.Need-put-reply-requires
-put-reply-requires c κs = search needs
+-- src/lib.rt:55:5
+answered-requires : tie.Need-answered-requires
+answered-requires c κs = search needs
 
--- src/lib.rt:92:1
+-- src/lib.rt:45:1
 same-length : tie.Need-same-length
 same-length c = search needs
 
--- src/lib.rt:92:1
+-- src/lib.rt:45:1
 same-length-2 : tie.Need-same-length-2
 same-length-2 c = search needs
 
--- src/lib.rt:92:1
+-- src/lib.rt:45:1
 returns-2 : tie.Need-returns-2
-unfolding kinds recordSize lent
-returns-2 c = turn-plain (c .before .before .before .before .before .before .before .before .before .before .before .before .before .before .before .args .b .now) (c .before .before .before .before .before .before .before .before .before .before .before .before .before .before .before .args .script .now) (c .before .before .before .before .before .before .before .before .before .before .before .before .before .before .before .args .log .now) 2 (entry (machine.setField (numberAt (c .before .before .before .before .before .before .before .before .before .before .before .before .before .before .before .args .script .now) 1) (valueAt (c .before .before .before .before .before .before .before .before .before .before .before .before .before .before .before .args .script .now) 9)) (17)) (c .before .before .before .before .before .before .before .before .before .before .before .before .before .before .before .pre .0) refl (c .before .before .before .before .before .before .before .before .before .before .before .if1 .left) (machine.setField (c .before .before .before .before .before .before .before .before .before .before .number-at .result) (record { 0 = toZ w64 (ofZ w64 (c .before .before .before .before .before .before .before .before .signed-of .result)) })) (17) (ap₂ (λ (x : ℕ) (z : ℤ). machine.setField x (record { 0 = z })) (c .before .before .before .before .before .before .before .before .before .before .number-at .ensures) (toZ-ofZ w64 (c .before .before .before .before .before .before .before .before .signed-of .result) (search needs) ∙ c .before .before .before .before .before .before .before .before .signed-of .ensures ∙ ap signed (c .before .before .before .before .before .before .before .before .before .number-at2 .ensures))) (refl) (answerOf (c .before .before .before .before .before .before .set-field .result)) _ _ (c .before .before .before .before .before .before .before .before .before .before .before .before .before .before .before .pre .2) refl (c .before .before .before .before .before .before .set-field .ensures) (c .before .before .put-reply .ensures)
+unfolding kinds lent
+returns-2 c = ap (leaves _ _) (c .before .before .answered .ensures .1) ∙ turn-plain _ (c .before .before .before .before .before .before .before .before .before .before .before .before .before .before .args .s .now) _ 2 _ _ _ _ _ _ _ (c .before .before .before .before .before .before .before .before .before .before .before .before .before .before .pre .of-kind) refl refl (c .before .before .before .before .before .before .set-field .ensures) (c .before .before .answered .ensures .0) (ap₂ (λ (x : ℕ) (z : ℤ). machine.setField x (record { 0 = z })) (c .before .before .before .before .before .before .before .before .before .before .before .before .before .before .pre .number) (toZ-ofZ w64 (c .before .before .before .before .before .before .before .before .signed-of .result) (search needs) ∙ c .before .before .before .before .before .before .before .before .signed-of .ensures ∙ ap signed (c .before .before .before .before .before .before .before .before .before .number-at .ensures))) (refl) (c .before .before .before .before .before .before .before .before .before .before .if1 .left) (c .before .before .before .before .before .before .before .before .before .before .before .before .before .before .pre .room)
 
 pub set-field-spec : {M : Type 1} → statement M
 set-field-spec =
     tie.close
     (tie.spec
+    idle-requires
     returns
     number-at-requires
-    number-at-requires-2
     signed-of-requires
     set-field-requires
-    put-reply-requires
+    answered-requires
     same-length
     same-length-2
     returns-2)

@@ -2,52 +2,49 @@
 -- Assumes nothing.
 use Prim.Native.Nat.{_-_}
 use native.Mathlib.Omega.{arith}
-use mathlib.Core.Path.{_≡_}
+use mathlib.Core.Path.{_≡_, ap}
 use lib.Seq.{sets}
-use lib.ListN.{length}
 use Rattle.nibble.specs.View.{view}
-use Rattle.text.proofs.Bodies.{Passed, given, pass-none, pass-held, count-none, count-small, count-fits, laid-none, laid-length, laid-end, read-more, read-shortest}
+use Rattle.text.proofs.Bodies.{Parsed, laid, laid-none, laid-room, parse-none, code-begins, code-inside, code-fits, code-small, parse-more, count-end, store-code, store-end}
+use Rattle.text.proofs.Texts.{read-shortest}
 use Rattle.text.proofs.read.Statement.{statement}
 use Rattle.text.proofs.read.Tie as tie
 
 abbrev Inv-loop : tie.InvT-loop
-Inv-loop s len out₀ at packed st₀ count₀ i₀ out st count i = Passed (view packed s) at len st i × (count ≡ length (given (view packed s) at i)) × (out ≡ sets out₀ 0 (given (view packed s) at i))
+Inv-loop s len out₀ at packed count₀ i₀ out count i = Parsed (view packed s) at len count i × (out ≡ sets out₀ 0 (laid (view packed s) at i))
 
 abbrev μ-loop : tie.MeasureT-loop
-μ-loop s len out₀ at packed st₀ count₀ i₀ out st count i = len - i
+μ-loop s len out₀ at packed count₀ i₀ out count i = len - i
 
 loop-holds : tie.Need-loop-holds Inv-loop μ-loop
-loop-holds c = (pass-none _ _ _, count-none _ _, laid-none _ _ _)
+loop-holds c = (parse-none _ _ _, ap (sets (c .before .before .args .out .now) 0) (laid-none _ _))
 
-add-nibble-at : tie.Need-add-nibble-at Inv-loop μ-loop
-add-nibble-at c = omega arith
+add-code-at : tie.Need-add-code-at Inv-loop μ-loop
+add-code-at c = omega arith
 
-nibble-at-requires : tie.Need-nibble-at-requires Inv-loop μ-loop
-nibble-at-requires c κs = omega arith
+code-at-requires : tie.Need-code-at-requires Inv-loop μ-loop
+code-at-requires c κs = (code-begins _ _ _ (c .before .before .before .before .pre .4) (c .before .before .before .before .pre .0) _ _ (c .before .loop .inv .0) (c .loop-test .taken), omega arith)
 
-advance-requires : tie.Need-advance-requires Inv-loop μ-loop
-advance-requires c κs = omega (arith, pass-held _ _ _ _ _ (c .before .before .loop .inv .0))
-
-put-word-requires : tie.Need-put-word-requires Inv-loop μ-loop
-put-word-requires c κs = count-fits _ _ _ _ _ _ _ _ _ (c .before .before .before .before .loop .inv .0) (c .before .before .before .loop-test .taken) (c .before .before .before .before .before .before .before .pre .0) (c .before .before .nibble-at .ensures) (c .before .advance .ensures) _ _ (c .before .before .before .before .loop .inv .1) (omega (arith, c .before .before .before .before .before .before .before .pre .3, laid-length _ _ _ _ _ (c .before .before .before .before .loop .inv .2)))
+put-bytes-requires : tie.Need-put-bytes-requires Inv-loop μ-loop
+put-bytes-requires c κs = omega (arith, code-fits _ _ _ (c .before .before .before .before .before .before .pre .4) (c .before .before .before .before .before .before .pre .0) _ _ (c .before .before .before .loop .inv .0) (c .before .before .loop-test .taken) _ (c .before .code-at .ensures), c .before .before .before .before .before .before .pre .3, laid-room _ _ _ _ _ (c .before .before .before .loop .inv .1))
 
 add-count : tie.Need-add-count Inv-loop μ-loop
-add-count c = omega (arith, count-small _ _ _ _ _ _ _ _ _ (c .before .before .before .before .before .before .before .before .loop .inv .0) (c .before .before .before .before .before .before .before .loop-test .taken) (c .before .before .before .before .before .before .before .before .before .before .before .pre .0) (c .before .before .before .before .before .before .nibble-at .ensures) (c .before .before .before .before .before .advance .ensures) _ (c .before .before .before .before .before .before .before .before .loop .inv .1))
+add-count c = omega (arith, code-small _ _ _ (c .before .before .before .before .before .before .before .before .before .before .pre .4) (c .before .before .before .before .before .before .before .before .before .before .pre .0) _ _ (c .before .before .before .before .before .before .before .loop .inv .0) (c .before .before .before .before .before .before .loop-test .taken) _ (c .before .before .before .before .before .code-at .ensures))
 
 add-i : tie.Need-add-i Inv-loop μ-loop
-add-i c = omega arith
+add-i c = omega (arith, code-inside _ _ _ (c .before .before .before .before .before .before .before .before .before .before .before .pre .4) (c .before .before .before .before .before .before .before .before .before .before .before .pre .0) _ _ (c .before .before .before .before .before .before .before .before .loop .inv .0) (c .before .before .before .before .before .before .before .loop-test .taken) _ (c .before .before .before .before .before .before .code-at .ensures) .1)
 
 loop-less : tie.Need-loop-less Inv-loop μ-loop
-loop-less c = omega arith
+loop-less c = omega (arith, code-inside _ _ _ (c .before .before .before .before .before .before .before .before .before .before .before .pre .4) (c .before .before .before .before .before .before .before .before .before .before .before .pre .0) _ _ (c .before .before .before .before .before .before .before .before .loop .inv .0) (c .before .before .before .before .before .before .before .loop-test .taken) _ (c .before .before .before .before .before .before .code-at .ensures) .0)
 
 loop-again : tie.Need-loop-again Inv-loop μ-loop
-loop-again c = read-more _ _ _ _ _ _ _ _ _ (c .before .before .before .before .before .before .before .before .loop .inv .0) (c .before .before .before .before .before .before .before .loop-test .taken) (c .before .before .before .before .before .before .before .before .before .before .before .pre .0) (c .before .before .before .before .before .before .nibble-at .ensures) (c .before .before .before .before .before .advance .ensures) _ _ _ _ (c .before .before .before .before .before .before .before .before .loop .inv .1) (c .before .before .before .before .before .before .before .before .loop .inv .2) (c .before .before .before .put-word .ensures)
+loop-again c = (parse-more _ _ _ (c .before .before .before .before .before .before .before .before .before .before .before .pre .4) (c .before .before .before .before .before .before .before .before .before .before .before .pre .0) _ _ (c .before .before .before .before .before .before .before .before .loop .inv .0) (c .before .before .before .before .before .before .before .loop-test .taken) _ (c .before .before .before .before .before .before .code-at .ensures), store-code _ _ _ (c .before .before .before .before .before .before .before .before .before .before .before .pre .4) (c .before .before .before .before .before .before .before .before .before .before .before .pre .0) _ _ (c .before .before .before .before .before .before .before .before .loop .inv .0) (c .before .before .before .before .before .before .before .loop-test .taken) _ (c .before .before .before .before .before .before .code-at .ensures) _ _ _ (c .before .before .before .before .before .before .before .before .loop .inv .1) (c .before .before .before .before .put-bytes .ensures))
 
 same-length : tie.Need-same-length Inv-loop μ-loop
-same-length c = laid-length _ _ _ _ _ (c .before .loop .inv .2)
+same-length c = laid-room _ _ _ _ _ (c .before .loop .inv .1)
 
 returns : tie.Need-returns Inv-loop μ-loop
-returns c = (laid-end _ _ _ _ _ _ (c .before .loop .inv .0 .inside) (c .loop-test .left) (c .before .before .before .before .pre .3) (c .before .loop .inv .2), read-shortest _)
+returns c = (store-end _ _ _ (c .before .before .before .before .pre .4) _ _ _ _ (c .before .loop .inv .0) (c .loop-test .left) (c .before .before .before .before .pre .3) (c .before .loop .inv .1), count-end _ _ _ (c .before .before .before .before .pre .4) _ _ (c .before .loop .inv .0) (c .loop-test .left), read-shortest _)
 
 pub read-spec : {M : Type 1} → statement M
 read-spec =
@@ -56,10 +53,9 @@ read-spec =
     Inv-loop
     μ-loop
     loop-holds
-    add-nibble-at
-    nibble-at-requires
-    advance-requires
-    put-word-requires
+    add-code-at
+    code-at-requires
+    put-bytes-requires
     add-count
     add-i
     loop-less

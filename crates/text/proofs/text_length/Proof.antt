@@ -2,45 +2,40 @@
 -- Assumes nothing.
 use Prim.Native.Nat.{_-_}
 use native.Mathlib.Omega.{arith}
-use mathlib.Core.Path.{_≡_}
-use lib.ListN.{length}
 use Rattle.nibble.specs.View.{view}
-use Rattle.text.proofs.Bodies.{Passed, given, pass-none, pass-held, pass-count, count-none, count-small, count-end}
+use Rattle.text.proofs.Bodies.{Parsed, parse-none, code-begins, code-inside, code-small, parse-more, count-end}
 use Rattle.text.proofs.text_length.Statement.{statement}
 use Rattle.text.proofs.text_length.Tie as tie
 
 abbrev Inv-loop : tie.InvT-loop
-Inv-loop s len at packed st₀ count₀ i₀ st count i = Passed (view packed s) at len st i × (count ≡ length (given (view packed s) at i))
+Inv-loop s len at packed count₀ i₀ count i = Parsed (view packed s) at len count i
 
 abbrev μ-loop : tie.MeasureT-loop
-μ-loop s len at packed st₀ count₀ i₀ st count i = len - i
+μ-loop s len at packed count₀ i₀ count i = len - i
 
 loop-holds : tie.Need-loop-holds Inv-loop μ-loop
-loop-holds c = (pass-none _ _ _, count-none _ _)
+loop-holds c = parse-none _ _ _
 
-add-nibble-at : tie.Need-add-nibble-at Inv-loop μ-loop
-add-nibble-at c = omega arith
+add-code-at : tie.Need-add-code-at Inv-loop μ-loop
+add-code-at c = omega arith
 
-nibble-at-requires : tie.Need-nibble-at-requires Inv-loop μ-loop
-nibble-at-requires c κs = omega arith
-
-advance-requires : tie.Need-advance-requires Inv-loop μ-loop
-advance-requires c κs = omega (arith, pass-held _ _ _ _ _ (c .before .before .loop .inv .0))
+code-at-requires : tie.Need-code-at-requires Inv-loop μ-loop
+code-at-requires c κs = (code-begins _ _ _ (c .before .before .before .pre .3) (c .before .before .before .pre .0) _ _ (c .before .loop .inv) (c .loop-test .taken), omega arith)
 
 add-count : tie.Need-add-count Inv-loop μ-loop
-add-count c = omega (arith, count-small _ _ _ _ _ _ _ _ _ (c .before .before .before .before .loop .inv .0) (c .before .before .before .loop-test .taken) (c .before .before .before .before .before .before .pre .0) (c .before .before .nibble-at .ensures) (c .before .advance .ensures) _ (c .before .before .before .before .loop .inv .1))
+add-count c = omega (arith, code-small _ _ _ (c .before .before .before .before .before .pre .3) (c .before .before .before .before .before .pre .0) _ _ (c .before .before .before .loop .inv) (c .before .before .loop-test .taken) _ (c .before .code-at .ensures))
 
 add-i : tie.Need-add-i Inv-loop μ-loop
-add-i c = omega arith
+add-i c = omega (arith, code-inside _ _ _ (c .before .before .before .before .before .before .pre .3) (c .before .before .before .before .before .before .pre .0) _ _ (c .before .before .before .before .loop .inv) (c .before .before .before .loop-test .taken) _ (c .before .before .code-at .ensures) .1)
 
 loop-less : tie.Need-loop-less Inv-loop μ-loop
-loop-less c = omega arith
+loop-less c = omega (arith, code-inside _ _ _ (c .before .before .before .before .before .before .pre .3) (c .before .before .before .before .before .before .pre .0) _ _ (c .before .before .before .before .loop .inv) (c .before .before .before .loop-test .taken) _ (c .before .before .code-at .ensures) .0)
 
 loop-again : tie.Need-loop-again Inv-loop μ-loop
-loop-again c = pass-count _ _ _ _ _ _ _ _ _ (c .before .before .before .before .loop .inv .0) (c .before .before .before .loop-test .taken) (c .before .before .before .before .before .before .pre .0) (c .before .before .nibble-at .ensures) (c .before .advance .ensures) _ (c .before .before .before .before .loop .inv .1)
+loop-again c = parse-more _ _ _ (c .before .before .before .before .before .before .pre .3) (c .before .before .before .before .before .before .pre .0) _ _ (c .before .before .before .before .loop .inv) (c .before .before .before .loop-test .taken) _ (c .before .before .code-at .ensures)
 
 returns : tie.Need-returns Inv-loop μ-loop
-returns c = count-end _ _ _ _ _ (c .before .loop .inv .0 .inside) (c .loop-test .left) (c .before .loop .inv .1)
+returns c = count-end _ _ _ (c .before .before .before .pre .3) _ _ (c .before .loop .inv) (c .loop-test .left)
 
 pub text-length-spec : {M : Type 1} → statement M
 text-length-spec =
@@ -49,9 +44,8 @@ text-length-spec =
     Inv-loop
     μ-loop
     loop-holds
-    add-nibble-at
-    nibble-at-requires
-    advance-requires
+    add-code-at
+    code-at-requires
     add-count
     add-i
     loop-less

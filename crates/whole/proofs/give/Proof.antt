@@ -15,8 +15,8 @@ returns c = short-values _ _ (λ i. omega (arith, c .before .before .before .sha
 returns-2 : tie.Need-returns-2
 returns-2 c = short-tail _ _ (λ i. omega (arith, c .before .before .before .before .shared-slice-known .given i)) (c .before .before .before .before .before .pre) _ _ (c .before .if1 .left) (c .if2 .taken)
 
-values-requires : tie.Need-values-requires
-values-requires c κs = let m = end-room _ _ (λ i. omega (arith, c .before .before .before .before .before .shared-slice-known .given i)) (c .before .before .before .before .before .before .pre) in (m .0, c .before .before .if1 .left)
+show-requires : tie.Need-show-requires
+show-requires c κs = let m = end-room _ _ (λ i. omega (arith, c .before .before .before .before .before .shared-slice-known .given i)) (c .before .before .before .before .before .before .pre) in (m .0, c .before .before .if1 .left)
 
 fetch-requires : tie.Need-fetch-requires
 fetch-requires c κs = let m = end-room _ _ (λ i. omega (arith, c .before .before .before .before .before .before .before .before .shared-slice-known .given i)) (c .before .before .before .before .before .before .before .before .before .pre) in let e = end-is _ _ (λ i. omega (arith, c .before .before .before .before .before .before .before .before .shared-slice-known .given i)) (c .before .before .before .before .before .before .before .before .before .pre) in (omega (arith, m .1), omega (arith, m .2), c .before .before .before .before .if2 .left)
@@ -34,7 +34,7 @@ same-length-2 : tie.Need-same-length-2
 same-length-2 c = search needs
 
 returns-3 : tie.Need-returns-3
-returns-3 c = all-given _ _ (λ i. omega (arith, c .before .before .before .before .before .before .before .before .before .before .before .before .before .before .shared-slice-known .given i)) (c .before .before .before .before .before .before .before .before .before .before .before .before .before .before .before .pre) _ _ _ _ _ _ (c .before .before .before .before .before .before .before .before .before .before .before .if1 .left) (c .before .before .before .before .before .before .before .before .before .before .if2 .left) (c .before .before .before .before .before .before .before .before .values .ensures .0) (c .before .before .before .before .before .before .before .before .values .ensures .1) (c .before .before .before .before .before .fetch .ensures) (c .before .before .rptin .ensures)
+returns-3 c = all-given _ _ (λ i. omega (arith, c .before .before .before .before .before .before .before .before .before .before .before .before .before .before .shared-slice-known .given i)) (c .before .before .before .before .before .before .before .before .before .before .before .before .before .before .before .pre) _ _ _ _ _ _ (c .before .before .before .before .before .before .before .before .before .before .before .if1 .left) (c .before .before .before .before .before .before .before .before .before .before .if2 .left) (c .before .before .before .before .before .before .before .before .show .ensures .0) (c .before .before .before .before .before .before .before .before .show .ensures .1) (c .before .before .before .before .before .fetch .ensures) (c .before .before .rptin .ensures)
 
 pub give-spec : {M : Type 1} → statement M
 give-spec =
@@ -43,7 +43,7 @@ give-spec =
     sub-n
     returns
     returns-2
-    values-requires
+    show-requires
     fetch-requires
     rptin-requires
     add-t17

@@ -1,0 +1,504 @@
+//! What each call is measured on.
+
+use std::cell::RefCell;
+use std::hint::black_box;
+
+use bench::fast::{calls as fast, script, whole};
+use bench::library;
+use bench::reports::{remarks, sheet};
+use reference::attachment::Attachment;
+use reference::call::Call;
+use reference::cases::material::{random_flags, random_value, tail_of, values_and_word};
+use reference::gate::script::script as script_of;
+use reference::prng::Prng;
+use reference::sheet::Sheet;
+use reference::table::REQUIRED;
+
+use crate::measure::{Line, measure};
+
+/// Room behind the report in its buffer.
+const ROOM: usize = 256;
+/// Arguments are taken in turn from a row of so many.
+const ROW: usize = 64;
+
+struct Bed {
+    size: usize,
+    sheet: Sheet,
+    /// The report, and room behind it.
+    report: Vec<u8>,
+    prng: Prng,
+}
+
+impl Bed {
+    fn new(size: usize) -> Bed {
+        let sheet = sheet(size);
+        let mut report = sheet.packing();
+        report.resize(size + ROOM, 0xA5);
+        Bed {
+            size,
+            sheet,
+            report,
+            prng: Prng::new(size as u64 + 1),
+        }
+    }
+
+    fn row<T>(&mut self, mut make: impl FnMut(&mut Prng) -> T) -> [T; ROW] {
+        std::array::from_fn(|_| make(&mut self.prng))
+    }
+
+    /// Measures a call that leaves its buffers as they were, or works on what the turn before left.
+    fn steady<A>(
+        &self,
+        name: &'static str,
+        row: &[A; ROW],
+        here: impl Fn(&mut [u8], &A),
+        rust: impl Fn(&mut [u8], &A),
+    ) -> Line {
+        let mut ours = self.report.clone();
+        let mut theirs = self.report.clone();
+        measure(
+            name,
+            self.size,
+            &mut |turns| {
+                for i in 0..turns {
+                    here(black_box(&mut ours), black_box(&row[i % ROW]));
+                }
+            },
+            &mut |turns| {
+                for i in 0..turns {
+                    rust(black_box(&mut theirs), black_box(&row[i % ROW]));
+                }
+            },
+        )
+    }
+
+    /// The same of a call that changes the report's length: each turn begins with a copy of
+    /// the report, on both sides alike and within the time.
+    fn restored<A>(
+        &self,
+        name: &'static str,
+        row: &[A; ROW],
+        here: impl Fn(&mut [u8], &A),
+        rust: impl Fn(&mut [u8], &A),
+    ) -> Line {
+        let report = &self.report[..];
+        self.steady(
+            name,
+            row,
+            |s, a| {
+                s.copy_from_slice(report);
+                here(black_box(s), a);
+            },
+            |s, a| {
+                s.copy_from_slice(report);
+                rust(black_box(s), a);
+            },
+        )
+    }
+
+    fn ids(&self) -> Vec<usize> {
+        let ids = self.sheet.attachments.iter();
+        ids.map(|attachment| attachment.id as usize).collect()
+    }
+}
+
+fn judge(bed: &mut Bed) -> Line {
+    bed.steady(
+        "judge",
+        &[(); ROW],
+        |s, _| {
+            black_box(library::judge(s));
+        },
+        |s, _| {
+            black_box(fast::judge(s)).ok();
+        },
+    )
+}
+
+/// Writes 38 bytes whatever the buffer's length.
+fn fresh(bed: &mut Bed) -> Option<Line> {
+    if bed.size > 38 {
+        return None;
+    }
+    let row = bed.row(|prng| REQUIRED.map(|k| random_value(prng, k).0));
+    Some(bed.steady(
+        "fresh",
+        &row,
+        |s, v| {
+            black_box(library::fresh(*v, s));
+        },
+        |s, v| {
+            black_box(whole::fresh(*v, s)).ok();
+        },
+    ))
+}
+
+fn unpack(bed: &mut Bed) -> Line {
+    let room = tail_of(&bed.sheet).len();
+    let outputs = || (vec![0i64; 46], vec![0u8; room]);
+    let (ours, theirs) = (RefCell::new(outputs()), RefCell::new(outputs()));
+    bed.steady(
+        "unpack",
+        &[(); ROW],
+        |s, _| {
+            let (values, tail) = &mut *ours.borrow_mut();
+            let mut contents = [0; 6];
+            black_box(library::unpack(s, values, tail, &mut contents));
+            black_box((contents, values, tail));
+        },
+        |s, _| {
+            let (values, tail) = &mut *theirs.borrow_mut();
+            let mut contents = whole::Contents::default();
+            black_box(whole::unpack(s, values, tail, &mut contents)).ok();
+            black_box((contents, values, tail));
+        },
+    )
+}
+
+fn pack(bed: &mut Bed) -> Line {
+    let (values, word) = values_and_word(&bed.sheet, 0);
+    let tail = tail_of(&bed.sheet);
+    bed.steady(
+        "pack",
+        &[(); ROW],
+        |s, _| {
+            black_box(library::pack(
+                black_box(&values),
+                word,
+                0x1234,
+                black_box(&tail),
+                s,
+            ));
+        },
+        |s, _| {
+            black_box(whole::pack(
+                black_box(&values),
+                word,
+                0x1234,
+                black_box(&tail),
+                s,
+            ))
+            .ok();
+        },
+    )
+}
+
+fn read_field(bed: &mut Bed) -> Line {
+    let row = bed.row(|prng| 1 + prng.below(46));
+    bed.steady(
+        "read_field",
+        &row,
+        |s, k| {
+            black_box(library::read_field(s, *k));
+        },
+        |s, k| {
+            black_box(fast::read_field(s, *k)).ok();
+        },
+    )
+}
+
+fn set_field(bed: &mut Bed) -> Line {
+    let row = bed.row(|prng| {
+        let k = 1 + prng.below(46);
+        (k, random_value(prng, k).0)
+    });
+    bed.steady(
+        "set_field",
+        &row,
+        |s, (k, v)| {
+            black_box(library::set_field(s, *k, *v));
+        },
+        |s, (k, v)| {
+            black_box(fast::set_field(s, *k, *v)).ok();
+        },
+    )
+}
+
+fn clear_field(bed: &mut Bed) -> Line {
+    let row = bed.row(|prng| 8 + prng.below(39));
+    bed.steady(
+        "clear_field",
+        &row,
+        |s, k| {
+            black_box(library::clear_field(s, *k));
+        },
+        |s, k| {
+            black_box(fast::clear_field(s, *k)).ok();
+        },
+    )
+}
+
+fn read_flag(bed: &mut Bed) -> Line {
+    let row = bed.row(|prng| 1 + prng.below(14));
+    bed.steady(
+        "read_flag",
+        &row,
+        |s, j| {
+            black_box(library::read_flag(s, *j));
+        },
+        |s, j| {
+            black_box(fast::read_flag(s, *j)).ok();
+        },
+    )
+}
+
+fn set_flag(bed: &mut Bed) -> Line {
+    let row = bed.row(|prng| (1 + prng.below(14), 1 + prng.below(10)));
+    bed.steady(
+        "set_flag",
+        &row,
+        |s, (j, v)| {
+            black_box(library::set_flag(s, *j, *v));
+        },
+        |s, (j, v)| {
+            black_box(fast::set_flag(s, *j, *v)).ok();
+        },
+    )
+}
+
+fn clear_flag(bed: &mut Bed) -> Line {
+    let row = bed.row(|prng| 1 + prng.below(14));
+    bed.steady(
+        "clear_flag",
+        &row,
+        |s, j| {
+            black_box(library::clear_flag(s, *j));
+        },
+        |s, j| {
+            black_box(fast::clear_flag(s, *j)).ok();
+        },
+    )
+}
+
+type Content = (usize, Vec<u8>);
+
+fn put_line(bed: &Bed, name: &'static str, row: &[Content; ROW], restored: bool) -> Line {
+    let here = |s: &mut [u8], (id, content): &Content| {
+        black_box(library::put(s, *id, content));
+    };
+    let rust = |s: &mut [u8], (id, content): &Content| {
+        black_box(fast::put(s, *id, content)).ok();
+    };
+    if restored {
+        bed.restored(name, row, here, rust)
+    } else {
+        bed.steady(name, row, here, rust)
+    }
+}
+
+/// A content of as many nibbles as an attachment has.
+fn alike(prng: &mut Prng, attachment: &Attachment) -> Vec<u8> {
+    match attachment.id {
+        1 => random_flags(prng),
+        4 => attachment.nibbles.clone(),
+        _ => prng.nibbles(attachment.nibbles.len()),
+    }
+}
+
+fn put_replace(bed: &mut Bed) -> Option<Line> {
+    let standing = bed.sheet.attachments.clone();
+    if standing.is_empty() {
+        return None;
+    }
+    let row = bed.row(|prng| {
+        let attachment = prng.pick(&standing);
+        (attachment.id as usize, alike(prng, &attachment))
+    });
+    Some(put_line(bed, "put_replace", &row, false))
+}
+
+/// An id that does not stand. The longest report has them all: its last one is taken off first.
+fn put_append(bed: &mut Bed) -> Line {
+    let ids = bed.ids();
+    let free = (1..=15).rev().find(|id| !ids.contains(id));
+    let mut shorter;
+    let (bed, id) = match free {
+        Some(id) => (bed, id),
+        None => {
+            shorter = Bed::new(bed.size);
+            let last = shorter.sheet.attachments.pop().expect("fifteen stand");
+            let mut report = shorter.sheet.packing();
+            report.resize(bed.size + ROOM, 0);
+            shorter.report = report;
+            (&mut shorter, last.id as usize)
+        }
+    };
+    let row = bed.row(|prng| (id, prng.nibbles(120)));
+    put_line(bed, "put_append", &row, true)
+}
+
+/// The first long attachment made shorter by an odd number, so that all behind it moves.
+fn put_shorten(bed: &mut Bed) -> Option<Line> {
+    let standing = bed.sheet.attachments.get(1)?.clone();
+    let length = standing.nibbles.len() - 11;
+    let row = bed.row(|prng| (standing.id as usize, prng.nibbles(length)));
+    Some(put_line(bed, "put_shorten", &row, true))
+}
+
+fn fetch(bed: &mut Bed) -> Line {
+    let mut ids = bed.ids();
+    if ids.is_empty() {
+        ids.push(5);
+    }
+    let row = bed.row(|prng| prng.pick(&ids));
+    let (ours, theirs) = (RefCell::new([0u8; 255]), RefCell::new([0u8; 255]));
+    bed.steady(
+        "fetch",
+        &row,
+        |s, id| {
+            black_box(library::fetch(s, *id, black_box(&mut *ours.borrow_mut())));
+        },
+        |s, id| {
+            black_box(fast::fetch(s, *id, black_box(&mut *theirs.borrow_mut()))).ok();
+        },
+    )
+}
+
+fn drop_line(bed: &mut Bed) -> Line {
+    let mut ids = bed.ids();
+    if ids.is_empty() {
+        ids.push(5);
+    }
+    let row = bed.row(|prng| prng.pick(&ids));
+    bed.restored(
+        "drop",
+        &row,
+        |s, id| {
+            black_box(library::remove(s, *id));
+        },
+        |s, id| {
+            black_box(fast::remove(s, *id)).ok();
+        },
+    )
+}
+
+fn put_text(bed: &mut Bed) -> Line {
+    let stands = bed.sheet.content(4).is_some();
+    let length = bed.sheet.content(4).map_or(120, <[u8]>::len);
+    let row = bed.row(|prng| {
+        let mut text = remarks(length);
+        let index = prng.below(text.len());
+        if text[index].is_ascii_digit() {
+            text[index] = b'0' + prng.below(10) as u8;
+        }
+        text
+    });
+    let here = |s: &mut [u8], text: &Vec<u8>| {
+        black_box(library::put_text(s, text));
+    };
+    let rust = |s: &mut [u8], text: &Vec<u8>| {
+        black_box(fast::put_text(s, text)).ok();
+    };
+    if stands {
+        bed.steady("put_text", &row, here, rust)
+    } else {
+        bed.restored("put_text", &row, here, rust)
+    }
+}
+
+fn fetch_text(bed: &mut Bed) -> Line {
+    let (ours, theirs) = (RefCell::new([0u8; 2300]), RefCell::new([0u8; 2300]));
+    bed.steady(
+        "fetch_text",
+        &[(); ROW],
+        |s, _| {
+            black_box(library::fetch_text(s, black_box(&mut *ours.borrow_mut())));
+        },
+        |s, _| {
+            black_box(fast::fetch_text(s, black_box(&mut *theirs.borrow_mut()))).ok();
+        },
+    )
+}
+
+/// A list of twenty calls after which the report is as long as before.
+fn list(bed: &mut Bed) -> Vec<Call> {
+    let mut calls = Vec::new();
+    for _ in 0..4 {
+        let field = 8 + bed.prng.below(39) as u64;
+        let value = random_value(&mut bed.prng, field as usize).0;
+        calls.push(Call::ReadField { field });
+        calls.push(Call::SetField { field, value });
+    }
+    calls.push(Call::ClearField { field: 20 });
+    for flag in [3, 9] {
+        calls.push(Call::ReadFlag { flag });
+        calls.push(Call::SetFlag { flag, value: 5 });
+    }
+    calls.push(Call::ClearFlag { flag: 3 });
+    if let Some(attachment) = bed.sheet.attachments.last() {
+        let id = attachment.id.into();
+        let output = vec![0; 255];
+        calls.push(Call::Fetch { id, output });
+        calls.push(Call::Drop { id });
+        let content = attachment.nibbles.clone();
+        calls.push(Call::Put { id, content });
+    } else {
+        let (id, content) = (9, vec![7; 77]);
+        calls.push(Call::Put { id, content });
+        let output = vec![0; 255];
+        calls.push(Call::Fetch { id, output });
+        calls.push(Call::Drop { id });
+    }
+    let length = bed.sheet.content(4).map_or(120, <[u8]>::len);
+    calls.push(Call::PutText {
+        text: remarks(length),
+    });
+    calls.push(Call::FetchText {
+        output: vec![0; 400],
+    });
+    calls.push(if bed.sheet.content(4).is_some() {
+        Call::ReadField { field: 46 }
+    } else {
+        Call::Drop { id: 4 }
+    });
+    calls
+}
+
+fn replay(bed: &mut Bed) -> Line {
+    let entries = script_of(&list(bed));
+    let (ours, theirs) = (RefCell::new(vec![0u8; 2048]), RefCell::new(vec![0u8; 2048]));
+    bed.steady(
+        "replay_20",
+        &[(); ROW],
+        |s, _| {
+            black_box(library::replay(s, &entries, &mut ours.borrow_mut()));
+        },
+        |s, _| {
+            black_box(script::replay(s, &entries, &mut theirs.borrow_mut()));
+        },
+    )
+}
+
+type Measured = fn(&mut Bed) -> Option<Line>;
+
+const CALLS: [(&str, Measured); 18] = [
+    ("judge", |bed| Some(judge(bed))),
+    ("fresh", fresh),
+    ("unpack", |bed| Some(unpack(bed))),
+    ("pack", |bed| Some(pack(bed))),
+    ("read_field", |bed| Some(read_field(bed))),
+    ("set_field", |bed| Some(set_field(bed))),
+    ("clear_field", |bed| Some(clear_field(bed))),
+    ("read_flag", |bed| Some(read_flag(bed))),
+    ("set_flag", |bed| Some(set_flag(bed))),
+    ("clear_flag", |bed| Some(clear_flag(bed))),
+    ("put_replace", put_replace),
+    ("put_append", |bed| Some(put_append(bed))),
+    ("put_shorten", put_shorten),
+    ("fetch", |bed| Some(fetch(bed))),
+    ("drop", |bed| Some(drop_line(bed))),
+    ("put_text", |bed| Some(put_text(bed))),
+    ("fetch_text", |bed| Some(fetch_text(bed))),
+    ("replay_20", |bed| Some(replay(bed))),
+];
+
+/// Measures the calls on a report of this size, or the one of a name.
+pub fn measured(size: usize, only: Option<&str>) -> Vec<Line> {
+    let mut lines = Vec::new();
+    for (name, call) in CALLS {
+        if only.is_none_or(|only| name == only) {
+            lines.extend(call(&mut Bed::new(size)));
+        }
+    }
+    lines
+}

@@ -1,0 +1,317 @@
+//! Both sides' answers and bytes against each other and against the unrelated
+//! implementation.
+
+use reference::call::{Call, Given};
+use reference::cases::random::random_call;
+use reference::cases::{Case, Outcome, fixed, random};
+use reference::gate::script;
+use reference::judge::judge;
+use reference::machine::step;
+use reference::outside::Unpacked;
+use reference::prng::Prng;
+use reference::refusal::Refusal;
+
+use crate::fast::{self, calls, whole};
+use crate::library::{self, Answer, Performed};
+
+/// One of the two sides, with its answers in the archive's form.
+#[derive(Clone, Copy, Debug, PartialEq, Eq)]
+pub enum Side {
+    Library,
+    Rust,
+}
+
+pub const SIDES: [Side; 2] = [Side::Library, Side::Rust];
+
+fn refusal(number: u8, place: u64) -> Answer {
+    Answer {
+        refusal: number.into(),
+        place,
+        ..Answer::default()
+    }
+}
+
+fn given(value: i64) -> Answer {
+    Answer {
+        given: 1,
+        value,
+        ..Answer::default()
+    }
+}
+
+fn missing() -> Answer {
+    Answer {
+        given: 2,
+        ..Answer::default()
+    }
+}
+
+fn of_fast(answer: fast::Answer) -> Answer {
+    match answer {
+        Err(r) => refusal(r.number, r.place.into()),
+        Ok(fast::Given::Nothing) => Answer::default(),
+        Ok(fast::Given::Value(v)) => given(v),
+        Ok(fast::Given::Missing) => missing(),
+    }
+}
+
+fn of_reference(answer: Result<Given, Refusal>) -> Answer {
+    match answer {
+        Err(r) => refusal(r.number, r.place as u64),
+        Ok(Given::Nothing) => Answer::default(),
+        Ok(Given::Value(Some(v))) => given(v),
+        Ok(Given::Value(None)) => missing(),
+        Ok(Given::Count(n)) => given(n as i64),
+    }
+}
+
+impl Side {
+    fn judge(self, s: &[u8]) -> Answer {
+        match self {
+            Side::Library => library::judge(s),
+            Side::Rust => of_fast(calls::judge(s)),
+        }
+    }
+
+    fn fresh(self, v: [i64; 5], out: &mut [u8]) -> Answer {
+        match self {
+            Side::Library => library::fresh(v, out),
+            Side::Rust => of_fast(whole::fresh(v, out)),
+        }
+    }
+
+    fn unpack(self, s: &[u8], values: &mut [i64], tail: &mut [u8]) -> (Answer, [u64; 6]) {
+        match self {
+            Side::Library => {
+                let mut contents = [0; 6];
+                let answer = library::unpack(s, values, tail, &mut contents);
+                (answer, contents)
+            }
+            Side::Rust => {
+                let mut c = whole::Contents::default();
+                let answer = whole::unpack(s, values, tail, &mut c);
+                let contents = [
+                    c.word,
+                    c.present.into(),
+                    c.rptin.into(),
+                    c.count.into(),
+                    c.size.into(),
+                    c.tail.into(),
+                ];
+                (of_fast(answer.map(|()| fast::Given::Nothing)), contents)
+            }
+        }
+    }
+
+    fn pack(self, values: &[i64], word: u64, rptin: u16, tail: &[u8], out: &mut [u8]) -> Answer {
+        match self {
+            Side::Library => library::pack(values, word, rptin, tail, out),
+            Side::Rust => of_fast(whole::pack(values, word, rptin, tail, out)),
+        }
+    }
+
+    fn call(self, s: &mut [u8], call: &Call, out: &mut [u8]) -> Answer {
+        let size = |n: u64| n as usize;
+        match self {
+            Side::Library => match call {
+                Call::ReadField { field } => library::read_field(s, size(*field)),
+                Call::SetField { field, value } => library::set_field(s, size(*field), *value),
+                Call::ClearField { field } => library::clear_field(s, size(*field)),
+                Call::ReadFlag { flag } => library::read_flag(s, size(*flag)),
+                Call::SetFlag { flag, value } => library::set_flag(s, size(*flag), *value as usize),
+                Call::ClearFlag { flag } => library::clear_flag(s, size(*flag)),
+                Call::Put { id, content } => library::put(s, size(*id), content),
+                Call::Fetch { id, .. } => library::fetch(s, size(*id), out),
+                Call::Drop { id } => library::remove(s, size(*id)),
+                Call::PutText { text } => library::put_text(s, text),
+                Call::FetchText { .. } => library::fetch_text(s, out),
+            },
+            Side::Rust => of_fast(match call {
+                Call::ReadField { field } => calls::read_field(s, size(*field)),
+                Call::SetField { field, value } => calls::set_field(s, size(*field), *value),
+                Call::ClearField { field } => calls::clear_field(s, size(*field)),
+                Call::ReadFlag { flag } => calls::read_flag(s, size(*flag)),
+                Call::SetFlag { flag, value } => calls::set_flag(s, size(*flag), *value as usize),
+                Call::ClearFlag { flag } => calls::clear_flag(s, size(*flag)),
+                Call::Put { id, content } => calls::put(s, size(*id), content),
+                Call::Fetch { id, .. } => calls::fetch(s, size(*id), out),
+                Call::Drop { id } => calls::remove(s, size(*id)),
+                Call::PutText { text } => calls::put_text(s, text),
+                Call::FetchText { .. } => calls::fetch_text(s, out),
+            }),
+        }
+    }
+
+    fn replay(self, s: &mut [u8], script: &[u8], log: &mut [u8]) -> Performed {
+        match self {
+            Side::Library => library::replay(s, script, log),
+            Side::Rust => {
+                let p = fast::script::replay(s, script, log);
+                Performed {
+                    calls: p.calls as u64,
+                    taken: p.taken as u64,
+                    written: p.written as u64,
+                }
+            }
+        }
+    }
+}
+
+fn contents_of(result: Result<Unpacked, Refusal>) -> (Answer, [u64; 6]) {
+    match result {
+        Err(r) => (refusal(r.number, r.place as u64), [0; 6]),
+        Ok(u) => (
+            Answer::default(),
+            [
+                u.word,
+                u.present as u64,
+                u.rptin.into(),
+                u.ac as u64,
+                u.bytes as u64,
+                u.tail as u64,
+            ],
+        ),
+    }
+}
+
+/// Runs a case on a side; whether answer and bytes are the unrelated implementation's.
+/// The lister's cases have no call.
+pub fn agrees(side: Side, case: &Case) -> bool {
+    let outcome = case.run();
+    match (case, outcome) {
+        (Case::Judge { report }, Outcome::Judge(judged)) => {
+            let due = match *judged {
+                Err(r) => refusal(r.number, r.place as u64),
+                Ok(r) => given(r.bytes as i64),
+            };
+            side.judge(report) == due
+        }
+        (
+            Case::Fresh { required, output },
+            Outcome::Fresh {
+                result,
+                output: due,
+            },
+        ) => {
+            let mut output = output.clone();
+            let answer = side.fresh(*required, &mut output);
+            answer == of_reference(result.map(|()| Given::Nothing)) && output == due
+        }
+        (
+            Case::Unpack {
+                report,
+                values,
+                tail,
+            },
+            Outcome::Unpack {
+                result,
+                values: due_values,
+                tail: due_tail,
+            },
+        ) => {
+            let (mut values, mut tail) = (values.clone(), tail.clone());
+            let answer = side.unpack(report, &mut values, &mut tail);
+            answer == contents_of(result) && values == due_values && tail == due_tail
+        }
+        (
+            Case::Pack {
+                values,
+                word,
+                rptin,
+                tail,
+                output,
+            },
+            Outcome::Pack {
+                result,
+                output: due,
+            },
+        ) => {
+            let mut output = output.clone();
+            let answer = side.pack(values, *word, *rptin, tail, &mut output);
+            answer == of_reference(result.map(Given::Count)) && output == due
+        }
+        (Case::Calls { buffer, calls }, _) => list_agrees(side, buffer, calls),
+        _ => true,
+    }
+}
+
+/// Each call of a list, and the list as a script.
+fn list_agrees(side: Side, start: &[u8], calls: &[Call]) -> bool {
+    let mut ours = start.to_vec();
+    let mut theirs = start.to_vec();
+    for call in calls {
+        let mut output = call.output().unwrap_or_default();
+        let answer = side.call(&mut ours, call, &mut output);
+        let due = call.run(&mut theirs);
+        if answer != of_reference(due.result)
+            || output != due.output.unwrap_or_default()
+            || ours != theirs
+        {
+            return false;
+        }
+    }
+    let entries = script::script(calls);
+    script_agrees(side, start, &entries, 4096) && script_agrees(side, start, &entries, 64)
+}
+
+fn script_agrees(side: Side, start: &[u8], entries: &[u8], room: usize) -> bool {
+    let mut ours = start.to_vec();
+    let mut theirs = start.to_vec();
+    let mut log = vec![0xA5; room];
+    let done = side.replay(&mut ours, entries, &mut log);
+    let due = script::run(&mut theirs, entries, room);
+    let written = due.log.len();
+    done.calls == due.calls.len() as u64
+        && done.taken == due.taken as u64
+        && done.written == written as u64
+        && log[..written] == due.log
+        && log[written..].iter().all(|&b| b == 0xA5)
+        && ours == theirs
+}
+
+/// Random calls on a report, behind which the buffer has room.
+pub fn calls_on(report: &[u8], room: usize, prng: &mut Prng) -> Case {
+    let mut buffer = report.to_vec();
+    buffer.extend(prng.bytes(room));
+    let mut sheet = judge(report).expect("a sound report").sheet;
+    let mut calls = Vec::new();
+    for _ in 0..12 {
+        let call = random_call(prng, &sheet, buffer.len());
+        sheet = step(&sheet, buffer.len(), &call).0;
+        calls.push(call);
+    }
+    Case::Calls { buffer, calls }
+}
+
+/// A report with a bit changed or its end cut.
+fn damaged(report: &[u8], prng: &mut Prng) -> Vec<u8> {
+    let mut report = report.to_vec();
+    if prng.one_in(4) {
+        report.truncate(prng.below(report.len() + 1));
+    } else {
+        let index = prng.below(report.len());
+        report[index] ^= 1 << prng.below(8);
+    }
+    report
+}
+
+/// The cases that both sides are tried on: fixed ones, random ones, and those on these reports.
+pub fn cases(seed: u64, count: usize, reports: &[Vec<u8>]) -> Vec<Case> {
+    let mut prng = Prng::new(seed);
+    let mut all = fixed();
+    all.extend(random::cases(seed, count));
+    for report in reports {
+        for _ in 0..count / 40 {
+            let room = prng.pick(&[0, 1, 20, 300]);
+            all.push(calls_on(report, room, &mut prng));
+            let damaged = damaged(report, &mut prng);
+            all.push(Case::Unpack {
+                report: damaged.clone(),
+                values: vec![-77; 48],
+                tail: vec![0xA5; 4000],
+            });
+            all.push(Case::Judge { report: damaged });
+        }
+    }
+    all
+}

@@ -1,0 +1,222 @@
+//! The eleven calls on a buffer.
+
+use super::card::{CARD, REQUIRED, ROWS, code, replace};
+use super::report::{Report, card_of, content_valid, inspect, quality, sixteen};
+use super::{Answer, Given, nibbles, refused, text};
+
+#[inline(always)]
+fn card_mut(s: &mut [u8]) -> &mut [u8; CARD] {
+    s.first_chunk_mut().unwrap()
+}
+
+#[inline(never)]
+pub fn judge(s: &[u8]) -> Answer {
+    let r = inspect(s, 0)?;
+    Ok(Given::Value(r.size() as i64))
+}
+
+#[inline(never)]
+pub fn read_field(s: &[u8], k: usize) -> Answer {
+    inspect(s, 0)?;
+    if k.wrapping_sub(1) >= 46 {
+        return refused(8, 0);
+    }
+    let c = code(card_of(s), k);
+    if c == 0 {
+        return Ok(Given::Missing);
+    }
+    Ok(Given::Value(i64::from(c as i32 + ROWS[k].base)))
+}
+
+#[inline(never)]
+pub fn set_field(s: &mut [u8], k: usize, v: i64) -> Answer {
+    let r = inspect(s, 0)?;
+    if k.wrapping_sub(1) >= 46 {
+        return refused(8, 0);
+    }
+    let row = &ROWS[k];
+    let c = v.wrapping_sub(i64::from(row.base)) as u64;
+    if c.wrapping_sub(1) >= u64::from(row.highest) {
+        return refused(9, k);
+    }
+    replace(card_mut(s), k, c as u32, r.ck);
+    Ok(Given::Nothing)
+}
+
+#[inline(never)]
+pub fn clear_field(s: &mut [u8], k: usize) -> Answer {
+    let r = inspect(s, 0)?;
+    if k.wrapping_sub(1) >= 46 {
+        return refused(8, 0);
+    }
+    if REQUIRED >> k & 1 == 1 {
+        return refused(10, k);
+    }
+    replace(card_mut(s), k, 0, r.ck);
+    Ok(Given::Nothing)
+}
+
+#[inline(never)]
+pub fn read_flag(s: &[u8], j: usize) -> Answer {
+    let r = inspect(s, 1)?;
+    if j.wrapping_sub(1) >= 14 {
+        return refused(8, 0);
+    }
+    if r.place == 0 {
+        return refused(11, 0);
+    }
+    let v = nibbles::nibble(s, r.place + 2 + j);
+    if v == 0 {
+        return Ok(Given::Missing);
+    }
+    Ok(Given::Value(i64::from(v)))
+}
+
+/// Stores a flag of the body at a place, and the quality code.
+#[inline(always)]
+fn store_flag(s: &mut [u8], at: usize, j: usize, v: u8) {
+    let z = 64 - 4 * j as u32;
+    let flags = sixteen(s, at) & !(15 << z) | u64::from(v) << z;
+    let q = quality(flags).unwrap_or(0) as u8;
+    nibbles::put(s, at + j - 1, v);
+    nibbles::put(s, at + 14, q >> 4);
+    nibbles::put(s, at + 15, q & 15);
+}
+
+#[inline(never)]
+pub fn set_flag(s: &mut [u8], j: usize, v: usize) -> Answer {
+    let r = inspect(s, 1)?;
+    if j.wrapping_sub(1) >= 14 {
+        return refused(8, 0);
+    }
+    if v.wrapping_sub(1) >= 10 {
+        return refused(9, j);
+    }
+    if r.place == 0 {
+        return refused(11, 0);
+    }
+    store_flag(s, r.place + 3, j, v as u8);
+    Ok(Given::Nothing)
+}
+
+#[inline(never)]
+pub fn clear_flag(s: &mut [u8], j: usize) -> Answer {
+    let r = inspect(s, 1)?;
+    if j.wrapping_sub(1) >= 14 {
+        return refused(8, 0);
+    }
+    if r.place == 0 {
+        return refused(11, 0);
+    }
+    store_flag(s, r.place + 3, j, 0);
+    Ok(Given::Nothing)
+}
+
+/// Makes room for new nibbles in place of old ones, and clears behind the end.
+#[inline(always)]
+fn resize(s: &mut [u8], at: usize, old: usize, new: usize, end: usize) {
+    let last = end - old + new;
+    nibbles::shift(s, at + old, at + new, end - at - old);
+    if last % 2 == 1 {
+        s[last / 2] &= 0xf0;
+    }
+    if last < end {
+        s[last.div_ceil(2)..end.div_ceil(2)].fill(0);
+    }
+}
+
+#[inline(always)]
+fn set_count(s: &mut [u8], n: usize) {
+    s[37] = s[37] & 15 | (n as u8) << 4;
+}
+
+#[inline(always)]
+fn put_nibbles(s: &mut [u8], r: &Report, id: usize, content: &[u8]) -> Answer {
+    let new = 3 + content.len();
+    let (at, old, count) = if r.place == 0 {
+        (r.end, 0, r.count + 1)
+    } else {
+        (r.place, 3 + r.al, r.count)
+    };
+    if (r.end - old + new).div_ceil(2) > s.len() {
+        return refused(13, 0);
+    }
+    resize(s, at, old, new, r.end);
+    nibbles::put(s, at, (content.len() >> 4) as u8);
+    nibbles::put(s, at + 1, (content.len() & 15) as u8);
+    nibbles::put(s, at + 2, id as u8);
+    nibbles::lay(s, at + 3, content);
+    set_count(s, count);
+    Ok(Given::Nothing)
+}
+
+#[inline(never)]
+pub fn put(s: &mut [u8], id: usize, content: &[u8]) -> Answer {
+    let r = inspect(s, id)?;
+    if id.wrapping_sub(1) >= 15 {
+        return refused(8, 0);
+    }
+    if content.len().wrapping_sub(1) >= 255 {
+        return refused(12, 0);
+    }
+    if !nibbles::all(content) || !content_valid(id, content) {
+        return refused(14, 0);
+    }
+    put_nibbles(s, &r, id, content)
+}
+
+#[inline(never)]
+pub fn fetch(s: &[u8], id: usize, out: &mut [u8]) -> Answer {
+    let r = inspect(s, id)?;
+    if id.wrapping_sub(1) >= 15 {
+        return refused(8, 0);
+    }
+    if r.place == 0 {
+        return refused(11, 0);
+    }
+    let Some(out) = out.get_mut(..r.al) else {
+        return refused(13, 0);
+    };
+    nibbles::fetch(s, r.place + 3, out);
+    Ok(Given::Value(r.al as i64))
+}
+
+#[inline(never)]
+pub fn remove(s: &mut [u8], id: usize) -> Answer {
+    let r = inspect(s, id)?;
+    if id.wrapping_sub(1) >= 15 {
+        return refused(8, 0);
+    }
+    if r.place == 0 {
+        return refused(11, 0);
+    }
+    resize(s, r.place, 3 + r.al, 0, r.end);
+    set_count(s, r.count - 1);
+    Ok(Given::Nothing)
+}
+
+#[inline(never)]
+pub fn put_text(s: &mut [u8], t: &[u8]) -> Answer {
+    let r = inspect(s, 4)?;
+    let mut ns = [0; 260];
+    match text::write(t, &mut ns) {
+        None | Some(0) => refused(12, 0),
+        Some(n) => put_nibbles(s, &r, 4, &ns[..n]),
+    }
+}
+
+#[inline(never)]
+pub fn fetch_text(s: &[u8], out: &mut [u8]) -> Answer {
+    let r = inspect(s, 4)?;
+    if r.place == 0 {
+        return refused(11, 0);
+    }
+    let mut ns = [0; 255];
+    let ns = &mut ns[..r.al];
+    nibbles::fetch(s, r.place + 3, ns);
+    // No two nibbles give more than 18 bytes.
+    if out.len() < 9 * ns.len() && out.len() < text::length(ns) {
+        return refused(13, 0);
+    }
+    Ok(Given::Value(text::read(ns, out) as i64))
+}

@@ -1,0 +1,193 @@
+//! The archive's calls.
+
+/// What a call answers: the refusal's number and place, both 0 where it is
+/// accepted; then 0, or 1 and a value, or 2 where a field or a flag is missing.
+#[repr(C)]
+#[derive(Clone, Copy, Debug, Default, PartialEq, Eq)]
+pub struct Answer {
+    pub refusal: u32,
+    pub given: u32,
+    pub place: u64,
+    pub value: i64,
+}
+
+#[repr(C)]
+#[derive(Clone, Copy, Debug, Default, PartialEq, Eq)]
+pub struct Performed {
+    pub calls: u64,
+    pub taken: u64,
+    pub written: u64,
+}
+
+mod symbols {
+    use super::{Answer, Performed};
+
+    unsafe extern "C" {
+        pub fn lmr5_judge(report: *const u8, n: usize) -> Answer;
+        pub fn lmr5_fresh(b: i64, y: i64, m: i64, x: i64, z: i64, out: *mut u8, n: usize)
+        -> Answer;
+        pub fn lmr5_unpack(
+            report: *const u8,
+            n: usize,
+            values: *mut i64,
+            values_n: usize,
+            tail: *mut u8,
+            tail_n: usize,
+            contents: *mut u64,
+        ) -> Answer;
+        pub fn lmr5_pack(
+            values: *const i64,
+            values_n: usize,
+            word: u64,
+            rptin: u16,
+            tail: *const u8,
+            tail_n: usize,
+            out: *mut u8,
+            n: usize,
+        ) -> Answer;
+        pub fn lmr5_read_field(report: *const u8, n: usize, field: usize) -> Answer;
+        pub fn lmr5_set_field(report: *mut u8, n: usize, field: usize, value: i64) -> Answer;
+        pub fn lmr5_clear_field(report: *mut u8, n: usize, field: usize) -> Answer;
+        pub fn lmr5_read_flag(report: *const u8, n: usize, flag: usize) -> Answer;
+        pub fn lmr5_set_flag(report: *mut u8, n: usize, flag: usize, value: usize) -> Answer;
+        pub fn lmr5_clear_flag(report: *mut u8, n: usize, flag: usize) -> Answer;
+        pub fn lmr5_put(
+            report: *mut u8,
+            n: usize,
+            id: usize,
+            content: *const u8,
+            content_n: usize,
+        ) -> Answer;
+        pub fn lmr5_fetch(
+            report: *const u8,
+            n: usize,
+            id: usize,
+            out: *mut u8,
+            out_n: usize,
+        ) -> Answer;
+        pub fn lmr5_drop(report: *mut u8, n: usize, id: usize) -> Answer;
+        pub fn lmr5_put_text(report: *mut u8, n: usize, text: *const u8, text_n: usize) -> Answer;
+        pub fn lmr5_fetch_text(report: *const u8, n: usize, out: *mut u8, out_n: usize) -> Answer;
+        pub fn lmr5_replay(
+            report: *mut u8,
+            n: usize,
+            script: *const u8,
+            script_n: usize,
+            log: *mut u8,
+            log_n: usize,
+        ) -> Performed;
+    }
+}
+
+// SAFETY of every call below: a slice's pointer is lent with its length, and
+// the archive reads and writes within them only.
+
+#[inline(always)]
+pub fn judge(s: &[u8]) -> Answer {
+    unsafe { symbols::lmr5_judge(s.as_ptr(), s.len()) }
+}
+
+#[inline(always)]
+pub fn fresh(v: [i64; 5], out: &mut [u8]) -> Answer {
+    unsafe { symbols::lmr5_fresh(v[0], v[1], v[2], v[3], v[4], out.as_mut_ptr(), out.len()) }
+}
+
+#[inline(always)]
+pub fn unpack(s: &[u8], values: &mut [i64], tail: &mut [u8], contents: &mut [u64; 6]) -> Answer {
+    unsafe {
+        symbols::lmr5_unpack(
+            s.as_ptr(),
+            s.len(),
+            values.as_mut_ptr(),
+            values.len(),
+            tail.as_mut_ptr(),
+            tail.len(),
+            contents.as_mut_ptr(),
+        )
+    }
+}
+
+#[inline(always)]
+pub fn pack(values: &[i64], word: u64, rptin: u16, tail: &[u8], out: &mut [u8]) -> Answer {
+    unsafe {
+        symbols::lmr5_pack(
+            values.as_ptr(),
+            values.len(),
+            word,
+            rptin,
+            tail.as_ptr(),
+            tail.len(),
+            out.as_mut_ptr(),
+            out.len(),
+        )
+    }
+}
+
+#[inline(always)]
+pub fn read_field(s: &[u8], k: usize) -> Answer {
+    unsafe { symbols::lmr5_read_field(s.as_ptr(), s.len(), k) }
+}
+
+#[inline(always)]
+pub fn set_field(s: &mut [u8], k: usize, v: i64) -> Answer {
+    unsafe { symbols::lmr5_set_field(s.as_mut_ptr(), s.len(), k, v) }
+}
+
+#[inline(always)]
+pub fn clear_field(s: &mut [u8], k: usize) -> Answer {
+    unsafe { symbols::lmr5_clear_field(s.as_mut_ptr(), s.len(), k) }
+}
+
+#[inline(always)]
+pub fn read_flag(s: &[u8], j: usize) -> Answer {
+    unsafe { symbols::lmr5_read_flag(s.as_ptr(), s.len(), j) }
+}
+
+#[inline(always)]
+pub fn set_flag(s: &mut [u8], j: usize, v: usize) -> Answer {
+    unsafe { symbols::lmr5_set_flag(s.as_mut_ptr(), s.len(), j, v) }
+}
+
+#[inline(always)]
+pub fn clear_flag(s: &mut [u8], j: usize) -> Answer {
+    unsafe { symbols::lmr5_clear_flag(s.as_mut_ptr(), s.len(), j) }
+}
+
+#[inline(always)]
+pub fn put(s: &mut [u8], id: usize, content: &[u8]) -> Answer {
+    unsafe { symbols::lmr5_put(s.as_mut_ptr(), s.len(), id, content.as_ptr(), content.len()) }
+}
+
+#[inline(always)]
+pub fn fetch(s: &[u8], id: usize, out: &mut [u8]) -> Answer {
+    unsafe { symbols::lmr5_fetch(s.as_ptr(), s.len(), id, out.as_mut_ptr(), out.len()) }
+}
+
+#[inline(always)]
+pub fn remove(s: &mut [u8], id: usize) -> Answer {
+    unsafe { symbols::lmr5_drop(s.as_mut_ptr(), s.len(), id) }
+}
+
+#[inline(always)]
+pub fn put_text(s: &mut [u8], text: &[u8]) -> Answer {
+    unsafe { symbols::lmr5_put_text(s.as_mut_ptr(), s.len(), text.as_ptr(), text.len()) }
+}
+
+#[inline(always)]
+pub fn fetch_text(s: &[u8], out: &mut [u8]) -> Answer {
+    unsafe { symbols::lmr5_fetch_text(s.as_ptr(), s.len(), out.as_mut_ptr(), out.len()) }
+}
+
+#[inline(always)]
+pub fn replay(s: &mut [u8], script: &[u8], log: &mut [u8]) -> Performed {
+    unsafe {
+        symbols::lmr5_replay(
+            s.as_mut_ptr(),
+            s.len(),
+            script.as_ptr(),
+            script.len(),
+            log.as_mut_ptr(),
+            log.len(),
+        )
+    }
+}

@@ -1,0 +1,120 @@
+//! Measures each call of the library beside plain Rust written for speed.
+//!
+//! `bench [NAME]`: every call, or the one of this name.
+
+mod calls;
+mod measure;
+
+use bench::compare::{SIDES, agrees, cases};
+use bench::reports::{SIZES, sheet};
+use measure::{ALL_ROUNDS, Line, PASSES};
+
+/// Calls whose ratio at 38 bytes has a bar of 1.2.
+const BARRED: [&str; 5] = ["judge", "read_field", "set_field", "clear_field", "unpack"];
+
+fn machine() -> String {
+    std::fs::read_to_string("/proc/cpuinfo")
+        .unwrap_or_default()
+        .lines()
+        .find_map(|line| line.strip_prefix("model name"))
+        .map_or("unknown".into(), |rest| {
+            rest.trim_start_matches([' ', '\t', ':']).into()
+        })
+}
+
+fn check() {
+    let reports = SIZES.map(|size| sheet(size).packing());
+    let cases = cases(11, 4000, &reports);
+    for (index, case) in cases.iter().enumerate() {
+        for side in SIDES {
+            if !agrees(side, case) {
+                eprintln!("bench: {side:?} differs in case {index}: {case:?}");
+                std::process::exit(1);
+            }
+        }
+    }
+    println!(
+        "same answers and bytes on both sides: {} cases",
+        cases.len()
+    );
+}
+
+fn over(line: &Line) -> bool {
+    let bar = if line.bytes == 38 && BARRED.contains(&line.name) {
+        1.2
+    } else {
+        2.0
+    };
+    line.ratio() > bar
+}
+
+/// Every call at every size, or the calls of a name.
+fn measured(only: Option<&str>) -> Vec<Line> {
+    let pass = || -> Vec<Line> {
+        let sizes = SIZES.into_iter();
+        sizes.flat_map(|size| calls::measured(size, only)).collect()
+    };
+    let mut lines = pass();
+    for _ in 1..PASSES {
+        for (line, again) in lines.iter_mut().zip(pass()) {
+            line.least(&again);
+        }
+    }
+    lines
+}
+
+/// The call that grows most from 900 to 1853 bytes.
+fn growth(lines: &[Line]) -> Option<(&'static str, f64)> {
+    let at = |bytes: usize| lines.iter().filter(move |line| line.bytes == bytes);
+    at(1853)
+        .filter_map(|long| {
+            let short = at(900).find(|short| short.name == long.name)?;
+            Some((long.name, long.here / short.here))
+        })
+        .max_by(|a, b| a.1.total_cmp(&b.1))
+}
+
+fn main() {
+    let only = std::env::args().nth(1).filter(|name| !name.is_empty());
+    check();
+    println!("machine: {}; both sides for baseline x86-64", machine());
+    println!(
+        "buffers: not cleared first, warm in the cache; least of {ALL_ROUNDS} interleaved rounds"
+    );
+    println!(
+        "at 38 bytes no attachment stands: flag calls, fetch, fetch_text and drop answer 11 there"
+    );
+    println!(
+        "put_append, put_shorten, drop, and put_text at 38: a copy of the report in each turn, on both sides"
+    );
+    let lines = measured(only.as_deref());
+    if lines.is_empty() {
+        eprintln!("bench: no call of that name");
+        std::process::exit(1);
+    }
+    println!(
+        "{:12} {:>6} {:>10} {:>10} {:>7}",
+        "name", "bytes", "ns here", "ns Rust", "ratio"
+    );
+    for line in &lines {
+        println!(
+            "{:12} {:>6} {:>10.1} {:>10.1} {:>7.2}",
+            line.name,
+            line.bytes,
+            line.here,
+            line.rust,
+            line.ratio()
+        );
+    }
+    if let Some((name, factor)) = growth(&lines) {
+        println!("most growth here from 900 to 1853 bytes: {name}, {factor:.2} times");
+    }
+    for line in lines.iter().filter(|line| over(line)) {
+        println!(
+            "over the bar: {} at {} bytes: {:.2}",
+            line.name,
+            line.bytes,
+            line.ratio()
+        );
+    }
+}

@@ -1,0 +1,79 @@
+//! The reports that calls are measured on.
+
+use reference::attachment::Attachment;
+use reference::cases::material::{fresh_sheet, random_flags, random_value};
+use reference::prng::Prng;
+use reference::sheet::Sheet;
+use reference::table::{FIELDS, fields};
+use reference::text;
+
+pub const SIZES: [usize; 4] = [38, 200, 900, 1853];
+
+/// A ship's remarks, as long as they make so many nibbles.
+pub fn remarks(nibbles: usize) -> Vec<u8> {
+    const WORDS: &[u8] = b"USCG SHIP 4YA   STORM 25-30 KT, SEA ROUGH/HIGH  POS 4512N 03021W + \
+          BAR 0991.4 FALLING & ICE      SEEN AT 1200Z  Q{5}";
+    let mut remarks = Vec::new();
+    for &byte in WORDS.iter().cycle() {
+        let mut longer = remarks.clone();
+        longer.push(byte);
+        if text::write(&longer).len() > nibbles {
+            break;
+        }
+        remarks = longer;
+    }
+    while remarks.last() == Some(&b' ') {
+        remarks.pop();
+    }
+    while text::write(&remarks).len() < nibbles {
+        remarks.push(b'7');
+    }
+    remarks
+}
+
+fn attachments(lengths: &[(u8, usize)], prng: &mut Prng) -> Vec<Attachment> {
+    lengths
+        .iter()
+        .map(|&(id, length)| {
+            let nibbles = match id {
+                1 => random_flags(prng),
+                4 => text::write(&remarks(length)),
+                _ => prng.nibbles(length),
+            };
+            Attachment::new(id, nibbles)
+        })
+        .collect()
+}
+
+/// A report of one of the four sizes, with every field present.
+pub fn sheet(size: usize) -> Sheet {
+    let mut prng = Prng::new(size as u64);
+    let mut sheet = fresh_sheet();
+    sheet.rptin = 0x1234;
+    for field in fields() {
+        sheet.values[field.number - 1] = Some(random_value(&mut prng, field.number));
+    }
+    assert_eq!(sheet.values.len(), FIELDS);
+    let lengths: Vec<(u8, usize)> = match size {
+        38 => vec![],
+        200 => vec![(1, 16), (5, 100), (4, 120), (9, 77)],
+        900 => vec![
+            (1, 16),
+            (5, 255),
+            (4, 255),
+            (9, 255),
+            (3, 255),
+            (2, 255),
+            (12, 255),
+            (15, 155),
+        ],
+        _ => {
+            let mut all = vec![(1, 16)];
+            all.extend([5, 4, 9, 3, 2, 12, 15, 6, 7, 8, 10, 11, 13, 14].map(|id| (id, 255)));
+            all
+        }
+    };
+    sheet.attachments = attachments(&lengths, &mut prng);
+    assert_eq!(sheet.size(), size);
+    sheet
+}

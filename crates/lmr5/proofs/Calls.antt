@@ -1,0 +1,92 @@
+-- What the definitions say of a call, said with its answer in numbers.
+-- Assumes nothing.
+use Prim.Native.Nat.{ℕ, _<_}
+use native.Mathlib.Omega.{arith}
+use mathlib.Core.Path.{_≡_, refl, sym, ap, ap₂, _∙_}
+use mathlib.Core.List.{List, [], _∷_, map}
+use mathlib.Core.Option.{Option, some}
+use lib.ListN.{length, set}
+use lib.IntN.{ℤ, pos}
+use mir.Syntax.{w64}
+use mir.Val.{SFits, toZ, ofZ}
+use mir.ValLaws.{toZ-ofZ, toZ-pos}
+use Rattle.words.specs.Words.{signed, unsigned}
+use Rattle.format.specs.Machine as machine
+use Rattle.format.specs.Machine.{accepted}
+use Rattle.format.specs.Buffer.{After, after}
+use Rattle.format.specs.Report.{Verdict, judge}
+use Rattle.format.specs.Reply.{refusal}
+use Rattle.report.specs.Answers.{judgedOf}
+use Rattle.report.specs.declared.Judged.{Judged}
+use Rattle.report.specs.declared.Judged.the-variants.{Refused, Accepted}
+use Rattle.format.specs.Whole.{Wrote, Unpacked, unpacked}
+use Rattle.whole.specs.Answers.{contentsNumbers}
+use Rattle.whole.specs.declared.Contents.{Contents}
+use Rattle.script.proofs.Numbers.{signed-unsigned}
+use Rattle.lmr5.specs.declared.Answer.{Answer}
+use Rattle.lmr5.specs.Numbered.{numbers, numbered, left, numberedAfter, judging, numberedWrote, Opened, opening, openedBy, numberedUnpacked, word}
+
+-- a number that 64 bits hold is given as it is
+pub number-given : (z : ℤ) → SFits w64 z → numbers 0 1 0 (toZ w64 (ofZ w64 z)) ≡ numbered (accepted (some z ∷ []))
+number-given z f = ap (numbers 0 1 0) (toZ-ofZ w64 z f ∙ sym (signed-unsigned z (f .sfits)))
+
+-- held in a register
+pub held-given : (z : ℤ) (r : Answer) → SFits w64 z → r ≡ numbered (accepted (some (toZ w64 (ofZ w64 z)) ∷ [])) → r ≡ numbered (accepted (some z ∷ []))
+held-given z r f h = h ∙ ap (λ (x : ℤ). numbered (accepted (some x ∷ []))) (toZ-ofZ w64 z f)
+
+-- a word as a signed number
+pub word-given : (n : ℕ) (z : ℤ) (r : Answer) → SFits w64 z → z ≡ signed n → r ≡ numbered (accepted (some (toZ w64 (ofZ w64 z)) ∷ [])) → r ≡ numbered (accepted (some (pos n) ∷ []))
+unfolding unsigned
+word-given n z r f e h = held-given z r f h ∙ ap (numbers 0 1 0) (signed-unsigned z (f .sfits) ∙ e)
+
+-- a flag's value
+pub flag-given : (n : ℕ) (r : Answer) → n < 256 → r ≡ numbered (accepted (some (toZ w64 n) ∷ [])) → r ≡ numbered (accepted (some (pos n) ∷ []))
+flag-given n r f h = h ∙ ap (λ (x : ℤ). numbered (accepted (some x ∷ []))) (toZ-pos w64 n (omega arith))
+
+-- each of the eleven calls
+pub call-numbered : (a : machine.Answer) (b o : List ℕ) (w : After) (r : Answer) → after a b o ≡ w → r ≡ numbered a → left r b o ≡ numberedAfter w
+call-numbered a b o w r h e = ap (λ (x : Answer). left x b o) e ∙ ap numberedAfter h
+
+-- judge
+abbrev pub judgedAnswer : Judged → machine.Answer
+judgedAnswer (Refused n p) = refusal n p
+judgedAnswer (Accepted size) = accepted (some (pos size) ∷ [])
+
+pub judge-numbered : (b : List ℕ) (j k : Judged) (r : Answer) → j ≡ judgedOf (judge b) → j ≡ k → r ≡ numbered (judgedAnswer k) → r ≡ numbered (judging (judge b))
+judge-numbered b j k r h g e = e ∙ ap (λ (x : Judged). numbered (judgedAnswer x)) (sym g ∙ h) ∙ same (judge b)
+  where
+    same : (v : Verdict) → numbered (judgedAnswer (judgedOf v)) ≡ numbered (judging v)
+    same (Verdict.refused r) = refl
+    same (Verdict.accepted s) = refl
+
+-- fresh and pack
+pub wrote-numbered : (a : machine.Answer) (o : List ℕ) (w : Wrote) (r : Answer) → record { answer = a; out = o } ≡ w → r ≡ numbered a
+    → record { answer = r; out = o } ≡ numberedWrote w
+wrote-numbered a o w r h e = rw e (ap numberedWrote h)
+
+-- unpack
+pub unpack-numbered : (a : machine.Answer) (vs : List ℤ) (ns before : List ℕ) (x : Opened) (u : Unpacked) → unpacked a vs ns ≡ u
+    → x ≡ openedBy a vs ns before
+    → x ≡ numberedUnpacked u before
+unpack-numbered a vs ns before x u h e = e ∙ ap (λ (v : Unpacked). numberedUnpacked v before) h
+
+pub unpack-refused : (n p : ℕ) (vs : List ℤ) (ns before : List ℕ) (r : Answer) → r ≡ numbered (refusal n p)
+    → record { answer = r; values = vs; tail = ns; contents = before } ≡ openedBy (refusal n p) vs ns before
+unpack-refused n p vs ns before r e = ap (λ (x : Answer). opening x vs ns before) e
+
+pub unpack-given : (given : List (Option ℤ)) (vs : List ℤ) (ns before after : List ℕ) (r : Answer) → after ≡ map word given → r ≡ numbered (accepted [])
+    → record { answer = r; values = vs; tail = ns; contents = after } ≡ openedBy (accepted given) vs ns before
+unpack-given given vs ns before after r h e = ap₂ (λ (x : Answer) (l : List ℕ). opening x vs ns l) e h
+
+-- the six contents, stored one after the other
+pub six-set : (l : List ℕ) (c : Contents) → length l ≡ 6
+    → set (set (set (set (set (set l 0 (c .word)) 1 (c .present)) 2 (c .rptin)) 3 (c .count)) 4 (c .size)) 5 (c .tail) ≡ map word (contentsNumbers c)
+unfolding unsigned
+six-set [] c h = absurd (omega arith)
+six-set (x ∷ []) c h = absurd (omega arith)
+six-set (x ∷ y ∷ []) c h = absurd (omega arith)
+six-set (x ∷ y ∷ z ∷ []) c h = absurd (omega arith)
+six-set (x ∷ y ∷ z ∷ u ∷ []) c h = absurd (omega arith)
+six-set (x ∷ y ∷ z ∷ u ∷ v ∷ []) c h = absurd (omega arith)
+six-set (x ∷ y ∷ z ∷ u ∷ v ∷ w ∷ []) c h = refl
+six-set (x ∷ y ∷ z ∷ u ∷ v ∷ w ∷ t ∷ l) c h = absurd (omega arith)

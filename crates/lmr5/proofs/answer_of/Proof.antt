@@ -1,0 +1,91 @@
+-- `lmr5::answer_of` meets its contract.
+-- Assumes nothing.
+use Rattle.lmr5.proofs.Calls.{held-given, flag-given}
+use mathlib.Core.Path.{sym, ap, _∙_}
+use Rattle.format.specs.Reply.{answerOf}
+use Rattle.format.specs.declared.Reply.{Reply}
+use Rattle.lmr5.specs.Numbered.{numbered}
+use borrow.Author.Needs.{needs}
+use Rattle.lmr5.proofs.answer_of.Statement.{statement}
+use Rattle.lmr5.proofs.answer_of.Tie as tie
+
+enum-known-r : tie.Need-enum-known-r
+enum-known-r c = search needs
+
+refused-requires : tie.Need-refused-requires
+refused-requires c κs = search needs
+
+enum-told : tie.Need-enum-told
+enum-told c = search needs
+
+done-requires : tie.Need-done-requires
+done-requires c κs = search needs
+
+enum-known-r-2 : tie.Need-enum-known-r-2
+enum-known-r-2 c = search needs
+
+given-requires : tie.Need-given-requires
+given-requires c κs = search needs
+
+enum-known-r-3 : tie.Need-enum-known-r-3
+enum-known-r-3 c = search needs
+
+cast-given : tie.Need-cast-given
+cast-given c = search needs
+
+given-requires-2 : tie.Need-given-requires-2
+given-requires-2 c κs = search needs
+
+enum-told-2 : tie.Need-enum-told-2
+enum-told-2 c = search needs
+
+missing-requires : tie.Need-missing-requires
+missing-requires c κs = search needs
+
+enum-known-r-4 : tie.Need-enum-known-r-4
+enum-known-r-4 c = search needs
+
+counted-requires : tie.Need-counted-requires
+counted-requires c κs = search needs
+
+returns : tie.Need-returns
+returns c = c .refused .ensures ∙ ap (λ (r : Reply). numbered (answerOf r)) (sym (c .before .before .r .given .1))
+
+returns-2 : tie.Need-returns-2
+returns-2 c = search needs
+
+returns-3 : tie.Need-returns-3
+returns-3 c = held-given _ _ (search needs) (c .given .ensures) ∙ ap (λ (r : Reply). numbered (answerOf r)) (sym (c .before .before .before .r2 .given .1))
+
+returns-4 : tie.Need-returns-4
+returns-4 c = flag-given _ _ (search needs) (c .given2 .ensures) ∙ ap (λ (r : Reply). numbered (answerOf r)) (sym (c .before .before .r3 .given .1))
+
+returns-5 : tie.Need-returns-5
+returns-5 c = search needs
+
+returns-6 : tie.Need-returns-6
+returns-6 c = c .counted .ensures ∙ ap (λ (r : Reply). numbered (answerOf r)) (sym (c .before .before .r4 .given .1))
+
+pub answer-of-spec : {M : Type 1} → statement M
+answer-of-spec =
+    tie.close
+    (tie.spec
+    enum-known-r
+    refused-requires
+    enum-told
+    done-requires
+    enum-known-r-2
+    given-requires
+    enum-known-r-3
+    cast-given
+    given-requires-2
+    enum-told-2
+    missing-requires
+    enum-known-r-4
+    counted-requires
+    returns
+    returns-2
+    returns-3
+    returns-4
+    returns-5
+    returns-6)

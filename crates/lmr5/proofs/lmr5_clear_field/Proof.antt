@@ -1,0 +1,22 @@
+-- `lmr5::lmr5_clear_field` meets its contract.
+-- Assumes nothing.
+use Rattle.lmr5.proofs.Calls.{call-numbered}
+use borrow.Author.Needs.{needs}
+use Rattle.lmr5.proofs.lmr5_clear_field.Statement.{statement}
+use Rattle.lmr5.proofs.lmr5_clear_field.Tie as tie
+
+clear-field-requires : tie.Need-clear-field-requires
+clear-field-requires c κs = search needs
+
+answer-of-requires : tie.Need-answer-of-requires
+answer-of-requires c κs = search needs
+
+same-length : tie.Need-same-length
+same-length c = search needs
+
+returns : tie.Need-returns
+returns c = call-numbered _ _ _ _ _ (c .before .before .before .clear-field .ensures) (c .answer-of .ensures)
+
+pub lmr5-clear-field-spec : {M : Type 1} → statement M
+lmr5-clear-field-spec =
+    tie.close (tie.spec clear-field-requires answer-of-requires same-length returns)

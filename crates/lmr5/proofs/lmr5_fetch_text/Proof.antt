@@ -1,0 +1,22 @@
+-- `lmr5::lmr5_fetch_text` meets its contract.
+-- Assumes nothing.
+use Rattle.lmr5.proofs.Calls.{call-numbered}
+use borrow.Author.Needs.{needs}
+use Rattle.lmr5.proofs.lmr5_fetch_text.Statement.{statement}
+use Rattle.lmr5.proofs.lmr5_fetch_text.Tie as tie
+
+fetch-text-requires : tie.Need-fetch-text-requires
+fetch-text-requires c κs = search needs
+
+answer-of-requires : tie.Need-answer-of-requires
+answer-of-requires c κs = search needs
+
+same-length : tie.Need-same-length
+same-length c = search needs
+
+returns : tie.Need-returns
+returns c = call-numbered _ _ _ _ _ (c .before .before .before .fetch-text .ensures) (c .answer-of .ensures)
+
+pub lmr5-fetch-text-spec : {M : Type 1} → statement M
+lmr5-fetch-text-spec =
+    tie.close (tie.spec fetch-text-requires answer-of-requires same-length returns)

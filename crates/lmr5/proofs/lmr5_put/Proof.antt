@@ -1,0 +1,21 @@
+-- `lmr5::lmr5_put` meets its contract.
+-- Assumes nothing.
+use Rattle.lmr5.proofs.Calls.{call-numbered}
+use borrow.Author.Needs.{needs}
+use Rattle.lmr5.proofs.lmr5_put.Statement.{statement}
+use Rattle.lmr5.proofs.lmr5_put.Tie as tie
+
+put-requires : tie.Need-put-requires
+put-requires c κs = search needs
+
+answer-of-requires : tie.Need-answer-of-requires
+answer-of-requires c κs = search needs
+
+same-length : tie.Need-same-length
+same-length c = search needs
+
+returns : tie.Need-returns
+returns c = call-numbered _ _ _ _ _ (c .before .before .before .put .ensures) (c .answer-of .ensures)
+
+pub lmr5-put-spec : {M : Type 1} → statement M
+lmr5-put-spec = tie.close (tie.spec put-requires answer-of-requires same-length returns)

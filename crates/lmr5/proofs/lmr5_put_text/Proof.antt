@@ -1,0 +1,21 @@
+-- `lmr5::lmr5_put_text` meets its contract.
+-- Assumes nothing.
+use Rattle.lmr5.proofs.Calls.{call-numbered}
+use borrow.Author.Needs.{needs}
+use Rattle.lmr5.proofs.lmr5_put_text.Statement.{statement}
+use Rattle.lmr5.proofs.lmr5_put_text.Tie as tie
+
+put-text-requires : tie.Need-put-text-requires
+put-text-requires c κs = search needs
+
+answer-of-requires : tie.Need-answer-of-requires
+answer-of-requires c κs = search needs
+
+same-length : tie.Need-same-length
+same-length c = search needs
+
+returns : tie.Need-returns
+returns c = call-numbered _ _ _ _ _ (c .before .before .before .put-text .ensures) (c .answer-of .ensures)
+
+pub lmr5-put-text-spec : {M : Type 1} → statement M
+lmr5-put-text-spec = tie.close (tie.spec put-text-requires answer-of-requires same-length returns)

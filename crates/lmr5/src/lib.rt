@@ -1,0 +1,289 @@
+// The calls for programs in C and other languages, over pointers and lengths. Each is one call of the crates below.
+ghost use mathlib.Core.Path.{_≡_};
+ghost use mathlib.Core.List.{[], _∷_, map};
+ghost use mathlib.Core.Option.{none, some};
+ghost use lib.ListN.{length};
+ghost use lib.IntN.{pos};
+ghost use Rattle.format.specs.Field.{scaled};
+ghost use Rattle.format.specs.Report.{judge};
+ghost use Rattle.format.specs.Machine as machine;
+ghost use Rattle.format.specs.Buffer.{effect};
+ghost use Rattle.format.specs.Whole as spec;
+ghost use Rattle.format.specs.Reply.{refusal, answerOf};
+ghost use Rattle.whole.specs.Answers.{contentsNumbers};
+ghost use Rattle.script.specs.Script.{Performs};
+ghost use Rattle.lmr5.specs.Numbered.{numbered, left, numberedAfter, judging, numberedWrote, word, opening, numberedUnpacked};
+use format::Reply;
+use format::Scaled;
+use report::Judged;
+use whole::Contents;
+use whole::Packed;
+use whole::Started;
+use whole::Unpacked;
+
+// What a call answers: the refusal's number and place, both 0 where it is accepted; then 0, or 1 and the value that it
+// gives, or 2 where a field or a flag is missing.
+#[repr(C)]
+pub struct Answer {
+    pub refusal: u32,
+    pub given: u32,
+    pub place: u64,
+    pub value: i64,
+}
+
+// How many calls of a script were performed, and how many bytes of script and log they took.
+#[repr(C)]
+pub struct Performed {
+    pub calls: u64,
+    pub taken: u64,
+    pub written: u64,
+}
+
+fn refused(n: u8, p: usize) -> Answer
+    ensures { λ r. ⌜ r ≡ numbered (refusal n p) ⌝ }
+{
+    Answer {
+        refusal: n as u32,
+        given: 0,
+        place: p as u64,
+        value: 0,
+    }
+}
+
+fn done() -> Answer
+    ensures { λ r. ⌜ r ≡ numbered (machine.accepted []) ⌝ }
+{
+    Answer {
+        refusal: 0,
+        given: 0,
+        place: 0,
+        value: 0,
+    }
+}
+
+fn missing() -> Answer
+    ensures { λ r. ⌜ r ≡ numbered (machine.accepted (none ∷ [])) ⌝ }
+{
+    Answer {
+        refusal: 0,
+        given: 2,
+        place: 0,
+        value: 0,
+    }
+}
+
+fn given(v: i64) -> Answer
+    ensures { λ r. ⌜ r ≡ numbered (machine.accepted (some v ∷ [])) ⌝ }
+{
+    Answer {
+        refusal: 0,
+        given: 1,
+        place: 0,
+        value: v,
+    }
+}
+
+fn counted(n: usize) -> Answer
+    ensures { λ r. ⌜ r ≡ numbered (machine.accepted (some (pos n) ∷ [])) ⌝ }
+{
+    given(words::signed_of(n as u64))
+}
+
+fn answer_of(r: Reply) -> Answer
+    ensures { λ a. ⌜ a ≡ numbered (answerOf r) ⌝ }
+{
+    match r {
+        Reply::Refused(n, p) => refused(n, p),
+        Reply::Done => done(),
+        Reply::Value(v) => {
+            let z = v.0;
+            given(z)
+        }
+        Reply::Flag(v) => given(v as i64),
+        Reply::Missing => missing(),
+        Reply::Count(n) => counted(n),
+    }
+}
+
+// ---- whole reports
+
+#[no_mangle]
+pub extern "C" fn lmr5_judge(report: &[u8]) -> Answer
+    ensures { λ r. ⌜ r ≡ numbered (judging (judge (now (report .entry)))) ⌝ }
+{
+    let j = report::judge(report);
+    match j {
+        Judged::Refused(n, p) => refused(n, p),
+        Judged::Accepted(size) => counted(size),
+    }
+}
+
+#[no_mangle]
+pub extern "C" fn lmr5_fresh(
+    box10: i64,
+    year: i64,
+    month: i64,
+    x: i64,
+    y: i64,
+    out: &mut [u8],
+) -> Answer
+    ensures { λ r. ⌜ record { answer = r; out = now (out .exit) } ≡ numberedWrote (spec.fresh (scaled box10) (scaled year) (scaled month) (scaled x) (scaled y) (now (out .entry))) ⌝ }
+{
+    let f = whole::fresh(
+        Scaled(box10),
+        Scaled(year),
+        Scaled(month),
+        Scaled(x),
+        Scaled(y),
+        out,
+    );
+    match f {
+        Started::Refused(n, p) => refused(n, p),
+        Started::Written => done(),
+    }
+}
+
+// Stores what unpacking gives beside the values and the tail: the presence word, fields present, RPTIN, AC, the size in
+// bytes, the tail in nibbles.
+fn store(c: Contents, contents: &mut [u64])
+    requires { ⌜ length (now contents) ≡ 6 ⌝ }
+    ensures { λ _. ⌜ now (contents .exit) ≡ map word (contentsNumbers c) ⌝ }
+{
+    contents[0] = c.word;
+    contents[1] = c.present as u64;
+    contents[2] = c.rptin as u64;
+    contents[3] = c.count as u64;
+    contents[4] = c.size as u64;
+    contents[5] = c.tail as u64;
+}
+
+#[no_mangle]
+pub extern "C" fn lmr5_unpack(
+    report: &[u8],
+    values: &mut [i64],
+    tail: &mut [u8],
+    contents: &mut [u64; 6],
+) -> Answer
+    ensures { λ r. ⌜ opening r (now (values .exit)) (now (tail .exit)) (now (contents .exit)) ≡ numberedUnpacked (spec.unpack (now (report .entry)) (now (values .entry)) (now (tail .entry))) (now (contents .entry)) ⌝ }
+{
+    let u = whole::unpack(report, values, tail);
+    match u {
+        Unpacked::Refused(n, p) => refused(n, p),
+        Unpacked::Given(c) => {
+            store(c, contents);
+            done()
+        }
+    }
+}
+
+#[no_mangle]
+pub extern "C" fn lmr5_pack(
+    values: &[i64],
+    word: u64,
+    rptin: u16,
+    tail: &[u8],
+    out: &mut [u8],
+) -> Answer
+    ensures { λ r. ⌜ record { answer = r; out = now (out .exit) } ≡ numberedWrote (spec.pack (now (values .entry)) word rptin (now (tail .entry)) (now (out .entry))) ⌝ }
+{
+    let p = whole::pack(values, word, rptin, tail, out);
+    match p {
+        Packed::Refused(n, k) => refused(n, k),
+        Packed::Written(size) => counted(size),
+    }
+}
+
+// ---- fields and flags
+
+#[no_mangle]
+pub extern "C" fn lmr5_read_field(report: &[u8], field: usize) -> Answer
+    ensures { λ r. ⌜ left r (now (report .entry)) [] ≡ numberedAfter (effect (now (report .entry)) (machine.readField field)) ⌝ }
+{
+    answer_of(fields::read_field(report, field))
+}
+
+#[no_mangle]
+pub extern "C" fn lmr5_set_field(report: &mut [u8], field: usize, value: i64) -> Answer
+    ensures { λ r. ⌜ left r (now (report .exit)) [] ≡ numberedAfter (effect (now (report .entry)) (machine.setField field (scaled value))) ⌝ }
+{
+    answer_of(fields::set_field(report, field, Scaled(value)))
+}
+
+#[no_mangle]
+pub extern "C" fn lmr5_clear_field(report: &mut [u8], field: usize) -> Answer
+    ensures { λ r. ⌜ left r (now (report .exit)) [] ≡ numberedAfter (effect (now (report .entry)) (machine.clearField field)) ⌝ }
+{
+    answer_of(fields::clear_field(report, field))
+}
+
+#[no_mangle]
+pub extern "C" fn lmr5_read_flag(report: &[u8], flag: usize) -> Answer
+    ensures { λ r. ⌜ left r (now (report .entry)) [] ≡ numberedAfter (effect (now (report .entry)) (machine.readFlag flag)) ⌝ }
+{
+    answer_of(fields::read_flag(report, flag))
+}
+
+#[no_mangle]
+pub extern "C" fn lmr5_set_flag(report: &mut [u8], flag: usize, value: usize) -> Answer
+    ensures { λ r. ⌜ left r (now (report .exit)) [] ≡ numberedAfter (effect (now (report .entry)) (machine.setFlag flag value)) ⌝ }
+{
+    answer_of(fields::set_flag(report, flag, value))
+}
+
+#[no_mangle]
+pub extern "C" fn lmr5_clear_flag(report: &mut [u8], flag: usize) -> Answer
+    ensures { λ r. ⌜ left r (now (report .exit)) [] ≡ numberedAfter (effect (now (report .entry)) (machine.clearFlag flag)) ⌝ }
+{
+    answer_of(fields::clear_flag(report, flag))
+}
+
+// ---- attachments and the ship text
+
+#[no_mangle]
+pub extern "C" fn lmr5_put(report: &mut [u8], id: usize, content: &[u8]) -> Answer
+    ensures { λ r. ⌜ left r (now (report .exit)) [] ≡ numberedAfter (effect (now (report .entry)) (machine.put id (now (content .entry)))) ⌝ }
+{
+    answer_of(attachments::put(report, id, content))
+}
+
+#[no_mangle]
+pub extern "C" fn lmr5_fetch(report: &[u8], id: usize, out: &mut [u8]) -> Answer
+    ensures { λ r. ⌜ left r (now (report .entry)) (now (out .exit)) ≡ numberedAfter (effect (now (report .entry)) (machine.fetch id (now (out .entry)))) ⌝ }
+{
+    answer_of(attachments::fetch(report, id, out))
+}
+
+#[no_mangle]
+pub extern "C" fn lmr5_drop(report: &mut [u8], id: usize) -> Answer
+    ensures { λ r. ⌜ left r (now (report .exit)) [] ≡ numberedAfter (effect (now (report .entry)) (machine.remove id)) ⌝ }
+{
+    answer_of(attachments::remove(report, id))
+}
+
+#[no_mangle]
+pub extern "C" fn lmr5_put_text(report: &mut [u8], text: &[u8]) -> Answer
+    ensures { λ r. ⌜ left r (now (report .exit)) [] ≡ numberedAfter (effect (now (report .entry)) (machine.putText (now (text .entry)))) ⌝ }
+{
+    answer_of(attachments::put_text(report, text))
+}
+
+#[no_mangle]
+pub extern "C" fn lmr5_fetch_text(report: &[u8], out: &mut [u8]) -> Answer
+    ensures { λ r. ⌜ left r (now (report .entry)) (now (out .exit)) ≡ numberedAfter (effect (now (report .entry)) (machine.fetchText (now (out .entry)))) ⌝ }
+{
+    answer_of(attachments::fetch_text(report, out))
+}
+
+// ---- a script of calls
+
+#[no_mangle]
+pub extern "C" fn lmr5_replay(report: &mut [u8], script: &[u8], log: &mut [u8]) -> Performed
+    ensures { λ r. ⌜ Performs (record { buffer = now (report .exit); log = now (log .exit); calls = r .calls; taken = r .taken; written = r .written }) (now (report .entry)) (now (script .entry)) (now (log .entry)) ⌝ }
+{
+    let p = list::replay(report, script, log);
+    Performed {
+        calls: p.calls as u64,
+        taken: p.taken as u64,
+        written: p.written as u64,
+    }
+}

@@ -1,0 +1,4 @@
+pub mod Numbers
+pub mod Scripts
+pub mod Examples
+pub mod Driver

@@ -1,0 +1,577 @@
+-- Laws of scripts: every list of calls has one, and how the driver goes through one.
+-- Assumes nothing.
+use Prim.Native.Nat.{ℕ, zero, suc, _+_, _-_, _^_, _≤_, _<_}
+use native.Mathlib.Nat.{add-assoc, add-zero, zero-add}
+use native.Mathlib.Omega.{arith}
+use mathlib.Core.Path.{_≡_, refl, sym, ap, ap₂, subst, _∙_}
+use mathlib.Core.Bool.{Bool, true, false, cond}
+use mathlib.Core.List.{List, [], _∷_, _++_, append-assoc, append-nil}
+use mathlib.Core.Option.{Option, none, some}
+use lib.ListN.{length, getD, take, drop, length-append, length-drop, List·getD-eq-default}
+use lib.Seq.{drop-drop, drop-at, take-at, take-append-seam, drop-append-seam, take-append-add, drop-append-add, length-take-le}
+use lib.Dec.{ltb, leb, eqb}
+use lib.IntN.{ℤ}
+use lib.Signed.{mag}
+use borrow.Author.Tests.{ltb-false, le-leb, lt-leb, leb-true}
+use Rattle.format.specs.Order.{Refusal, first}
+use Rattle.format.specs.Sheet.{Sheet, size}
+use Rattle.format.specs.Report.{Verdict, judge}
+use Rattle.format.specs.Machine.{Call, readField, setField, clearField, readFlag, setFlag, clearFlag, put, fetch, remove, putText, fetchText, next, lent, writes, roomCheck, callChecks, checks, Answer, refused, accepted, steppedBy, step, over}
+use Rattle.format.specs.Buffer.{after, Shown, shown, Ran, effectOn, effect, calls, claim}
+use Rattle.format.specs.Reply.{refusal}
+use Rattle.laws.proofs.Lists.{or-false}
+use Rattle.laws.proofs.Order.{first-none, first-append-none}
+use Rattle.laws.proofs.Bits.{Bytes, append-below}
+use Rattle.laws.proofs.List.{whole-list}
+use Rattle.script.specs.Script.{bytesOf, bytes8, Entry, entry, numberAt, bytesAt, kinds, within, entryAt, recordSize, logSize, nextIn, listOf, entryOf, scriptOf, Lent, Fits, AllFit, headOf, recordOf, records, Replayed, logged, replayed, Performs, idle, performed, turn}
+use Rattle.words.specs.Words.{signed, unsigned}
+use Rattle.script.proofs.Numbers.{length-bytes8, number-bytes8, signed-unsigned, unsigned-lt}
+
+-- ---- reading what was written
+
+module _ (p : List ℕ) (i : ℕ) (h : length p ≡ i) where
+  number-at : (n : ℕ) (more : List ℕ) → n < 2 ^ 64 → numberAt (p ++ (bytes8 n ++ more)) i ≡ n
+  number-at n more f = rw (drop-at p (bytes8 n ++ more) i h, take-at (bytes8 n) more 8 (length-bytes8 n)) (number-bytes8 n f)
+
+  bytes-at : (s more : List ℕ) → length s < 2 ^ 64 → bytesAt (p ++ (bytes8 (length s) ++ (s ++ more))) i ≡ s
+  bytes-at s more f =
+      rw (number-at (length s) (s ++ more) f, ← drop-drop 8 i (p ++ (bytes8 (length s) ++ (s ++ more))), drop-at p (bytes8 (length s) ++ (s ++ more)) i h, drop-at (bytes8 (length s)) (s ++ more) 8 (length-bytes8 (length s)))
+      (take-append-seam s more)
+
+-- ---- entries
+
+-- an entry of kind k that is whole; one that is cut off; one of no kind
+module _ (s : List ℕ) (k : ℕ) (e : Entry) (kind : getD s 0 0 ≡ k) (says : getD (kinds s) k none ≡ some e) where
+  pub entry-whole : e .taken ≤ length s → entryAt s ≡ some e
+  unfolding entryAt within
+  entry-whole h = rw (kind, says, le-leb (e .taken) (length s) h)
+
+  pub entry-cut : length s < e .taken → entryAt s ≡ none
+  unfolding entryAt within
+  entry-cut h = rw (kind, says, lt-leb (e .taken) (length s) h)
+
+pub entry-unknown : (s : List ℕ) → 12 ≤ getD s 0 0 → entryAt s ≡ none
+unfolding entryAt within kinds
+entry-unknown s h = rw (List·getD-eq-default (kinds s) none {n = getD s 0 0} h)
+
+pub entry-zero : (s : List ℕ) → getD s 0 0 ≡ 0 → entryAt s ≡ none
+unfolding entryAt within kinds
+entry-zero s h = rw h
+
+-- the four forms of an entry, and what stands behind it: one number; two; a number and counted bytes; counted bytes
+module _ (k : ℕ) (rest : List ℕ) where
+  one-number : (f : ℕ → Call) (x : ℕ) → x < 2 ^ 64
+      → (let s = k ∷ (bytes8 x ++ rest) in getD (kinds s) k none ≡ some (entry (f (numberAt s 1)) 9))
+      → entryAt (k ∷ (bytes8 x ++ rest)) ≡ some (entry (f x) (length (k ∷ bytes8 x)))
+  one-number f x h says =
+      let l = length-bytes8 x in
+      let n : 9 ≡ length (k ∷ bytes8 x) = omega arith in
+      entry-whole (k ∷ (bytes8 x ++ rest)) k _ refl says (simp length-append (omega arith))
+      ∙ ap₂ (λ (y m : ℕ). some (entry (f y) m)) (number-at (k ∷ []) 1 refl x rest h) n
+
+  two-numbers : (f : ℕ → ℕ → Call) (x y : ℕ) → x < 2 ^ 64 → y < 2 ^ 64
+      → (let s = k ∷ (bytes8 x ++ (bytes8 y ++ rest)) in getD (kinds s) k none ≡ some (entry (f (numberAt s 1) (numberAt s 9)) 17))
+      → entryAt (k ∷ (bytes8 x ++ (bytes8 y ++ rest))) ≡ some (entry (f x y) (length (k ∷ (bytes8 x ++ bytes8 y))))
+  two-numbers f x y h g says =
+      let l = length-bytes8 x in
+      let m = length-bytes8 y in
+      let n : 17 ≡ length (k ∷ (bytes8 x ++ bytes8 y)) = simp length-append (omega arith) in
+      let ex = number-at (k ∷ []) 1 refl x (bytes8 y ++ rest) h in
+      let ey = number-at (k ∷ bytes8 x) 9 (sym (omega arith)) y rest g in
+      entry-whole (k ∷ (bytes8 x ++ (bytes8 y ++ rest))) k _ refl says (simp length-append (omega arith))
+      ∙ ap₂ (λ (v w : ℕ). some (entry (f v w) 17)) ex ey
+      ∙ ap (λ (w : ℕ). some (entry (f x y) w)) n
+
+  counted : (f : ℕ → List ℕ → Call) (x : ℕ) (d : List ℕ) → x < 2 ^ 64 → length d < 2 ^ 64
+      → (let s = k ∷ (bytes8 x ++ (bytes8 (length d) ++ (d ++ rest))) in
+      getD (kinds s) k none ≡ some (entry (f (numberAt s 1) (bytesAt s 9)) (17 + numberAt s 9)))
+      → entryAt (k ∷ (bytes8 x ++ (bytes8 (length d) ++ (d ++ rest)))) ≡ some (entry (f x d) (length (k ∷ (bytes8 x ++ (bytes8 (length d) ++ d)))))
+  counted f x d h g says =
+      let s = k ∷ (bytes8 x ++ (bytes8 (length d) ++ (d ++ rest))) in
+      let l = length-bytes8 x in
+      let m = length-bytes8 (length d) in
+      let n : 17 + length d ≡ length (k ∷ (bytes8 x ++ (bytes8 (length d) ++ d))) = simp length-append (omega arith) in
+      let ex = number-at (k ∷ []) 1 refl x (bytes8 (length d) ++ (d ++ rest)) h in
+      let en = number-at (k ∷ bytes8 x) 9 (sym (omega arith)) (length d) (d ++ rest) g in
+      let ed = bytes-at (k ∷ bytes8 x) 9 (sym (omega arith)) d rest g in
+      entry-whole s k _ refl says (rw en (simp length-append (omega arith)))
+      ∙ ap₂ (λ (v : ℕ) (w : List ℕ). some (entry (f v w) (17 + numberAt s 9))) ex ed
+      ∙ ap (λ (w : ℕ). some (entry (f x d) w)) (ap (λ (w : ℕ). 17 + w) en ∙ n)
+
+  text : (f : List ℕ → Call) (d : List ℕ) → length d < 2 ^ 64
+      → (let s = k ∷ (bytes8 (length d) ++ (d ++ rest)) in getD (kinds s) k none ≡ some (entry (f (bytesAt s 1)) (9 + numberAt s 1)))
+      → entryAt (k ∷ (bytes8 (length d) ++ (d ++ rest))) ≡ some (entry (f d) (length (k ∷ (bytes8 (length d) ++ d))))
+  text f d g says =
+      let s = k ∷ (bytes8 (length d) ++ (d ++ rest)) in
+      let m = length-bytes8 (length d) in
+      let n : 9 + length d ≡ length (k ∷ (bytes8 (length d) ++ d)) = simp length-append (omega arith) in
+      let en = number-at (k ∷ []) 1 refl (length d) (d ++ rest) g in
+      let ed = bytes-at (k ∷ []) 1 refl d rest g in
+      entry-whole s k _ refl says (rw en (simp length-append (omega arith)))
+      ∙ ap₂ (λ (v : List ℕ) (w : ℕ). some (entry (f v) (9 + w))) ed en
+      ∙ ap (λ (w : ℕ). some (entry (f d) w)) n
+
+-- an entry that was written is read back, whatever stands behind it
+pub entry-back : (c : Call) (rest : List ℕ) → Fits c → entryAt (entryOf c ++ rest) ≡ some (entry c (length (entryOf c)))
+unfolding entryOf Fits kinds
+entry-back (readField k) rest h = one-number 1 rest readField k h refl
+entry-back (setField k v) rest h =
+    rw append-assoc
+    (two-numbers 2 rest (λ (x y : ℕ). setField x (record { 0 = signed y })) k (unsigned (v .0)) (h .0) (unsigned-lt (v .0) (h .1)) refl
+    ∙ ap (λ (z : ℤ). some (entry (setField k (record { 0 = z })) (length (2 ∷ (bytes8 k ++ bytes8 (unsigned (v .0))))))) (signed-unsigned (v .0) (h .1)))
+entry-back (clearField k) rest h = one-number 3 rest clearField k h refl
+entry-back (readFlag j) rest h = one-number 4 rest readFlag j h refl
+entry-back (setFlag j v) rest h = rw append-assoc (two-numbers 5 rest setFlag j v (h .0) (h .1) refl)
+entry-back (clearFlag j) rest h = one-number 6 rest clearFlag j h refl
+entry-back (put i ns) rest h = simp append-assoc (counted 7 rest put i ns (h .0) (h .1 .0) refl)
+entry-back (fetch i out) rest h = simp append-assoc (counted 8 rest fetch i out (h .0) (h .1 .0) refl)
+entry-back (remove i) rest h = one-number 9 rest remove i h refl
+entry-back (putText t) rest h = rw append-assoc (text 10 rest putText t (h .0) refl)
+entry-back (fetchText out) rest h = rw append-assoc (text 11 rest fetchText out (h .0) refl)
+
+-- a property of each entry of a list is one of the entry at k
+abbrev Each : (Entry → Type 0) → List (Option Entry) → Type 0
+Each P [] = Unit {0}
+Each P (none ∷ more) = Each P more
+Each P (some e ∷ more) = P e × Each P more
+
+of-each : (P : Entry → Type 0) (os : List (Option Entry)) (k : ℕ) (e : Entry) → Each P os → getD os k none ≡ some e → P e
+of-each P [] k e h q = let z : _≡_ {A = ℕ} 0 1 = cc in absurd (omega arith)
+of-each P (none ∷ more) zero e h q = let z : _≡_ {A = ℕ} 0 1 = cc in absurd (omega arith)
+of-each P (none ∷ more) (suc k) e h q = of-each P more k e h q
+of-each P (some d ∷ more) zero e h q = let r : d ≡ e = cc in subst P r (h .0)
+of-each P (some d ∷ more) (suc k) e h q = of-each P more k e (h .1) q
+
+-- an entry's bytes: at least its kind and a number; and, where it is whole, as many as are written for its call
+record Sized (s : List ℕ) (e : Entry) : Type 0 where
+  some-bytes : 9 ≤ e .taken
+  as-written : e .taken ≤ length s → length (entryOf (e .call)) ≡ e .taken
+
+module _ (s : List ℕ) where
+  one-sized : (k x : ℕ) {c : Call} → entryOf c ≡ k ∷ bytes8 x → Sized s (entry c 9)
+  one-sized k x e = record { some-bytes = omega arith; as-written = λ w. rw (e, length-bytes8) }
+
+  two-sized : (k x y : ℕ) {c : Call} → entryOf c ≡ k ∷ (bytes8 x ++ bytes8 y) → Sized s (entry c 17)
+  two-sized k x y e = record { some-bytes = omega arith; as-written = λ w. rw e (simp (length-append, length-bytes8)) }
+
+  -- counted bytes behind a number at i
+  counted-sized : (i : ℕ) {c : Call} → 1 ≤ i → length (entryOf c) ≡ i + 8 + length (bytesAt s i) → Sized s (entry c (i + 8 + numberAt s i))
+  counted-sized i h e =
+      record {
+        some-bytes = omega arith;
+        as-written = λ w. e ∙ ap (λ (n : ℕ). i + 8 + n) (length-take-le (numberAt s i) (drop (i + 8) s) (simp length-drop (omega arith)));
+      }
+
+  long-sized : (k x : ℕ) {c : Call} → entryOf c ≡ k ∷ (bytes8 x ++ (bytes8 (length (bytesAt s 9)) ++ bytesAt s 9)) → Sized s (entry c (17 + numberAt s 9))
+  long-sized k x e = counted-sized 9 (omega arith) (rw e (simp (length-append, length-bytes8) (omega arith)))
+
+  short-sized : (k : ℕ) {c : Call} → entryOf c ≡ k ∷ (bytes8 (length (bytesAt s 1)) ++ bytesAt s 1) → Sized s (entry c (9 + numberAt s 1))
+  short-sized k e = counted-sized 1 (omega arith) (rw e (simp (length-append, length-bytes8) (omega arith)))
+
+  kinds-sized : Each (Sized s) (kinds s)
+  unfolding kinds entryOf
+  kinds-sized =
+      let n = numberAt s 1 in
+      let m = numberAt s 9 in
+      (one-sized 1 n refl, (two-sized 2 n (unsigned (signed m)) refl, (one-sized 3 n refl, (one-sized 4 n refl, (two-sized 5 n m refl, (one-sized 6 n refl, (long-sized 7 n refl, (long-sized 8 n refl, (one-sized 9 n refl, (short-sized 10 refl, (short-sized 11 refl, tt)))))))))))
+
+-- ---- the next entry
+
+module _ (wants : Entry → ℕ) (n : ℕ) where
+  within-some : (o : Option Entry) (e : Entry) → within wants n o ≡ some e → (o ≡ some e) × (wants e ≤ n)
+  unfolding within
+  within-some none e q = let z : _≡_ {A = ℕ} 0 1 = cc in absurd (omega arith)
+  within-some (some d) e q = go (leb (wants d) n) refl q
+    where
+      go : (t : Bool) → leb (wants d) n ≡ t → cond t (some d) none ≡ some e → (some d ≡ some e) × (wants e ≤ n)
+      go true f q = let r : d ≡ e = cc in (q, rw r at (leb-true (wants d) n f))
+      go false f q = let z : _≡_ {A = ℕ} 0 1 = cc in absurd (omega arith)
+
+-- it takes at least 9 bytes of the script and all that are written for its call; its record fits the room
+pub record Next (room : ℕ) (s : List ℕ) (e : Entry) : Type 0 where
+  pub there : entryAt s ≡ some e
+  pub some-bytes : 9 ≤ e .taken
+  pub whole : e .taken ≤ length s
+  pub as-written : length (entryOf (e .call)) ≡ e .taken
+  pub fits : recordSize (e .call) ≤ room
+
+pub next-some : (room : ℕ) (s : List ℕ) (e : Entry) → nextIn room s ≡ some e → Next room s e
+unfolding nextIn entryAt
+next-some room s e q =
+    let n = within-some (λ (d : Entry). recordSize (d .call)) room (entryAt s) e q in
+    let w = within-some (λ (d : Entry). d .taken) (length s) (getD (kinds s) (getD s 0 0) none) e (n .0) in
+    let z = of-each (Sized s) (kinds s) (getD s 0 0) e (kinds-sized s) (w .0) in
+    record { there = n .0; some-bytes = z .some-bytes; whole = w .1; as-written = z .as-written (w .1); fits = n .1 }
+
+-- the entry at the head is next if its record fits; if not, or if there is none, none is
+module _ (room : ℕ) (s : List ℕ) where
+  pub next-in : (e : Entry) → entryAt s ≡ some e → recordSize (e .call) ≤ room → nextIn room s ≡ some e
+  unfolding nextIn within
+  next-in e q h = rw (q, le-leb (recordSize (e .call)) room h)
+
+  pub next-full : (e : Entry) → entryAt s ≡ some e → room < recordSize (e .call) → nextIn room s ≡ none
+  unfolding nextIn within
+  next-full e q h = rw (q, lt-leb (recordSize (e .call)) room h)
+
+  pub next-none : entryAt s ≡ none → nextIn room s ≡ none
+  unfolding nextIn within
+  next-none q = rw q
+
+-- ---- the list of a script
+
+pub list-nil : (fuel room : ℕ) (s : List ℕ) → nextIn room s ≡ none → listOf fuel room s ≡ []
+unfolding listOf
+list-nil zero room s q = refl
+list-nil (suc fuel) room s q = rw (q, listOf)
+
+list-suc : (fuel room : ℕ) (s : List ℕ) (e : Entry) → nextIn room s ≡ some e
+    → listOf (suc fuel) room s ≡ e .call ∷ listOf fuel (room - recordSize (e .call)) (drop (e .taken) s)
+unfolding listOf
+list-suc fuel room s e q = rw (q, listOf)
+
+list-empty : (fuel room : ℕ) (s : List ℕ) → length s ≤ 0 → listOf fuel room s ≡ []
+list-empty fuel room [] h = list-nil fuel room [] (next-none room [] (entry-zero [] refl))
+list-empty fuel room (x ∷ s) h = absurd (omega arith)
+
+-- fuel does not matter once it is the script's length
+pub list-fuel : (f g room : ℕ) (s : List ℕ) → length s ≤ f → length s ≤ g → listOf f room s ≡ listOf g room s
+list-fuel zero g room s hf hg = list-empty zero room s hf ∙ sym (list-empty g room s hf)
+list-fuel (suc f) zero room s hf hg = list-empty (suc f) room s hg ∙ sym (list-empty zero room s hg)
+list-fuel (suc f) (suc g) room s hf hg = go (nextIn room s) refl (list-fuel f g)
+  where
+    go : (o : Option Entry) → nextIn room s ≡ o → ((r : ℕ) (d : List ℕ) → length d ≤ f → length d ≤ g → listOf f r d ≡ listOf g r d)
+        → listOf (suc f) room s ≡ listOf (suc g) room s
+    go none q rec = list-nil (suc f) room s q ∙ sym (list-nil (suc g) room s q)
+    go (some e) q rec =
+        let n = next-some room s e q in
+        let l = length-drop (e .taken) s in
+        list-suc f room s e q
+        ∙ ap (λ (cs : List Call). e .call ∷ cs) (rec (room - recordSize (e .call)) (drop (e .taken) s) (omega arith) (omega arith))
+        ∙ sym (list-suc g room s e q)
+
+-- the first call, and the list of what is behind it
+pub list-cons : (room : ℕ) (s : List ℕ) (e : Entry) → nextIn room s ≡ some e
+    → (let rest = drop (e .taken) s in listOf (length s) room s ≡ e .call ∷ listOf (length rest) (room - recordSize (e .call)) rest)
+list-cons room s e q =
+    let rest = drop (e .taken) s in
+    let l = length-drop (e .taken) s in
+    let n = next-some room s e q in
+    list-fuel (length s) (suc (length s)) room s (omega arith) (omega arith)
+    ∙ list-suc (length s) room s e q
+    ∙ ap (λ (cs : List Call). e .call ∷ cs) (list-fuel (length s) (length rest) (room - recordSize (e .call)) rest (omega arith) (omega arith))
+
+-- the records of a script's list fit the room
+pub list-room : (fuel room : ℕ) (s : List ℕ) → logSize (listOf fuel room s) ≤ room
+unfolding listOf logSize
+list-room zero room s = omega arith
+list-room (suc fuel) room s = go (nextIn room s) refl (list-room fuel)
+  where
+    go : (o : Option Entry) → nextIn room s ≡ o → ((r : ℕ) (d : List ℕ) → logSize (listOf fuel r d) ≤ r) → logSize (listOf (suc fuel) room s) ≤ room
+    go none q rec = rw (list-nil (suc fuel) room s q) (omega arith)
+    go (some e) q rec =
+        let n = next-some room s e q in
+        let h = rec (room - recordSize (e .call)) (drop (e .taken) s) in
+        rw (list-suc fuel room s e q) (omega arith)
+
+-- EVERY LIST HAS A SCRIPT: the script of a list is read as that list, and then as the list of what is behind it
+pub script-list : (cs : List Call) (room : ℕ) (rest : List ℕ) → AllFit cs → logSize cs ≤ room
+    → (let s = scriptOf cs ++ rest in listOf (length s) room s ≡ cs ++ listOf (length rest) (room - logSize cs) rest)
+unfolding scriptOf AllFit logSize
+script-list [] room rest f h = let e : room - 0 ≡ room = omega arith in rw e
+script-list (c ∷ cs) room rest f h =
+    let s = entryOf c ++ (scriptOf cs ++ rest) in
+    let e = entry c (length (entryOf c)) in
+    let q = next-in room s e (entry-back c (scriptOf cs ++ rest) (f .0)) (omega arith) in
+    let d : room - recordSize c - logSize cs ≡ room - (recordSize c + logSize cs) = omega arith in
+    rw append-assoc
+    (list-cons room s e q
+    ∙ ap (λ (x : List Call). c ∷ x)
+    (rw (drop-append-seam (entryOf c) (scriptOf cs ++ rest), ← d) (script-list cs (room - recordSize c) rest (f .1) (omega arith))))
+
+-- with nothing behind it, and with a byte 0, that ends the list
+pub script-alone : (cs : List Call) (room : ℕ) → AllFit cs → logSize cs ≤ room → listOf (length (scriptOf cs)) room (scriptOf cs) ≡ cs
+script-alone cs room f h =
+    rw append-nil at (script-list cs room [] f h)
+    ∙ ap (λ (x : List Call). cs ++ x) (list-empty 0 (room - logSize cs) [] (omega arith))
+    ∙ append-nil cs
+
+pub script-ended : (cs : List Call) (room : ℕ) (rest : List ℕ) → AllFit cs → logSize cs ≤ room
+    → (let s = scriptOf cs ++ (0 ∷ rest) in listOf (length s) room s ≡ cs)
+script-ended cs room rest f h =
+    script-list cs room (0 ∷ rest) f h
+    ∙ ap (λ (x : List Call). cs ++ x) (list-nil (length (0 ∷ rest)) (room - logSize cs) (0 ∷ rest) (next-none (room - logSize cs) (0 ∷ rest) (entry-zero (0 ∷ rest) refl)))
+    ∙ append-nil cs
+
+-- it is a script of bytes
+bytesOf-bytes : (w n : ℕ) → Bytes (bytesOf w n)
+unfolding bytesOf
+bytesOf-bytes zero n i = omega arith
+bytesOf-bytes (suc w) n zero = omega arith
+bytesOf-bytes (suc w) n (suc i) = bytesOf-bytes w n i
+
+bytes8-bytes : (n : ℕ) → Bytes (bytes8 n)
+unfolding bytes8
+bytes8-bytes n = bytesOf-bytes 8 n
+
+counted-bytes : (d : List ℕ) → Lent d → Bytes (bytes8 (length d) ++ d)
+counted-bytes d h = append-below 256 (bytes8 (length d)) d (bytes8-bytes (length d)) (h .1)
+
+-- the forms of an entry: a number alone, and a number before other bytes
+alone : (k x : ℕ) → k < 256 → Bytes (k ∷ bytes8 x)
+alone k x h zero = h
+alone k x h (suc i) = bytes8-bytes x i
+
+before : (k x : ℕ) (s : List ℕ) → k < 256 → Bytes s → Bytes (k ∷ (bytes8 x ++ s))
+before k x s h f = append-below 256 (k ∷ bytes8 x) s (alone k x h) f
+
+entry-bytes : (c : Call) → Fits c → Bytes (entryOf c)
+unfolding entryOf Fits
+entry-bytes (readField k) h = alone 1 k (omega arith)
+entry-bytes (setField k v) h = before 2 k (bytes8 (unsigned (v .0))) (omega arith) (bytes8-bytes (unsigned (v .0)))
+entry-bytes (clearField k) h = alone 3 k (omega arith)
+entry-bytes (readFlag j) h = alone 4 j (omega arith)
+entry-bytes (setFlag j v) h = before 5 j (bytes8 v) (omega arith) (bytes8-bytes v)
+entry-bytes (clearFlag j) h = alone 6 j (omega arith)
+entry-bytes (put i ns) h = before 7 i (bytes8 (length ns) ++ ns) (omega arith) (counted-bytes ns (h .1))
+entry-bytes (fetch i out) h = before 8 i (bytes8 (length out) ++ out) (omega arith) (counted-bytes out (h .1))
+entry-bytes (remove i) h = alone 9 i (omega arith)
+entry-bytes (putText t) h = before 10 (length t) t (omega arith) (h .1)
+entry-bytes (fetchText out) h = before 11 (length out) out (omega arith) (h .1)
+
+pub script-bytes : (cs : List Call) → AllFit cs → Bytes (scriptOf cs)
+unfolding scriptOf AllFit
+script-bytes [] f = λ i. omega arith
+script-bytes (c ∷ cs) f = append-below 256 (entryOf c) (scriptOf cs) (entry-bytes c (f .0)) (script-bytes cs (f .1))
+
+-- ---- the log cuts nothing: an answer within 64 bits is read back from its record
+
+unfoldable pub answerAt : List ℕ → Answer
+answerAt s =
+    cond (eqb (getD s 0 0) 0) (refusal (getD s 1 0) (numberAt s 2))
+    (cond (eqb (getD s 0 0) 1) (accepted [])
+    (cond (eqb (getD s 0 0) 2) (accepted (some (signed (numberAt s 2)) ∷ [])) (accepted (none ∷ []))))
+
+abbrev pub AnswerFits : Answer → Type 0
+AnswerFits (refused r) = r .place < 2 ^ 64
+AnswerFits (accepted []) = Unit {0}
+AnswerFits (accepted (some z ∷ [])) = mag z < 2 ^ 63
+AnswerFits (accepted (none ∷ [])) = Unit {0}
+AnswerFits (accepted (x ∷ y ∷ more)) = ⊥
+
+pub answer-back : (a : Answer) (out : List ℕ) → AnswerFits a → answerAt (recordOf (shown a out)) ≡ a
+unfolding answerAt recordOf headOf
+answer-back (refused r) out h = rw (number-at (0 ∷ r .number ∷ []) 2 refl (r .place) out h)
+answer-back (accepted []) out h = refl
+answer-back (accepted (some z ∷ [])) out h = rw (number-at (2 ∷ 0 ∷ []) 2 refl (unsigned z) out (unsigned-lt z h), signed-unsigned z h)
+answer-back (accepted (none ∷ [])) out h = refl
+answer-back (accepted (x ∷ y ∷ more)) out h = absurd h
+
+-- ---- lengths
+
+pub head-length : (a : Answer) → length (headOf a) ≡ 10
+unfolding headOf
+head-length (refused r) = rw length-bytes8
+head-length (accepted []) = rw length-bytes8
+head-length (accepted (some z ∷ more)) = rw length-bytes8
+head-length (accepted (none ∷ more)) = rw length-bytes8
+
+pub record-length : (a : Shown) → length (recordOf a) ≡ 10 + length (a .out)
+unfolding recordOf
+record-length a = simp (length-append, head-length)
+
+-- no call changes the length of its output
+step-out : (n : ℕ) (s : Sheet) (c : Call) → length (step n s c .out) ≡ length (lent c)
+unfolding step
+step-out n s c = go (first (checks n s c)) refl
+  where
+    go : (o : Option Refusal) → first (checks n s c) ≡ o → length (steppedBy o s c .out) ≡ length (lent c)
+    go (some r) q = refl
+    go none q =
+        let f = first-append-none (callChecks s c) (roomCheck n s c ∷ []) (unfold checks in q) in
+        let room = or-false (ltb n (size (next s c))) (ltb (length (lent c)) (length (writes s c))) (first-none (roomCheck n s c) [] (f .1) .0) in
+        let fits = ltb-false (length (lent c)) (length (writes s c)) (room .1) in
+        simp (length-append, length-drop) (omega arith)
+
+pub effect-out : (b : List ℕ) (c : Call) → length (effect b c .out) ≡ length (lent c)
+unfolding effect
+effect-out b c = go (judge b)
+  where
+    go : (v : Verdict) → length (effectOn v b c .out) ≡ length (lent c)
+    go (Verdict.refused r) = refl
+    go (Verdict.accepted s) = step-out (length b) s c
+
+-- a call's answer and output
+abbrev pub shownOf : List ℕ → Call → Shown
+shownOf b c = shown (effect b c .answer) (effect b c .out)
+
+pub record-size : (b : List ℕ) (c : Call) → length (recordOf (shownOf b c)) ≡ recordSize c
+unfolding recordSize
+record-size b c = record-length (shownOf b c) ∙ ap (λ (n : ℕ). 10 + n) (effect-out b c)
+
+pub records-size : (b : List ℕ) (cs : List Call) → length (records (calls b cs .answers)) ≡ logSize cs
+unfolding records calls logSize
+records-size b [] = refl
+records-size b (c ∷ cs) =
+    rw (length-append (recordOf (shownOf b c)) (records (calls (effect b c .buffer) cs .answers)), record-size b c, records-size (effect b c .buffer) cs)
+
+-- ---- the driver
+
+-- what the calls of a script leave, each on the buffer as the one before left it
+unfoldable pub finish : List ℕ → List ℕ → List ℕ → Replayed
+finish b script log =
+    let cs = listOf (length script) (length log) script in
+    logged cs (calls b cs) log
+
+-- it is what is claimed
+pub replay-claim : (b script log : List ℕ) → Bytes b → finish b script log ≡ replayed b script log
+unfolding finish replayed
+replay-claim b script log h =
+    let cs = listOf (length script) (length log) script in
+    ap (λ (r : Ran). logged cs r log) (whole-list b cs h)
+
+-- and it is claimed of every list that has this script
+pub performs : (r : Replayed) (b script log : List ℕ) → r ≡ replayed b script log → Performs r b script log
+unfolding replayed
+performs r b script log h = record { of-script = h; of-list = λ cs f e g. h ∙ of cs f e g }
+  where
+    of : (cs : List Call) → AllFit cs → scriptOf cs ≡ script → logSize cs ≤ length log → replayed b script log ≡ logged cs (claim b cs) log
+    of cs f e g = rw (← e, script-alone cs (length log) f g)
+
+-- a part of the log that stands already, and what comes behind it
+abbrev pub behind : List ℕ → ℕ → ℕ → Replayed → Replayed
+behind front n at r =
+    record { buffer = r .buffer; log = front ++ r .log; calls = n + r .calls; taken = at + r .taken; written = length front + r .written }
+
+-- no entry is next
+pub finish-end : (b script log : List ℕ) → nextIn (length log) script ≡ none
+    → finish b script log ≡ idle b log
+unfolding finish calls records scriptOf
+finish-end b script log q = rw (list-nil (length script) (length log) script q)
+
+-- one is: a list's first call, its record, and what the rest leaves
+logged-cons : (b : List ℕ) (c : Call) (cs : List Call) (log : List ℕ)
+    → (let a = recordOf (shownOf b c) in
+    logged (c ∷ cs) (calls b (c ∷ cs)) log ≡ behind a 1 (length (entryOf c)) (logged cs (calls (effect b c .buffer) cs) (drop (length a) log)))
+unfolding calls records scriptOf
+logged-cons b c cs log =
+    let a = recordOf (shownOf b c) in
+    let r = records (calls (effect b c .buffer) cs .answers) in
+    let n : suc (length cs) ≡ 1 + length cs = omega arith in
+    rw (append-assoc a r (drop (length (a ++ r)) log), length-append a r, length-append (entryOf c) (scriptOf cs), drop-drop (length r) (length a) log, n)
+
+pub finish-next : (b script log : List ℕ) (e : Entry) → nextIn (length log) script ≡ some e
+    → (let a = recordOf (shownOf b (e .call)) in
+    finish b script log ≡ behind a 1 (e .taken) (finish (effect b (e .call) .buffer) (drop (e .taken) script) (drop (length a) log)))
+unfolding finish
+finish-next b script log e q =
+    let a = recordOf (shownOf b (e .call)) in
+    let left : length log - recordSize (e .call) ≡ length (drop (length a) log) =
+    ap (λ (n : ℕ). length log - n) (sym (record-size b (e .call))) ∙ sym (length-drop (length a) log) in
+    rw (list-cons (length log) script e q, left, ← next-some (length log) script e q .as-written)
+    (logged-cons b (e .call) _ log)
+
+-- ---- the driver's turn, at each return
+
+module _ (b script log : List ℕ) where
+  pub turn-idle : nextIn (length log) script ≡ none → idle b log ≡ turn b script log
+  unfolding turn
+  turn-idle q = rw (q, turn)
+
+  turn-next : (e : Entry) → nextIn (length log) script ≡ some e → turn b script log ≡ performed b e log
+  unfolding turn
+  turn-next e q = rw (q, turn)
+
+  pub turn-done : (e : Entry) (a : Answer) (b′ out log′ : List ℕ) → nextIn (length log) script ≡ some e
+      → after a b′ out ≡ effect b (e .call)
+      → log′ ≡ over (headOf a ++ out) log
+      → record { buffer = b′; log = log′; calls = 1; taken = e .taken; written = recordSize (e .call) } ≡ turn b script log
+  unfolding recordOf
+  turn-done e a b′ out log′ q f w = rw (turn-next e q, ← f, w)
+
+-- its sizes, and what it leaves to do
+pub record Turned (b script log : List ℕ) (t : Replayed) : Type 0 where
+  pub within : t .taken ≤ length script
+  pub room : t .written ≤ length log
+  pub counted : t .calls ≤ t .taken
+  pub log-length : length (t .log) ≡ length log
+  pub left : finish b script log
+      ≡ behind (take (t .written) (t .log)) (t .calls) (t .taken) (finish (t .buffer) (drop (t .taken) script) (drop (t .written) (t .log)))
+  pub ended : t .taken ≡ 0 → finish b script log ≡ idle (t .buffer) (t .log)
+
+behind-nothing : (r : Replayed) → r ≡ behind [] 0 0 r
+behind-nothing r = rw (zero-add (r .calls), zero-add (r .taken), zero-add (r .written))
+
+pub turned : (b script log : List ℕ) (t : Replayed) → t ≡ turn b script log → Turned b script log t
+turned b script log t h = subst (Turned b script log) (sym h) (go (nextIn (length log) script) refl)
+  where
+    go : (o : Option Entry) → nextIn (length log) script ≡ o → Turned b script log (turn b script log)
+    go none q =
+        rw (← turn-idle b script log q)
+        (record {
+          within = omega arith;
+          room = omega arith;
+          counted = omega arith;
+          log-length = refl;
+          left = behind-nothing (finish b script log);
+          ended = λ z. finish-end b script log q;
+        })
+    go (some e) q =
+        let n = next-some (length log) script e q in
+        let a = recordOf (shownOf b (e .call)) in
+        let l = record-size b (e .call) in
+        rw (turn-next b script log e q)
+        (record {
+          within = n .whole;
+          room = n .fits;
+          counted = omega arith;
+          log-length = simp (length-append, length-drop) (omega arith);
+          left = rw (take-at a (drop (length a) log) (recordSize (e .call)) l, drop-at a (drop (length a) log) (recordSize (e .call)) l) (finish-next b script log e q);
+          ended = λ z. absurd (omega arith);
+        })
+
+-- ---- what the driver's loop keeps: what stands in the log, and what the rest of the script will leave, are the whole
+
+behind-behind : (p q : List ℕ) (m n i j : ℕ) (r : Replayed) → behind p m i (behind q n j r) ≡ behind (p ++ q) (m + n) (i + j) r
+behind-behind p q m n i j r =
+    rw (length-append p q, append-assoc p q (r .log), add-assoc m n (r .calls), add-assoc i j (r .taken), add-assoc (length p) (length q) (r .written))
+
+pub record Kept (b₀ script log₀ b log : List ℕ) (n at to : ℕ) : Type 0 where
+  pub within : at ≤ length script
+  pub room : to ≤ length log
+  pub counted : n ≤ at
+  pub log-length : length log ≡ length log₀
+  pub left : finish b₀ script log₀ ≡ behind (take to log) n at (finish b (drop at script) (drop to log))
+
+pub kept-start : (b script log : List ℕ) → Kept b script log b log 0 0 0
+kept-start b script log =
+    record { within = omega arith; room = omega arith; counted = omega arith; log-length = refl; left = behind-nothing (finish b script log) }
+
+module _ (b₀ script log₀ b log : List ℕ) (n at to : ℕ) (k : Kept b₀ script log₀ b log n at to) (t : Replayed) (h : t ≡ turn b (drop at script) (drop to log)) where
+  pub kept-turn : Kept b₀ script log₀ (t .buffer) (take to log ++ t .log) (n + t .calls) (at + t .taken) (to + t .written)
+  kept-turn =
+      let u = turned b (drop at script) (drop to log) t h in
+      let s = length-drop at script in
+      let d = length-drop to log in
+      let f : length (take to log) ≡ to = length-take-le to log (k .room) in
+      let m = length-append (take to log) (t .log) in
+      let front : take (to + t .written) (take to log ++ t .log) ≡ take to log ++ take (t .written) (t .log) =
+      rw f at (take-append-add (take to log) (t .log) (t .written)) in
+      let rest : drop (to + t .written) (take to log ++ t .log) ≡ drop (t .written) (t .log) =
+      rw f at (drop-append-add (take to log) (t .log) (t .written)) in
+      record {
+        within = omega arith;
+        room = omega arith;
+        counted = omega arith;
+        log-length = omega arith;
+        left =
+            rw (front, rest, ← drop-drop (t .taken) at script)
+            (k .left
+            ∙ ap (behind (take to log) n at) (u .left)
+            ∙ behind-behind (take to log) (take (t .written) (t .log)) n (t .calls) at (t .taken) _);
+      }
+
+  pub kept-end : t .taken ≡ 0 → record { buffer = t .buffer; log = take to log ++ t .log; calls = n; taken = at; written = to } ≡ finish b₀ script log₀
+  kept-end z =
+      let u = turned b (drop at script) (drop to log) t h in
+      let f : length (take to log) ≡ to = length-take-le to log (k .room) in
+      rw (k .left, u .ended z, f, add-zero n, add-zero at, add-zero to)

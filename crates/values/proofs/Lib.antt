@@ -1,0 +1,4 @@
+pub mod Runs
+pub mod Shown
+pub mod Given
+pub mod Tests

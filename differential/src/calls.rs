@@ -1,0 +1,193 @@
+//! Calls drawn at random, their arguments often at an edge.
+
+use reference::attachment::Attachment;
+use reference::call::Call;
+use reference::card::CARD_NIBBLES;
+use reference::cases::calls::WIDE_NUMBERS;
+use reference::cases::material::{random_body, random_text};
+use reference::cases::random::random_call;
+use reference::machine;
+use reference::prng::Prng;
+use reference::sheet::Sheet;
+use reference::table::field;
+use reference::text;
+
+use crate::reports::{changed_body, near_edge};
+
+/// Some calls in turn on a sheet; n is the buffer's length.
+pub fn list(prng: &mut Prng, sheet: &Sheet, n: usize) -> Vec<Call> {
+    let mut sheet = sheet.clone();
+    let mut calls = Vec::new();
+    for _ in 0..prng.pick(&[1, 2, 3, 5, 8, 13, 21]) {
+        let call = match calls.last() {
+            Some(last) if prng.one_in(3) => follow(prng, last),
+            _ => call(prng, &sheet, n),
+        };
+        sheet = machine::step(&sheet, n, &call).0;
+        calls.push(call);
+    }
+    calls
+}
+
+/// A call on what the last call was on.
+fn follow(prng: &mut Prng, last: &Call) -> Call {
+    let output = prng.bytes(255);
+    match *last {
+        Call::SetField { field, .. } | Call::ClearField { field } => Call::ReadField { field },
+        Call::SetFlag { flag, .. } | Call::ClearFlag { flag } => Call::ReadFlag { flag },
+        Call::ReadField { field } => Call::ClearField { field },
+        Call::ReadFlag { flag } => Call::ClearFlag { flag },
+        Call::Put { id, .. } if prng.one_in(3) => Call::Drop { id },
+        Call::Put { id, .. } | Call::Drop { id } => Call::Fetch { id, output },
+        Call::Fetch { id, .. } => Call::Drop { id },
+        Call::PutText { .. } => Call::FetchText { output },
+        Call::FetchText { ref output } => Call::PutText {
+            text: output.clone(),
+        },
+    }
+}
+
+/// A call that fits a sheet or just does not.
+pub fn call(prng: &mut Prng, sheet: &Sheet, n: usize) -> Call {
+    let mut call = random_call(prng, sheet, n);
+    if prng.one_in(4) {
+        vary(prng, &mut call, sheet, n);
+    }
+    call
+}
+
+/// Moves one argument to an edge.
+fn vary(prng: &mut Prng, call: &mut Call, sheet: &Sheet, n: usize) {
+    match call {
+        Call::SetField {
+            field: number,
+            value,
+        } if prng.one_in(2) => {
+            let near = field(*number).and_then(|field| near_edge(prng, field));
+            *value = near.unwrap_or_else(|| edge_value(prng));
+        }
+        Call::SetField { value, .. } | Call::SetFlag { value, .. } if prng.one_in(2) => {
+            *value = edge_value(prng);
+        }
+        Call::ReadField { field: number }
+        | Call::SetField { field: number, .. }
+        | Call::ClearField { field: number }
+        | Call::ReadFlag { flag: number }
+        | Call::SetFlag { flag: number, .. }
+        | Call::ClearFlag { flag: number }
+        | Call::Drop { id: number } => *number = edge_number(prng),
+        Call::Put { id, content } => vary_put(prng, id, content),
+        Call::Fetch { id, output } => {
+            if prng.one_in(4) {
+                *id = edge_number(prng);
+            } else {
+                let length = sheet.content(*id).map_or(0, <[u8]>::len);
+                *output = edge_output(prng, length);
+            }
+        }
+        Call::FetchText { output } => {
+            let text = sheet.content(u64::from(text::ID)).and_then(text::read);
+            *output = edge_output(prng, text.map_or(0, |text| text.len()));
+        }
+        Call::PutText { text } => *text = edge_text(prng, sheet, n),
+    }
+}
+
+fn edge_number(prng: &mut Prng) -> u64 {
+    let number = prng.pick(&[0, 1, 2, 4, 5, 14, 15, 16, 46, 47, 48]);
+    match prng.below(4) {
+        0 => prng.pick(&WIDE_NUMBERS),
+        1 => number,
+        _ => widened(prng, number),
+    }
+}
+
+/// A number with one or two of its upper bits set.
+pub fn widened(prng: &mut Prng, number: u64) -> u64 {
+    let mut bit = || 1 << (8 + prng.below(56));
+    number | bit() | bit()
+}
+
+fn edge_value(prng: &mut Prng) -> i64 {
+    let ends = [i64::MIN, i64::MIN + 1, -1, 0, 1, 10, 11, i64::MAX];
+    let value = prng.pick(&ends);
+    match prng.below(3) {
+        0 => value,
+        1 => widened(prng, value as u64) as i64,
+        _ => prng.next_u64() as i64,
+    }
+}
+
+fn edge_output(prng: &mut Prng, length: usize) -> Vec<u8> {
+    let room = prng.pick(&[0, length.saturating_sub(1), length, length + 1, 255, 300]);
+    prng.bytes(room)
+}
+
+fn vary_put(prng: &mut Prng, id: &mut u64, content: &mut Vec<u8>) {
+    match prng.below(6) {
+        0 => *id = edge_number(prng),
+        1 => {
+            let length = prng.pick(&[0, 1, 2, 15, 16, 17, 254, 255, 256, 257, 300, 1000]);
+            *content = prng.nibbles(length);
+        }
+        2 if !content.is_empty() => {
+            let place = prng.below(content.len());
+            content[place] = 16 + prng.below(240) as u8;
+        }
+        3 => {
+            let length = prng.pick(&[254, 255, 256]);
+            *content = prng.bytes(length);
+        }
+        _ => {
+            *id = prng.pick(&[1, 4]);
+            let body = random_body(prng, *id as u8);
+            *content = changed_body(prng, *id as u8, &body);
+        }
+    }
+}
+
+fn edge_text(prng: &mut Prng, sheet: &Sheet, n: usize) -> Vec<u8> {
+    let text = match prng.below(5) {
+        0 => text_of_length(prng, 252, 258),
+        1 => {
+            let spaces = prng.below(41);
+            vec![b' '; spaces]
+        }
+        2 => {
+            let spaces = 18 * prng.pick(&[1, 2, 126, 127, 128]) + prng.below(4);
+            [vec![b' '; spaces], vec![b'1']].concat()
+        }
+        _ => filling_text(prng, sheet, n),
+    };
+    let trailing = prng.pick(&[0, 0, 0, 1, 17, 18, 19, 40]);
+    [text, vec![b' '; trailing]].concat()
+}
+
+/// A text whose nibbles just fill the buffer, or are one or two off.
+fn filling_text(prng: &mut Prng, sheet: &Sheet, n: usize) -> Vec<u8> {
+    let others = sheet
+        .attachments
+        .iter()
+        .filter(|other| other.id != text::ID);
+    let taken = CARD_NIBBLES + others.map(Attachment::size).sum::<usize>() + 3;
+    let room = (2 * n).saturating_sub(taken).clamp(3, 256);
+    text_of_length(prng, room - 2, room + 2)
+}
+
+/// A text of so many nibbles.
+fn text_of_length(prng: &mut Prng, least: usize, most: usize) -> Vec<u8> {
+    let wanted = least + prng.below(most - least + 1);
+    let mut text = random_text(prng, wanted / 4);
+    while text::write(&text).len() > wanted {
+        text.pop();
+    }
+    let mut missing = wanted - text::write(&text).len();
+    if text.last() == Some(&b' ') && missing > 0 {
+        text.push(b'0');
+        missing = wanted.saturating_sub(text::write(&text).len());
+    }
+    for _ in 0..missing {
+        text.push(b'0' + prng.below(10) as u8);
+    }
+    text
+}

@@ -1,0 +1,152 @@
+//! The trials of a case, from a seed and the case's number alone.
+
+use reference::cases::Case;
+use reference::cases::material::{Draft, random_value, values_and_word};
+use reference::cases::outside::edge_values;
+use reference::cases::random::damage_tail;
+use reference::judge::judge;
+use reference::prng::Prng;
+use reference::sheet::Sheet;
+use reference::table::{REQUIRED, fields};
+
+use crate::trial::Trial;
+use crate::{calls, reports, scripts};
+
+/// A list is followed by its script.
+pub fn trials(seed: u64, case: u64) -> Vec<Trial> {
+    let mut prng = prng_of(seed, case);
+    match prng.below(24) {
+        0..3 => vec![Trial::Whole(judge_case(&mut prng))],
+        3..6 => vec![Trial::Whole(unpack_case(&mut prng))],
+        6..10 => vec![Trial::Whole(pack_case(&mut prng))],
+        10 => vec![Trial::Whole(fresh_case(&mut prng))],
+        11..21 => vec![call_trial(&mut prng)],
+        _ => list_trials(&mut prng),
+    }
+}
+
+fn prng_of(seed: u64, case: u64) -> Prng {
+    let number = Prng::new(case).next_u64();
+    Prng::new(Prng::new(seed ^ number).next_u64())
+}
+
+/// A buffer, its report refused once in so many times, and the sheet that it was
+/// made from or that it holds.
+fn lent_report(prng: &mut Prng, refused: usize) -> (Sheet, Vec<u8>) {
+    let sheet = reports::sheet(prng);
+    if prng.one_in(refused) {
+        let buffer = reports::damaged(prng, &sheet);
+        let held = judge(&buffer).map_or(sheet, |report| report.sheet);
+        return (held, buffer);
+    }
+    let buffer = reports::buffer(prng, &sheet);
+    (sheet, buffer)
+}
+
+/// An output's length: most often enough.
+fn room(prng: &mut Prng, needed: usize) -> usize {
+    if prng.one_in(6) {
+        prng.pick(&[needed.saturating_sub(1), needed / 2, 0])
+    } else {
+        needed + prng.pick(&[0, 0, 0, 1, 9, 40])
+    }
+}
+
+/// A number of values: most often enough.
+fn value_count(prng: &mut Prng) -> usize {
+    if prng.one_in(12) {
+        prng.pick(&[0, 1, 45])
+    } else {
+        prng.pick(&[46, 46, 47, 60])
+    }
+}
+
+fn judge_case(prng: &mut Prng) -> Case {
+    let report = lent_report(prng, 2).1;
+    Case::Judge { report }
+}
+
+fn unpack_case(prng: &mut Prng) -> Case {
+    let (sheet, report) = lent_report(prng, 2);
+    let length = Draft::of(&sheet).tail.len();
+    let count = value_count(prng);
+    let room = room(prng, length);
+    Case::Unpack {
+        report,
+        values: (0..count).map(|_| prng.next_u64() as i64).collect(),
+        tail: prng.bytes(room),
+    }
+}
+
+fn pack_case(prng: &mut Prng) -> Case {
+    let sheet = reports::sheet(prng);
+    let missing = prng.pick(&[0, i64::MIN, i64::MAX, 1]);
+    let (mut values, mut word) = values_and_word(&sheet, missing);
+    let mut draft = Draft::of(&sheet);
+    for _ in 0..prng.pick(&[0, 0, 0, 1, 1, 2]) {
+        match prng.below(6) {
+            0 => word ^= 1 << prng.below(64),
+            1 => {
+                let field = prng.pick(&fields());
+                let edges = edge_values(field.lowest_value(), field.highest_value());
+                values[field.number - 1] = prng.pick(&edges);
+            }
+            2 => word &= !(1 << prng.pick(&REQUIRED)),
+            3 => word = prng.next_u64(),
+            _ => damage_packed(prng, &mut draft),
+        }
+    }
+    values.resize(value_count(prng), missing);
+    let size = (75 + draft.tail.len()).div_ceil(2);
+    let room = room(prng, size);
+    Case::Pack {
+        values,
+        word,
+        rptin: sheet.rptin,
+        tail: draft.tail,
+        output: prng.bytes(room),
+    }
+}
+
+/// A tail damaged in its attachments, its bytes or its end.
+fn damage_packed(prng: &mut Prng, draft: &mut Draft) {
+    let length = draft.tail.len();
+    match prng.below(5) {
+        0 if length > 0 => draft.tail[prng.below(length)] = 16 + prng.below(240) as u8,
+        1 => {
+            let more = 1 + prng.below(4);
+            draft.tail.extend(prng.nibbles(more));
+        }
+        2 => draft.tail.push(0),
+        _ => damage_tail(prng, draft),
+    }
+}
+
+fn fresh_case(prng: &mut Prng) -> Case {
+    let mut required = REQUIRED.map(|number| random_value(prng, number).0);
+    for (value, number) in required.iter_mut().zip(REQUIRED) {
+        if prng.one_in(8) {
+            let field = fields()[number - 1];
+            let edges = edge_values(field.lowest_value(), field.highest_value());
+            *value = prng.pick(&edges);
+        }
+    }
+    let room = room(prng, 38);
+    Case::Fresh {
+        required,
+        output: prng.bytes(room),
+    }
+}
+
+fn call_trial(prng: &mut Prng) -> Trial {
+    let (sheet, buffer) = lent_report(prng, 2);
+    let call = calls::call(prng, &sheet, buffer.len());
+    Trial::Call { buffer, call }
+}
+
+fn list_trials(prng: &mut Prng) -> Vec<Trial> {
+    let (sheet, buffer) = lent_report(prng, 8);
+    let calls = calls::list(prng, &sheet, buffer.len());
+    let script = scripts::trial(prng, &buffer, &calls);
+    vec![Trial::List { buffer, calls }, script]
+}

@@ -1,0 +1,188 @@
+//! What the unrelated implementation expects of a call.
+
+use reference::call::{Call, Given};
+use reference::cases::Case;
+use reference::gate::script;
+use reference::judge::judge;
+use reference::line::hex;
+use reference::outside::{fresh, pack, unpack};
+use reference::refusal::Refusal;
+
+use crate::fence::{MARKED, state_of};
+use crate::library::{Answer, Performed};
+
+#[derive(Clone, Copy, Debug, PartialEq, Eq)]
+pub enum Said {
+    Answer(Answer),
+    Performed(Performed),
+}
+
+/// An answer, and every lent buffer after the call with the marked bytes before it.
+#[derive(Clone, Debug, PartialEq, Eq)]
+pub struct Outcome {
+    pub said: Said,
+    pub buffers: Vec<(&'static str, Vec<u8>)>,
+}
+
+/// What unpack's numbers hold before the call.
+pub const NUMBERS: [u64; 6] = [0xC5C5_C5C5_C5C5_C5C5; 6];
+
+fn answer_of(result: Result<Given, Refusal>) -> Answer {
+    let given = |value| Answer {
+        given: 1,
+        value,
+        ..Answer::default()
+    };
+    match result {
+        Err(refusal) => Answer {
+            refusal: refusal.number.into(),
+            place: refusal.place as u64,
+            ..Answer::default()
+        },
+        Ok(Given::Nothing) => Answer::default(),
+        Ok(Given::Value(Some(value))) => given(value),
+        Ok(Given::Value(None)) => Answer {
+            given: 2,
+            ..Answer::default()
+        },
+        Ok(Given::Count(count)) => given(count as i64),
+    }
+}
+
+fn outcome(result: Result<Given, Refusal>, buffers: &[(&'static str, &[u8])]) -> Outcome {
+    Outcome {
+        said: Said::Answer(answer_of(result)),
+        buffers: states(buffers),
+    }
+}
+
+fn states(buffers: &[(&'static str, &[u8])]) -> Vec<(&'static str, Vec<u8>)> {
+    let state = |(name, bytes): &(&'static str, &[u8])| (*name, state_of(bytes));
+    buffers.iter().map(state).collect()
+}
+
+/// Judge, fresh, unpack or pack.
+pub fn whole(case: &Case) -> Outcome {
+    match case {
+        Case::Judge { report } => outcome(
+            judge(report).map(|report| Given::Count(report.bytes)),
+            &[("report", report)],
+        ),
+        Case::Fresh { required, output } => {
+            let mut output = output.clone();
+            let result = fresh(*required, &mut output).map(|()| Given::Nothing);
+            outcome(result, &[("output", &output)])
+        }
+        Case::Unpack {
+            report,
+            values,
+            tail,
+        } => unpacked(report, values.clone(), tail.clone()),
+        Case::Pack {
+            values,
+            word,
+            rptin,
+            tail,
+            output,
+        } => {
+            let mut output = output.clone();
+            let result = pack(values, *word, *rptin, tail, &mut output).map(Given::Count);
+            let values = bytes_of_values(values);
+            let buffers: [(_, &[u8]); 3] =
+                [("values", &values), ("tail", tail), ("output", &output)];
+            outcome(result, &buffers)
+        }
+        Case::Lister { .. } | Case::Calls { .. } => unreachable!("no call on a whole report"),
+    }
+}
+
+fn unpacked(report: &[u8], mut values: Vec<i64>, mut tail: Vec<u8>) -> Outcome {
+    let result = unpack(report, &mut values, &mut tail);
+    let numbers = result.map_or(NUMBERS, |given| {
+        [
+            given.word,
+            given.present as u64,
+            given.rptin.into(),
+            given.ac as u64,
+            given.bytes as u64,
+            given.tail as u64,
+        ]
+    });
+    let (values, numbers) = (bytes_of_values(&values), bytes_of_numbers(&numbers));
+    let buffers: [(_, &[u8]); 4] = [
+        ("report", report),
+        ("values", &values),
+        ("tail", &tail),
+        ("numbers", &numbers),
+    ];
+    outcome(result.map(|_| Given::Nothing), &buffers)
+}
+
+/// One of the eleven calls; the buffer is changed as it should be.
+pub fn call(call: &Call, buffer: &mut [u8]) -> Outcome {
+    let answer = call.run(buffer);
+    let mut buffers: Vec<(_, &[u8])> = vec![("report", buffer)];
+    match call {
+        Call::Put { content, .. } => buffers.push(("content", content)),
+        Call::PutText { text } => buffers.push(("text", text)),
+        _ => {}
+    }
+    if let Some(output) = &answer.output {
+        buffers.push(("output", output));
+    }
+    outcome(answer.result, &buffers)
+}
+
+pub fn replay(buffer: &[u8], script: &[u8], log: &[u8]) -> Outcome {
+    let (mut buffer, mut log) = (buffer.to_vec(), log.to_vec());
+    let ran = script::run(&mut buffer, script, log.len());
+    log[..ran.log.len()].copy_from_slice(&ran.log);
+    let said = Said::Performed(Performed {
+        calls: ran.calls.len() as u64,
+        taken: ran.taken as u64,
+        written: ran.log.len() as u64,
+    });
+    let buffers: [(_, &[u8]); 3] = [("report", &buffer), ("script", script), ("log", &log)];
+    Outcome {
+        said,
+        buffers: states(&buffers),
+    }
+}
+
+pub fn bytes_of_values(values: &[i64]) -> Vec<u8> {
+    values
+        .iter()
+        .flat_map(|value| value.to_ne_bytes())
+        .collect()
+}
+
+pub fn bytes_of_numbers(numbers: &[u64]) -> Vec<u8> {
+    let bytes = numbers.iter().flat_map(|number| number.to_ne_bytes());
+    bytes.collect()
+}
+
+impl Outcome {
+    /// The refusal, 0 where accepted.
+    pub fn refusal(&self) -> usize {
+        match self.said {
+            Said::Answer(answer) => answer.refusal as usize,
+            Said::Performed(_) => 0,
+        }
+    }
+
+    /// The answer and the buffers, as far as they differ from another outcome's.
+    pub fn against(&self, other: &Outcome) -> String {
+        let mut lines = vec![format!("  {:?}", self.said)];
+        for (mine, theirs) in self.buffers.iter().zip(&other.buffers) {
+            let (name, state) = mine;
+            if mine == theirs {
+                continue;
+            }
+            lines.push(format!("  {name} {}", hex(&state[MARKED..])));
+            if state[..MARKED] != theirs.1[..MARKED] {
+                lines.push(format!("  before {name} {}", hex(&state[..MARKED])));
+            }
+        }
+        lines.join("\n")
+    }
+}

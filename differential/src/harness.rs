@@ -1,0 +1,263 @@
+//! The library's side: every buffer lent between fences, and what comes of a call.
+
+use reference::call::Call;
+use reference::cases::Case;
+
+use crate::expected::{NUMBERS, Outcome, Said, bytes_of_numbers, bytes_of_values};
+use crate::fence::Lent;
+use crate::library::{Answer, Library};
+
+const SHORT: usize = 16_384;
+const LONG: usize = 131_072;
+
+/// A library and one lent buffer for each role.
+pub struct Harness {
+    library: Library,
+    /// Lends an empty buffer as a null pointer.
+    pub null: bool,
+    report: Lent,
+    edited: Lent,
+    content: Lent,
+    output: Lent,
+    packed: Lent,
+    values: Lent,
+    numbers: Lent,
+    script: Lent,
+    log: Lent,
+}
+
+impl Harness {
+    pub fn new(library: Library) -> Harness {
+        Harness {
+            library,
+            null: false,
+            report: Lent::read_only(SHORT),
+            edited: Lent::writable(SHORT),
+            content: Lent::read_only(SHORT),
+            output: Lent::writable(SHORT),
+            packed: Lent::read_only(SHORT),
+            values: Lent::writable(SHORT),
+            numbers: Lent::writable(SHORT),
+            script: Lent::read_only(LONG),
+            log: Lent::writable(LONG),
+        }
+    }
+
+    /// Judge, fresh, unpack or pack.
+    pub fn whole(&mut self, case: &Case) -> Outcome {
+        match case {
+            Case::Judge { report } => {
+                let at = lend(&mut self.report, report, self.null);
+                // SAFETY: here and below, pointers and lengths are of lent buffers.
+                let answer = unsafe { (self.library.judge)(at, report.len()) };
+                outcome(answer, &[("report", &self.report)])
+            }
+            Case::Fresh { required, output } => {
+                let [box10, year, month, x, y] = *required;
+                let n = output.len();
+                let at = lend(&mut self.output, output, self.null);
+                let answer = unsafe { (self.library.fresh)(box10, year, month, x, y, at, n) };
+                outcome(answer, &[("output", &self.output)])
+            }
+            Case::Unpack {
+                report,
+                values,
+                tail,
+            } => self.unpack(report, values, tail),
+            Case::Pack {
+                values,
+                word,
+                rptin,
+                tail,
+                output,
+            } => self.pack(values, *word, *rptin, tail, output),
+            Case::Lister { .. } | Case::Calls { .. } => unreachable!("no call on a whole report"),
+        }
+    }
+
+    fn unpack(&mut self, report: &[u8], values: &[i64], tail: &[u8]) -> Outcome {
+        let report_at = lend(&mut self.report, report, self.null);
+        let values_at = lend(&mut self.values, &bytes_of_values(values), self.null);
+        let tail_at = lend(&mut self.output, tail, self.null);
+        let numbers_at = self.numbers.lend(&bytes_of_numbers(&NUMBERS));
+        let answer = unsafe {
+            (self.library.unpack)(
+                report_at,
+                report.len(),
+                values_at.cast(),
+                values.len(),
+                tail_at,
+                tail.len(),
+                numbers_at.cast(),
+            )
+        };
+        let buffers = [
+            ("report", &self.report),
+            ("values", &self.values),
+            ("tail", &self.output),
+            ("numbers", &self.numbers),
+        ];
+        outcome(answer, &buffers)
+    }
+
+    fn pack(
+        &mut self,
+        values: &[i64],
+        word: u64,
+        rptin: u16,
+        tail: &[u8],
+        output: &[u8],
+    ) -> Outcome {
+        let values_at = lend(&mut self.packed, &bytes_of_values(values), self.null);
+        let tail_at = lend(&mut self.content, tail, self.null);
+        let output_at = lend(&mut self.output, output, self.null);
+        let answer = unsafe {
+            (self.library.pack)(
+                values_at.cast(),
+                values.len(),
+                word,
+                rptin,
+                tail_at,
+                tail.len(),
+                output_at,
+                output.len(),
+            )
+        };
+        let buffers = [
+            ("values", &self.packed),
+            ("tail", &self.content),
+            ("output", &self.output),
+        ];
+        outcome(answer, &buffers)
+    }
+
+    /// One call on a buffer of its own; a call that only reads gets it as an input.
+    pub fn call(&mut self, call: &Call, buffer: &[u8]) -> Outcome {
+        if reads(call) {
+            let at = lend(&mut self.report, buffer, self.null);
+            let answer = self.perform(call, at, buffer.len());
+            self.after(call, answer, &self.report)
+        } else {
+            let at = lend(&mut self.edited, buffer, self.null);
+            let answer = self.perform(call, at, buffer.len());
+            self.after(call, answer, &self.edited)
+        }
+    }
+
+    /// Lends the buffer of a list.
+    pub fn begin(&mut self, buffer: &[u8]) -> *mut u8 {
+        lend(&mut self.edited, buffer, self.null)
+    }
+
+    /// The next call of a list, on the buffer as the call before left it.
+    pub fn next(&mut self, call: &Call, at: *mut u8, length: usize) -> Outcome {
+        let answer = self.perform(call, at, length);
+        self.after(call, answer, &self.edited)
+    }
+
+    fn after(&self, call: &Call, answer: Answer, report: &Lent) -> Outcome {
+        let mut buffers = vec![("report", report)];
+        match call {
+            Call::Put { .. } => buffers.push(("content", &self.content)),
+            Call::PutText { .. } => buffers.push(("text", &self.content)),
+            Call::Fetch { .. } | Call::FetchText { .. } => buffers.push(("output", &self.output)),
+            _ => {}
+        }
+        outcome(answer, &buffers)
+    }
+
+    fn perform(&mut self, call: &Call, at: *mut u8, n: usize) -> Answer {
+        let library = self.library;
+        let (content, output) = self.lend_arguments(call);
+        unsafe {
+            match call {
+                Call::ReadField { field } => (library.read_field)(at, n, *field as usize),
+                Call::SetField { field, value } => {
+                    (library.set_field)(at, n, *field as usize, *value)
+                }
+                Call::ClearField { field } => (library.clear_field)(at, n, *field as usize),
+                Call::ReadFlag { flag } => (library.read_flag)(at, n, *flag as usize),
+                Call::SetFlag { flag, value } => {
+                    (library.set_flag)(at, n, *flag as usize, *value as usize)
+                }
+                Call::ClearFlag { flag } => (library.clear_flag)(at, n, *flag as usize),
+                Call::Put { id, content: lent } => {
+                    (library.put)(at, n, *id as usize, content, lent.len())
+                }
+                Call::Fetch { id, output: lent } => {
+                    (library.fetch)(at, n, *id as usize, output, lent.len())
+                }
+                Call::Drop { id } => (library.drop)(at, n, *id as usize),
+                Call::PutText { text } => (library.put_text)(at, n, content, text.len()),
+                Call::FetchText { output: lent } => (library.fetch_text)(at, n, output, lent.len()),
+            }
+        }
+    }
+
+    /// The pointers to a call's content and output.
+    fn lend_arguments(&mut self, call: &Call) -> (*mut u8, *mut u8) {
+        let (content, output): (&[u8], &[u8]) = match call {
+            Call::Put { content, .. } => (content, &[]),
+            Call::PutText { text } => (text, &[]),
+            Call::Fetch { output, .. } | Call::FetchText { output } => (&[], output),
+            _ => (&[], &[]),
+        };
+        let content = lend(&mut self.content, content, self.null);
+        (content, lend(&mut self.output, output, self.null))
+    }
+
+    pub fn replay(&mut self, buffer: &[u8], script: &[u8], log: &[u8]) -> Outcome {
+        let buffer_at = lend(&mut self.edited, buffer, self.null);
+        let script_at = lend(&mut self.script, script, self.null);
+        let log_at = lend(&mut self.log, log, self.null);
+        let performed = unsafe {
+            (self.library.replay)(
+                buffer_at,
+                buffer.len(),
+                script_at,
+                script.len(),
+                log_at,
+                log.len(),
+            )
+        };
+        let buffers = [
+            ("report", &self.edited),
+            ("script", &self.script),
+            ("log", &self.log),
+        ];
+        Outcome {
+            said: Said::Performed(performed),
+            buffers: states(&buffers),
+        }
+    }
+}
+
+fn reads(call: &Call) -> bool {
+    matches!(
+        call,
+        Call::ReadField { .. }
+            | Call::ReadFlag { .. }
+            | Call::Fetch { .. }
+            | Call::FetchText { .. }
+    )
+}
+
+fn lend(lent: &mut Lent, bytes: &[u8], null: bool) -> *mut u8 {
+    if null {
+        lent.lend_or_null(bytes)
+    } else {
+        lent.lend(bytes)
+    }
+}
+
+fn outcome(answer: Answer, buffers: &[(&'static str, &Lent)]) -> Outcome {
+    Outcome {
+        said: Said::Answer(answer),
+        buffers: states(buffers),
+    }
+}
+
+fn states(buffers: &[(&'static str, &Lent)]) -> Vec<(&'static str, Vec<u8>)> {
+    let state = |(name, lent): &(&'static str, &Lent)| (*name, lent.state());
+    buffers.iter().map(state).collect()
+}

@@ -1,0 +1,21 @@
+//! The unrelated implementation beside a library of the sixteen calls, on
+//! random cases, with every lent buffer between fences.
+
+pub mod calls;
+pub mod compare;
+pub mod draw;
+pub mod expected;
+pub mod fault;
+pub mod fence;
+pub mod harness;
+pub mod library;
+pub mod reports;
+pub mod scripts;
+pub mod shrink;
+pub mod tally;
+pub mod trial;
+
+#[cfg(test)]
+mod stand_in;
+#[cfg(test)]
+mod tests;

@@ -1,0 +1,52 @@
+//! The sixteen calls as C sees them.
+
+#[repr(C)]
+#[derive(Clone, Copy, Debug, Default, PartialEq, Eq)]
+pub struct Answer {
+    pub refusal: u32,
+    pub given: u32,
+    pub place: u64,
+    pub value: i64,
+}
+
+#[repr(C)]
+#[derive(Clone, Copy, Debug, PartialEq, Eq)]
+pub struct Performed {
+    pub calls: u64,
+    pub taken: u64,
+    pub written: u64,
+}
+
+type Numbered = unsafe extern "C" fn(*const u8, usize, usize) -> Answer;
+type NumberedEdit = unsafe extern "C" fn(*mut u8, usize, usize) -> Answer;
+
+/// A library: pointers and lengths, in the order of its header.
+#[derive(Clone, Copy)]
+pub struct Library {
+    pub judge: unsafe extern "C" fn(*const u8, usize) -> Answer,
+    pub fresh: unsafe extern "C" fn(i64, i64, i64, i64, i64, *mut u8, usize) -> Answer,
+    pub unpack:
+        unsafe extern "C" fn(*const u8, usize, *mut i64, usize, *mut u8, usize, *mut u64) -> Answer,
+    pub pack: unsafe extern "C" fn(
+        *const i64,
+        usize,
+        u64,
+        u16,
+        *const u8,
+        usize,
+        *mut u8,
+        usize,
+    ) -> Answer,
+    pub read_field: Numbered,
+    pub set_field: unsafe extern "C" fn(*mut u8, usize, usize, i64) -> Answer,
+    pub clear_field: NumberedEdit,
+    pub read_flag: Numbered,
+    pub set_flag: unsafe extern "C" fn(*mut u8, usize, usize, usize) -> Answer,
+    pub clear_flag: NumberedEdit,
+    pub put: unsafe extern "C" fn(*mut u8, usize, usize, *const u8, usize) -> Answer,
+    pub fetch: unsafe extern "C" fn(*const u8, usize, usize, *mut u8, usize) -> Answer,
+    pub drop: NumberedEdit,
+    pub put_text: unsafe extern "C" fn(*mut u8, usize, *const u8, usize) -> Answer,
+    pub fetch_text: unsafe extern "C" fn(*const u8, usize, *mut u8, usize) -> Answer,
+    pub replay: unsafe extern "C" fn(*mut u8, usize, *const u8, usize, *mut u8, usize) -> Performed,
+}

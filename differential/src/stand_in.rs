@@ -1,0 +1,240 @@
+//! The unrelated implementation behind the sixteen calls, in place of a library.
+
+use std::slice::{from_raw_parts, from_raw_parts_mut};
+
+use reference::call::{Call, Given};
+use reference::gate::script;
+use reference::judge;
+use reference::outside;
+use reference::refusal::Refusal;
+
+use crate::library::{Answer, Library, Performed};
+
+pub const STAND_IN: Library = Library {
+    judge,
+    fresh,
+    unpack,
+    pack,
+    read_field,
+    set_field,
+    clear_field,
+    read_flag,
+    set_flag,
+    clear_flag,
+    put,
+    fetch,
+    drop,
+    put_text,
+    fetch_text,
+    replay,
+};
+
+unsafe fn input<'a, T>(at: *const T, n: usize) -> &'a [T] {
+    if n == 0 {
+        return &[];
+    }
+    unsafe { from_raw_parts(at, n) }
+}
+
+unsafe fn lent<'a, T>(at: *mut T, n: usize) -> &'a mut [T] {
+    if n == 0 {
+        return &mut [];
+    }
+    unsafe { from_raw_parts_mut(at, n) }
+}
+
+fn answer(result: Result<Given, Refusal>) -> Answer {
+    let (given, value) = match result {
+        Err(refusal) => {
+            return Answer {
+                refusal: refusal.number.into(),
+                place: refusal.place as u64,
+                ..Answer::default()
+            };
+        }
+        Ok(Given::Nothing) => (0, 0),
+        Ok(Given::Value(None)) => (2, 0),
+        Ok(Given::Value(Some(value))) => (1, value),
+        Ok(Given::Count(count)) => (1, count as i64),
+    };
+    Answer {
+        given,
+        value,
+        ..Answer::default()
+    }
+}
+
+pub unsafe extern "C" fn judge(report: *const u8, n: usize) -> Answer {
+    let judged = judge::judge(unsafe { input(report, n) });
+    answer(judged.map(|report| Given::Count(report.bytes)))
+}
+
+pub unsafe extern "C" fn fresh(
+    box10: i64,
+    year: i64,
+    month: i64,
+    x: i64,
+    y: i64,
+    out: *mut u8,
+    n: usize,
+) -> Answer {
+    let written = outside::fresh([box10, year, month, x, y], unsafe { lent(out, n) });
+    answer(written.map(|()| Given::Nothing))
+}
+
+pub unsafe extern "C" fn unpack(
+    report: *const u8,
+    n: usize,
+    values: *mut i64,
+    values_n: usize,
+    tail: *mut u8,
+    tail_n: usize,
+    numbers: *mut u64,
+) -> Answer {
+    let (values, tail) = unsafe { (lent(values, values_n), lent(tail, tail_n)) };
+    let unpacked = outside::unpack(unsafe { input(report, n) }, values, tail);
+    if let Ok(given) = unpacked {
+        let counts = [
+            given.present,
+            given.rptin.into(),
+            given.ac,
+            given.bytes,
+            given.tail,
+        ];
+        let numbers = unsafe { lent(numbers, 6) };
+        numbers[0] = given.word;
+        numbers[1..].copy_from_slice(&counts.map(|count| count as u64));
+    }
+    answer(unpacked.map(|_| Given::Nothing))
+}
+
+pub unsafe extern "C" fn pack(
+    values: *const i64,
+    values_n: usize,
+    word: u64,
+    rptin: u16,
+    tail: *const u8,
+    tail_n: usize,
+    out: *mut u8,
+    n: usize,
+) -> Answer {
+    let (values, tail) = unsafe { (input(values, values_n), input(tail, tail_n)) };
+    let packed = outside::pack(values, word, rptin, tail, unsafe { lent(out, n) });
+    answer(packed.map(Given::Count))
+}
+
+/// A call on a report that may be read-only: what does not change is not stored.
+unsafe fn perform(report: *const u8, n: usize, call: Call, out: *mut u8) -> Answer {
+    let mut buffer = unsafe { input(report, n) }.to_vec();
+    let before = buffer.clone();
+    let done = call.run(&mut buffer);
+    if buffer != before {
+        unsafe { lent(report.cast_mut(), n) }.copy_from_slice(&buffer);
+    }
+    if let Some(output) = done.output {
+        unsafe { lent(out, output.len()) }.copy_from_slice(&output);
+    }
+    answer(done.result)
+}
+
+unsafe fn plain(report: *const u8, n: usize, call: Call) -> Answer {
+    unsafe { perform(report, n, call, std::ptr::null_mut()) }
+}
+
+pub unsafe extern "C" fn read_field(report: *const u8, n: usize, field: usize) -> Answer {
+    let field = field as u64;
+    unsafe { plain(report, n, Call::ReadField { field }) }
+}
+
+pub unsafe extern "C" fn set_field(report: *mut u8, n: usize, field: usize, value: i64) -> Answer {
+    let field = field as u64;
+    unsafe { plain(report, n, Call::SetField { field, value }) }
+}
+
+pub unsafe extern "C" fn clear_field(report: *mut u8, n: usize, field: usize) -> Answer {
+    let field = field as u64;
+    unsafe { plain(report, n, Call::ClearField { field }) }
+}
+
+pub unsafe extern "C" fn read_flag(report: *const u8, n: usize, flag: usize) -> Answer {
+    let flag = flag as u64;
+    unsafe { plain(report, n, Call::ReadFlag { flag }) }
+}
+
+pub unsafe extern "C" fn set_flag(report: *mut u8, n: usize, flag: usize, value: usize) -> Answer {
+    let (flag, value) = (flag as u64, value as i64);
+    unsafe { plain(report, n, Call::SetFlag { flag, value }) }
+}
+
+pub unsafe extern "C" fn clear_flag(report: *mut u8, n: usize, flag: usize) -> Answer {
+    let flag = flag as u64;
+    unsafe { plain(report, n, Call::ClearFlag { flag }) }
+}
+
+pub unsafe extern "C" fn put(
+    report: *mut u8,
+    n: usize,
+    id: usize,
+    content: *const u8,
+    content_n: usize,
+) -> Answer {
+    let id = id as u64;
+    let content = unsafe { input(content, content_n) }.to_vec();
+    unsafe { plain(report, n, Call::Put { id, content }) }
+}
+
+pub unsafe extern "C" fn fetch(
+    report: *const u8,
+    n: usize,
+    id: usize,
+    out: *mut u8,
+    out_n: usize,
+) -> Answer {
+    let id = id as u64;
+    let output = unsafe { input(out, out_n) }.to_vec();
+    unsafe { perform(report, n, Call::Fetch { id, output }, out) }
+}
+
+pub unsafe extern "C" fn drop(report: *mut u8, n: usize, id: usize) -> Answer {
+    let id = id as u64;
+    unsafe { plain(report, n, Call::Drop { id }) }
+}
+
+pub unsafe extern "C" fn put_text(
+    report: *mut u8,
+    n: usize,
+    text: *const u8,
+    text_n: usize,
+) -> Answer {
+    let text = unsafe { input(text, text_n) }.to_vec();
+    unsafe { plain(report, n, Call::PutText { text }) }
+}
+
+pub unsafe extern "C" fn fetch_text(
+    report: *const u8,
+    n: usize,
+    out: *mut u8,
+    out_n: usize,
+) -> Answer {
+    let output = unsafe { input(out, out_n) }.to_vec();
+    unsafe { perform(report, n, Call::FetchText { output }, out) }
+}
+
+pub unsafe extern "C" fn replay(
+    report: *mut u8,
+    n: usize,
+    script: *const u8,
+    script_n: usize,
+    log: *mut u8,
+    log_n: usize,
+) -> Performed {
+    let (report, script, log) =
+        unsafe { (lent(report, n), input(script, script_n), lent(log, log_n)) };
+    let ran = script::run(report, script, log.len());
+    log[..ran.log.len()].copy_from_slice(&ran.log);
+    Performed {
+        calls: ran.calls.len() as u64,
+        taken: ran.taken as u64,
+        written: ran.log.len() as u64,
+    }
+}

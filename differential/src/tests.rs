@@ -1,0 +1,236 @@
+//! The harness finds what it is there to find. No library is needed.
+
+use std::process::{Command, Output};
+
+use crate::compare::{Difference, compare};
+use crate::draw::trials;
+use crate::fault;
+use crate::fence::{Lent, state_of};
+use crate::harness::Harness;
+use crate::library::{Answer, Library, Performed};
+use crate::shrink::shrink;
+use crate::stand_in::{self, STAND_IN};
+use crate::tally::Tally;
+use crate::trial::Trial;
+
+const SEED: u64 = 7;
+
+/// The first difference in some thousand cases, made smaller.
+fn first_difference(library: Library, tally: &mut Tally) -> Option<Difference> {
+    let mut harness = Harness::new(library);
+    for case in 0..6000 {
+        harness.null = case % 2 == 0;
+        for trial in trials(SEED, case) {
+            if let Some(found) = compare(&mut harness, tally, &trial) {
+                return Some(shrink(&mut harness, found));
+            }
+        }
+    }
+    None
+}
+
+fn found(library: Library) -> Difference {
+    first_difference(library, &mut Tally::default()).expect("the difference is found")
+}
+
+/// The names of the buffers that differ.
+fn differing(found: &Difference) -> Vec<&'static str> {
+    let pairs = found.expected.buffers.iter().zip(&found.got.buffers);
+    let differing = pairs.filter(|(expected, got)| expected != got);
+    differing.map(|((name, _), _)| *name).collect()
+}
+
+#[test]
+fn a_right_library_passes_and_meets_every_refusal() {
+    let mut tally = Tally::default();
+    assert!(first_difference(STAND_IN, &mut tally).is_none());
+    assert_eq!(tally.unseen(), []);
+}
+
+#[test]
+fn a_case_is_the_same_each_time() {
+    for case in 0..200 {
+        assert_eq!(trials(SEED, case), trials(SEED, case));
+    }
+    assert_ne!(trials(SEED, 1), trials(SEED, 2));
+    assert_ne!(trials(SEED, 1), trials(SEED + 1, 1));
+}
+
+#[test]
+fn a_wrong_answer_is_found() {
+    unsafe extern "C" fn wrong(report: *mut u8, n: usize, flag: usize, value: usize) -> Answer {
+        let mut answer = unsafe { stand_in::set_flag(report, n, flag, value) };
+        if answer.refusal == 9 {
+            answer.place = 0;
+        }
+        answer
+    }
+    let found = found(Library {
+        set_flag: wrong,
+        ..STAND_IN
+    });
+    assert_ne!(found.expected.said, found.got.said);
+    assert_eq!(differing(&found), [""; 0]);
+}
+
+#[test]
+fn a_refused_call_that_writes_is_found_and_made_one_call() {
+    unsafe extern "C" fn wrong(
+        report: *mut u8,
+        n: usize,
+        id: usize,
+        content: *const u8,
+        content_n: usize,
+    ) -> Answer {
+        let answer = unsafe { stand_in::put(report, n, id, content, content_n) };
+        if answer.refusal == 13 {
+            unsafe { *report.add(n - 1) ^= 1 };
+        }
+        answer
+    }
+    let found = found(Library {
+        put: wrong,
+        ..STAND_IN
+    });
+    assert!(matches!(found.trial, Trial::Call { .. }));
+    assert_eq!(found.expected.said, found.got.said);
+    assert_eq!(differing(&found), ["report"]);
+}
+
+#[test]
+fn a_byte_behind_the_report_is_found() {
+    unsafe extern "C" fn wrong(report: *mut u8, n: usize, id: usize) -> Answer {
+        let size = unsafe { stand_in::judge(report, n) }.value as usize;
+        let answer = unsafe { stand_in::drop(report, n, id) };
+        if answer.refusal == 0 && size < n {
+            unsafe { *report.add(size) = 0 };
+        }
+        answer
+    }
+    let found = found(Library {
+        drop: wrong,
+        ..STAND_IN
+    });
+    assert_eq!(differing(&found), ["report"]);
+}
+
+#[test]
+fn a_byte_before_an_output_is_found() {
+    unsafe extern "C" fn wrong(
+        report: *const u8,
+        n: usize,
+        id: usize,
+        out: *mut u8,
+        out_n: usize,
+    ) -> Answer {
+        if out_n == 16 {
+            unsafe { *out.sub(1) = 0 };
+        }
+        unsafe { stand_in::fetch(report, n, id, out, out_n) }
+    }
+    let found = found(Library {
+        fetch: wrong,
+        ..STAND_IN
+    });
+    assert_eq!(differing(&found), ["output"]);
+}
+
+#[test]
+fn a_byte_behind_the_log_s_end_is_found() {
+    unsafe extern "C" fn wrong(
+        report: *mut u8,
+        n: usize,
+        script: *const u8,
+        script_n: usize,
+        log: *mut u8,
+        log_n: usize,
+    ) -> Performed {
+        let performed = unsafe { stand_in::replay(report, n, script, script_n, log, log_n) };
+        let end = performed.written as usize;
+        if end < log_n {
+            unsafe { *log.add(end) ^= 0x80 };
+        }
+        performed
+    }
+    let found = found(Library {
+        replay: wrong,
+        ..STAND_IN
+    });
+    assert_eq!(differing(&found), ["log"]);
+    assert!(matches!(found.trial, Trial::Script { log, .. } if log.len() == 1));
+}
+
+#[test]
+fn bytes_before_a_buffer_are_part_of_its_state() {
+    let mut lent = Lent::writable(100);
+    let at = lent.lend(&[1, 2, 3]);
+    assert_eq!(lent.state(), state_of(&[1, 2, 3]));
+    unsafe { *at.sub(64) ^= 1 };
+    assert_ne!(lent.state(), state_of(&[1, 2, 3]));
+}
+
+/// Runs a test that is to die in a process of its own.
+fn in_a_child(name: &str) -> Output {
+    let own = std::env::current_exe().expect("the tests know their file");
+    let child = Command::new(own)
+        .args(["--ignored", "--exact", &format!("tests::{name}")])
+        .output();
+    child.expect("the tests run again")
+}
+
+fn assert_stopped(name: &str) {
+    let output = in_a_child(name);
+    let said = String::from_utf8_lossy(&output.stderr);
+    assert_eq!(output.status.code(), Some(1), "{said}");
+    assert!(said.contains("signal 11 "), "{said}");
+    assert!(said.contains("make differential SEED=7 ONLY=42"), "{said}");
+}
+
+fn watched() {
+    fault::watch(SEED);
+    fault::enter(42);
+}
+
+#[test]
+fn fences_stop_a_call() {
+    assert_stopped("read_past_an_input");
+    assert_stopped("write_past_a_buffer");
+    assert_stopped("write_to_an_input");
+    assert_stopped("read_of_an_empty_buffer");
+}
+
+#[test]
+#[ignore = "dies; run by fences_stop_a_call"]
+fn read_past_an_input() {
+    watched();
+    let mut lent = Lent::read_only(100);
+    let at = lent.lend(&[1, 2, 3]);
+    std::hint::black_box(unsafe { at.add(3).read_volatile() });
+}
+
+#[test]
+#[ignore = "dies; run by fences_stop_a_call"]
+fn write_past_a_buffer() {
+    watched();
+    let mut lent = Lent::writable(100);
+    let at = lent.lend(&[1, 2, 3]);
+    unsafe { at.add(3).write_volatile(0) };
+}
+
+#[test]
+#[ignore = "dies; run by fences_stop_a_call"]
+fn write_to_an_input() {
+    watched();
+    let mut lent = Lent::read_only(100);
+    let at = lent.lend(&[1, 2, 3]);
+    unsafe { at.write_volatile(0) };
+}
+
+#[test]
+#[ignore = "dies; run by fences_stop_a_call"]
+fn read_of_an_empty_buffer() {
+    watched();
+    let mut lent = Lent::read_only(100);
+    let at = lent.lend(&[]);
+    std::hint::black_box(unsafe { at.read_volatile() });
+}

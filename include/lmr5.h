@@ -1,0 +1,326 @@
+/*
+ * Packed LMR.5 marine reports: judged, read and corrected in place.
+ *
+ * Link lib/liblmr5.a or lib/liblmr5.so, which `make lib` gives. Each function is proved to do what is said of it here, on
+ * every input; its promise stands in crates/lmr5/src/lib.rt. This header is not frozen: the change requests that are still
+ * pending will add to it.
+ *
+ * WHAT A CALL IS LENT
+ * A buffer is a pointer and its length, in elements. The library keeps no pointer, allocates nothing, owns nothing and has
+ * no state: when a call returns, every buffer is the caller's alone. A call may be made from any thread. What the caller
+ * sees to, since the library cannot:
+ *   - A length is the true length of the memory behind its pointer, and at most PTRDIFF_MAX bytes. NULL is allowed where
+ *     the length is 0. `contents` points to 6 numbers. Pointers are aligned as their type asks, as C's own are.
+ *   - All lent memory is initialised, outputs too: a call may leave part of an output as it was.
+ *   - A buffer that a call may write (not `const`) overlaps no other buffer of that call. Two `const` buffers may overlap.
+ *   - While a call runs no other thread writes its buffers, nor reads those that it may write.
+ *
+ * A report stands at the front of its buffer; the buffer may be longer. Bytes behind the report belong to the caller. A
+ * report takes 38 to LMR5_LONGEST_REPORT bytes, and a longer buffer leaves room for attachments.
+ *
+ * WHAT A CALL ANSWERS
+ * An lmr5_answer. Accepted: `refusal` and `place` are 0, and `given` says whether there is a value. Refused: `refusal` is
+ * one of enum lmr5_refusal, `place` says where, `given` and `value` are 0, and no byte of any buffer has changed.
+ *
+ * THE REPORT IS CHECKED FIRST by every call that takes one, whatever its arguments are. The first of these that fits is the
+ * refusal, "the report's refusals" below:
+ *   1, place 0, under 38 bytes; 2 or 3, fields ascending; 4; attachment by attachment: 1 its header does not fit, 5, 1 its
+ *   data do not fit, 6; 7.
+ * Then come the call's own refusals, in the order in which they are named.
+ *
+ * Values are whole numbers in the field's unit: 286 is 28.6 degrees C. A nibble is 4 bits; in contents and tails a nibble
+ * takes a byte, 0 to 15.
+ */
+#ifndef LMR5_INCLUDED
+#define LMR5_INCLUDED
+
+#include <stddef.h>
+#include <stdint.h>
+
+#ifdef __cplusplus
+extern "C" {
+#endif
+
+/* What a call answers. */
+typedef struct lmr5_answer {
+    uint32_t refusal; /* 0: accepted; else enum lmr5_refusal */
+    uint32_t given;   /* enum lmr5_given */
+    uint64_t place;   /* of the refusal: a field, a flag or an attachment's position from 1; else 0 */
+    int64_t value;    /* where `given` is LMR5_GIVEN_VALUE; else 0 */
+} lmr5_answer;
+
+enum lmr5_given {
+    LMR5_GIVEN_NOTHING = 0, /* refused, or accepted and there is nothing to give */
+    LMR5_GIVEN_VALUE = 1,   /* `value` has it */
+    LMR5_GIVEN_MISSING = 2  /* the field or the flag is missing; that is not 0 */
+};
+
+enum lmr5_refusal {
+    /* by the report's bytes, or pack's tail */
+    LMR5_REFUSED_SHORT = 1,       /* under 38 bytes, place 0; or an attachment does not fit, place its position */
+    LMR5_REFUSED_CODE = 2,        /* a code above the highest; place: the field */
+    LMR5_REFUSED_MISSING = 3,     /* a required field is missing; place: the field */
+    LMR5_REFUSED_CHECKSUM = 4,    /* the checksum differs */
+    LMR5_REFUSED_ATTACHMENT = 5,  /* an attachment of no nibbles, with id 0 or a repeated id; place: its position */
+    LMR5_REFUSED_BODY = 6,        /* invalid flags (id 1) or ship text (id 4); place: the attachment's position */
+    LMR5_REFUSED_LAST_NIBBLE = 7, /* the odd last nibble is not 0 */
+    /* by an argument */
+    LMR5_REFUSED_NUMBER = 8,      /* field not 1 to 46, flag not 1 to 14, id not 1 to 15, presence bit outside 1 to 46 */
+    LMR5_REFUSED_VALUE = 9,       /* value out of range; place: the field or flag */
+    LMR5_REFUSED_REQUIRED = 10,   /* required field cleared, or absent in pack; place: the field */
+    LMR5_REFUSED_NO_SUCH = 11,    /* no such attachment */
+    LMR5_REFUSED_LENGTH = 12,     /* content of 0 or over 255 nibbles */
+    LMR5_REFUSED_ROOM = 13,       /* a buffer is shorter than the new report, the output, or 46 values */
+    LMR5_REFUSED_CONTENT = 14     /* a content or tail byte over 15, or content that 6 would refuse */
+};
+
+/* The longest report, in bytes. */
+enum lmr5_longest { LMR5_LONGEST_REPORT = 1853 };
+
+/* Field numbers, with the range of the value. A field that is not required may be missing. */
+enum lmr5_field {
+    LMR5_BOX10 = 1,   /* 10 degree box: 1 to 648, required */
+    LMR5_YEAR = 2,    /* year: 1800 to 2054, required */
+    LMR5_MONTH = 3,   /* month: 1 to 12, required */
+    LMR5_DAY = 4,     /* day: 1 to 31 */
+    LMR5_HOUR = 5,    /* hour: 0 to 23 */
+    LMR5_X = 6,       /* longitude: 0 to 3599, in 0.1 degree east, required */
+    LMR5_Y = 7,       /* latitude: -900 to 900, in 0.1 degree north, required */
+    LMR5_XYI = 8,     /* latitude and longitude indicator: 0 to 3 */
+    LMR5_CD = 9,      /* card deck: 0 to 999 */
+    LMR5_SID = 10,    /* source ID: 0 to 254 */
+    LMR5_ST = 11,     /* ship type: 0 to 7 */
+    LMR5_QI = 12,     /* quality indicator: 0 to 2 */
+    LMR5_DS = 13,     /* duplicate status: 0 to 5 */
+    LMR5_DC = 14,     /* duplicate check: 0 to 2 */
+    LMR5_TC = 15,     /* track check: 0 to 1 */
+    LMR5_PB = 16,     /* pressure bias: 0 to 2 */
+    LMR5_DI = 17,     /* wind direction indicator: 0 to 5 */
+    LMR5_D = 18,      /* wind direction: 1 to 362 */
+    LMR5_WI = 19,     /* wind speed indicator: 0 to 3 */
+    LMR5_W = 20,      /* wind speed: 0 to 1022, in 0.1 m/s */
+    LMR5_VI = 21,     /* visibility indicator: 0 to 2 */
+    LMR5_VB = 22,     /* visibility: 90 to 99 */
+    LMR5_PW = 23,     /* present weather: 0 to 99 */
+    LMR5_W1 = 24,     /* past weather: 0 to 9 */
+    LMR5_W2 = 25,     /* second past weather: 0 to 9 */
+    LMR5_P = 26,      /* sea level pressure: 8700 to 10746, in 0.1 mb */
+    LMR5_TI = 27,     /* temperature indicator: 0 to 5 */
+    LMR5_A = 28,      /* air temperature: -999 to 999, in 0.1 degree C */
+    LMR5_WB = 29,     /* wet bulb temperature: -999 to 999, in 0.1 degree C */
+    LMR5_DPT = 30,    /* dew point temperature: -999 to 999, in 0.1 degree C */
+    LMR5_S = 31,      /* sea surface temperature: -999 to 999, in 0.1 degree C */
+    LMR5_BI = 32,     /* bucket indicator: 0 to 2 */
+    LMR5_C = 33,      /* total cloud amount: 0 to 9 */
+    LMR5_NH = 34,     /* lower cloud amount: 0 to 9 */
+    LMR5_CL = 35,     /* low cloud type: 0 to 10 */
+    LMR5_HI = 36,     /* cloud height indicator: 0 to 1 */
+    LMR5_H = 37,      /* cloud height: 0 to 10 */
+    LMR5_CM = 38,     /* middle cloud type: 0 to 10 */
+    LMR5_CH = 39,     /* high cloud type: 0 to 10 */
+    LMR5_WD = 40,     /* wave direction: 0 to 38 */
+    LMR5_WP = 41,     /* wave period: 0 to 30, in s */
+    LMR5_WH = 42,     /* wave height: 0 to 99, in 0.5 m */
+    LMR5_SD = 43,     /* swell direction: 0 to 38 */
+    LMR5_SP = 44,     /* swell period: 0 to 30, in s */
+    LMR5_SH = 45,     /* swell height: 0 to 99, in 0.5 m */
+    LMR5_A6 = 46      /* allowance no. 6 flag: 0 to 1 */
+};
+
+/* Flag numbers: the flags of attachment 1. */
+enum lmr5_flag {
+    LMR5_FLAG_SHIP_POSITION = 1,
+    LMR5_FLAG_WIND = 2,
+    LMR5_FLAG_VISIBILITY = 3,
+    LMR5_FLAG_PRESENT_WEATHER = 4,
+    LMR5_FLAG_PAST_WEATHER = 5,
+    LMR5_FLAG_PRESSURE = 6,
+    LMR5_FLAG_AIR_TEMPERATURE = 7,
+    LMR5_FLAG_WET_BULB_TEMPERATURE = 8,
+    LMR5_FLAG_DEW_POINT_TEMPERATURE = 9,
+    LMR5_FLAG_SEA_SURFACE_TEMPERATURE = 10,
+    LMR5_FLAG_CLOUD = 11,
+    LMR5_FLAG_WAVE = 12,
+    LMR5_FLAG_SWELL = 13,
+    LMR5_FLAG_PRESSURE_TENDENCY = 14
+};
+
+/* The values of a flag, by their letters. A missing flag has none: clear it. */
+enum lmr5_flag_value {
+    LMR5_VALUE_R = 1, /* correct */
+    LMR5_VALUE_A = 2, /* correctable: legality */
+    LMR5_VALUE_B = 3, /* correctable: internal consistency */
+    LMR5_VALUE_J = 4, /* suspect: internal consistency */
+    LMR5_VALUE_K = 5, /* suspect: time */
+    LMR5_VALUE_L = 6, /* suspect: extreme */
+    LMR5_VALUE_M = 7, /* erroneous: legality */
+    LMR5_VALUE_N = 8, /* erroneous: internal consistency */
+    LMR5_VALUE_Q = 9, /* erroneous: extreme */
+    LMR5_VALUE_S = 10 /* missing */
+};
+
+/* ---- whole reports */
+
+/*
+ * Judges the report that the buffer begins with.
+ * Gives the report's size in bytes. Refusals: the report's refusals. Changes nothing.
+ */
+lmr5_answer lmr5_judge(const uint8_t *report, size_t report_length);
+
+/*
+ * Writes the report of these five values, all else missing and RPTIN 0, to the first 38 bytes of `out`.
+ * Gives nothing. Refusals: 9 by ascending field (1, 2, 3, 6, 7); 13 where `out` is under 38 bytes. The rest of `out` stays.
+ */
+lmr5_answer lmr5_fresh(int64_t box10, int64_t year, int64_t month, int64_t x, int64_t y, uint8_t *out, size_t out_length);
+
+/* The places of what lmr5_unpack gives in `contents`. */
+enum lmr5_contents {
+    LMR5_CONTENTS_WORD = 0,    /* the presence word: bit k (the lowest is 0) says that field k is present */
+    LMR5_CONTENTS_PRESENT = 1, /* how many fields are present */
+    LMR5_CONTENTS_RPTIN = 2,
+    LMR5_CONTENTS_COUNT = 3,   /* AC, how many attachments */
+    LMR5_CONTENTS_SIZE = 4,    /* the report's size in bytes */
+    LMR5_CONTENTS_TAIL = 5     /* the tail's length in nibbles */
+};
+
+/*
+ * Writes the values of fields 1 to 46, 0 where missing, to the first 46 of `values`; the tail, which is all nibbles behind
+ * the card without an odd last one, to the front of `tail`; and the rest to all six of `contents`.
+ * Gives nothing else. Refusals: the report's refusals; 13 where `values` is under 46 or `tail` shorter than the tail.
+ * The report and the rest of `values` and `tail` stay.
+ */
+lmr5_answer lmr5_unpack(const uint8_t *report, size_t report_length, int64_t *values, size_t values_length, uint8_t *tail,
+                        size_t tail_length, uint64_t contents[6]);
+
+/*
+ * Writes the report of the values whose bits are set in `word`, of RPTIN and of such a tail, to the front of `out`. The
+ * checksum and AC are worked out. Of `values` the first 46 count, and those of missing fields are ignored.
+ * Gives the report's size in bytes. Refusals: 13 where `values` is under 46; 8; fields ascending, 10 or 9; 14 for a byte of
+ * the tail over 15; 1, 5, 6 for the tail's attachments, as in a report; 13 where `out` is shorter than the report.
+ * The rest of `out` stays.
+ */
+lmr5_answer lmr5_pack(const int64_t *values, size_t values_length, uint64_t word, uint16_t rptin, const uint8_t *tail,
+                      size_t tail_length, uint8_t *out, size_t out_length);
+
+/*
+ * ---- the eleven calls on the report that a buffer begins with
+ *
+ * After an accepted call the report is packed anew in place, its checksum worked out. Bytes from the new end of the report
+ * up to its old end are 0; those beyond both ends stay, as does RPTIN.
+ */
+
+/* Gives the value of a field, or that it is missing. Refusals: the report's refusals; 8. */
+lmr5_answer lmr5_read_field(const uint8_t *report, size_t report_length, size_t field);
+
+/* Sets a field. Gives nothing. Refusals: the report's refusals; 8; 9. */
+lmr5_answer lmr5_set_field(uint8_t *report, size_t report_length, size_t field, int64_t value);
+
+/* Makes a field missing; one that is missing already stays so. Gives nothing. Refusals: the report's refusals; 8; 10. */
+lmr5_answer lmr5_clear_field(uint8_t *report, size_t report_length, size_t field);
+
+/* Gives the value of a flag, 1 to 10, or that it is missing. Refusals: the report's refusals; 8; 11 without attachment 1. */
+lmr5_answer lmr5_read_flag(const uint8_t *report, size_t report_length, size_t flag);
+
+/*
+ * Sets a flag to 1 to 10, and the quality code. Gives nothing.
+ * Refusals: the report's refusals; 8; 9, place the flag; 11 without attachment 1.
+ */
+lmr5_answer lmr5_set_flag(uint8_t *report, size_t report_length, size_t flag, size_t value);
+
+/* Makes a flag missing, and sets the quality code. Gives nothing. Refusals: the report's refusals; 8; 11. */
+lmr5_answer lmr5_clear_flag(uint8_t *report, size_t report_length, size_t flag);
+
+/*
+ * Puts an attachment: replaces the content where the id stands, else appends it. `content` has a nibble a byte, as many as
+ * its length says. Gives nothing.
+ * Refusals: the report's refusals; 8; 12; 14; 13 where the buffer is shorter than the new report.
+ */
+lmr5_answer lmr5_put(uint8_t *report, size_t report_length, size_t id, const uint8_t *content, size_t content_length);
+
+/*
+ * Writes an attachment's nibbles, one a byte, to the front of `out`. Gives how many. The rest of `out` stays.
+ * Refusals: the report's refusals; 8; 11; 13 where `out` is shorter. 255 bytes always do.
+ */
+lmr5_answer lmr5_fetch(const uint8_t *report, size_t report_length, size_t id, uint8_t *out, size_t out_length);
+
+/* Drops an attachment; the others keep their order. Gives nothing. Refusals: the report's refusals; 8; 11. */
+lmr5_answer lmr5_drop(uint8_t *report, size_t report_length, size_t id);
+
+/*
+ * Puts the ship text, which is attachment 4. The text is bytes, none refused, with no 0 at its end; spaces at its end are
+ * dropped. Gives nothing.
+ * Refusals: the report's refusals; 12 where its nibbles are 0 or over 255; 13 where the buffer is shorter than the new
+ * report.
+ */
+lmr5_answer lmr5_put_text(uint8_t *report, size_t report_length, const uint8_t *text, size_t text_length);
+
+/*
+ * Writes the ship text to the front of `out`, with no 0 at its end. Gives its length. The rest of `out` stays.
+ * Refusals: the report's refusals; 11 without attachment 4; 13 where `out` is shorter.
+ */
+lmr5_answer lmr5_fetch_text(const uint8_t *report, size_t report_length, uint8_t *out, size_t out_length);
+
+/*
+ * ---- a script of calls
+ *
+ * A script is entries one after the other. An entry is a byte, its kind, and then what the call takes: numbers in 8 bytes,
+ * the highest first, and bytes behind their number. A field's value is in two's complement.
+ *
+ *   kind                            takes                              bytes
+ *   LMR5_SCRIPT_READ_FIELD   1      field                              9
+ *   LMR5_SCRIPT_SET_FIELD    2      field, value                       17
+ *   LMR5_SCRIPT_CLEAR_FIELD  3      field                              9
+ *   LMR5_SCRIPT_READ_FLAG    4      flag                               9
+ *   LMR5_SCRIPT_SET_FLAG     5      flag, value                        17
+ *   LMR5_SCRIPT_CLEAR_FLAG   6      flag                               9
+ *   LMR5_SCRIPT_PUT          7      id, n, n bytes of content          17 + n
+ *   LMR5_SCRIPT_FETCH        8      id, n, n bytes lent as output      17 + n
+ *   LMR5_SCRIPT_DROP         9      id                                 9
+ *   LMR5_SCRIPT_PUT_TEXT     10     n, n bytes of text                 9 + n
+ *   LMR5_SCRIPT_FETCH_TEXT   11     n, n bytes lent as output          9 + n
+ *
+ * The log holds a record of each call: a byte, the tag; a byte, the refusal's number or 0; and 8 bytes, the refusal's place,
+ * the value that was given (in two's complement) or 0, the highest first. A fetch's record has the n bytes of its output
+ * after the call behind these 10.
+ */
+enum lmr5_script {
+    LMR5_SCRIPT_READ_FIELD = 1,
+    LMR5_SCRIPT_SET_FIELD = 2,
+    LMR5_SCRIPT_CLEAR_FIELD = 3,
+    LMR5_SCRIPT_READ_FLAG = 4,
+    LMR5_SCRIPT_SET_FLAG = 5,
+    LMR5_SCRIPT_CLEAR_FLAG = 6,
+    LMR5_SCRIPT_PUT = 7,
+    LMR5_SCRIPT_FETCH = 8,
+    LMR5_SCRIPT_DROP = 9,
+    LMR5_SCRIPT_PUT_TEXT = 10,
+    LMR5_SCRIPT_FETCH_TEXT = 11
+};
+
+enum lmr5_log {
+    LMR5_LOG_REFUSED = 0,
+    LMR5_LOG_NOTHING = 1, /* accepted, and nothing is given */
+    LMR5_LOG_VALUE = 2,
+    LMR5_LOG_MISSING = 3
+};
+
+/* How many calls of a script were performed, and how many bytes of script and log they took. */
+typedef struct lmr5_performed {
+    uint64_t calls;
+    uint64_t taken;
+    uint64_t written;
+} lmr5_performed;
+
+/*
+ * Performs the entries of a script in their order, each on the report as the one before left it, and writes their records to
+ * the front of the log. A refused call changes nothing of the report, and the next is performed. Ends before the first entry
+ * that is cut off, of another kind, or whose record does not fit the log. The rest of the log stays.
+ */
+lmr5_performed lmr5_replay(uint8_t *report, size_t report_length, const uint8_t *script, size_t script_length, uint8_t *log,
+                           size_t log_length);
+
+#ifdef __cplusplus
+}
+#endif
+
+#endif
