@@ -5,22 +5,19 @@ use native.Mathlib.Nat.{add-zero}
 use native.Mathlib.Omega.{arith}
 use mathlib.Core.Path.{_≡_, refl, sym, ap, ap₂, subst, _∙_}
 use mathlib.Core.Bool.{Bool, true, false, not, _&&_}
-use mathlib.Core.List.{List, _++_}
+use mathlib.Core.List.{List}
 use mathlib.Core.Option.{Option, none, some}
 use lib.Dec.{T, eqb, leb, leb→le}
-use lib.ListN.{length, take, drop, getD, take-append-drop}
-use lib.Seq.{length-take-le}
+use lib.ListN.{length, getD}
 use borrow.Author.Tests.{ne-eqb}
 use Rattle.format.specs.Order.{Refusal, first}
-use Rattle.format.specs.Bits.{bits, bitsOf, bitField, total, offset}
+use Rattle.format.specs.Bits.{bitField, total, offset}
 use Rattle.format.specs.Nibbles.{odd}
 use Rattle.format.specs.Field.{table, fieldAt, required}
 use Rattle.format.specs.Sheet.{widths, checksum}
 use Rattle.format.specs.Report.{codesOf, fieldChecks}
 use Rattle.format.proofs.Test.{left, right}
 use Rattle.laws.proofs.Lists.{test-case}
-use Rattle.laws.proofs.Bits.{length-bitsOf, field-bits}
-use Rattle.bits.proofs.Window.{field-in}
 use Rattle.card.proofs.Numbers.{number-at, code-at}
 use Rattle.card.proofs.Walk as turns
 use Rattle.card.specs.Walk.{refusalOf}
@@ -30,6 +27,7 @@ use Rattle.checks.specs.Answers.{checkedOf, cardCheck}
 use Rattle.checks.specs.Parts.{Part, Run, runA, runB, runC, runD, runE, partAt, picked, laid, even, tops, needed, Passed, AllPassed, placed, kept, atPlace, summed}
 use Rattle.checks.specs.declared.CardCheck.{CardCheck}
 use Rattle.checks.specs.declared.CardCheck.the-variants.{Refused, Checksum}
+use Rattle.checks.proofs.Turned.{field-within}
 use Rattle.checks.proofs.Parts.{shown, lower, apart, none-above, all-above, picked-at, every, every-at}
 use Rattle.checks.proofs.Places.{Near, near-add, near-low, near-mod, near-placed, near-summed, summed-add, valued, allValued, placed-all}
 
@@ -102,15 +100,6 @@ goodE = good-is runE (right (good runD) _ all₃)
 
 -- ---- a field in a word
 
--- r bits into the 64 bits from bit o on, with z bits behind it
-field-of-word : (s : List ℕ) (o r w z : ℕ) → r + (w + z) ≡ 64 → o + 64 ≤ 8 * length s → bitField s (o + r) w ≡ bitField s o 64 / 2 ^ z % 2 ^ w
-field-of-word s o r w z e h =
-    let b : List Bool = bitsOf s in
-    let l : length (take o b) ≡ o = length-take-le o b (rw length-bitsOf (omega arith)) in
-    let c : b ≡ take o b ++ (bits 64 (bitField s o 64) ++ drop 64 (drop o b)) =
-    sym (take-append-drop o b) ∙ ap (λ (x : List Bool). take o b ++ x) (sym (take-append-drop 64 (drop o b)) ∙ ap (λ (x : List Bool). x ++ drop 64 (drop o b)) (sym (field-bits s o 64 h))) in
-    field-in (take o b) (drop 64 (drop o b)) 64 r w z e s (bitField s o 64) o c l
-
 abbrev code : List ℕ → ℕ → ℕ
 code b k = getD (codesOf b) (k - 1) 0
 
@@ -127,8 +116,10 @@ module _ (b : List ℕ) (h : 38 ≤ length b) (x : ℕ) (r : Run) (g : Good r) (
       let j : o + w ≤ 8 * r .start + 64 = leb→le _ _ (right (leb (8 * r .start) o) _ t) in
       let z : ℕ = 8 * r .start + 64 - (o + w) in
       let a : 8 * r .start + (o - 8 * r .start) ≡ o = omega arith in
+      let m : 64 ≡ o - 8 * r .start + (w + z) = omega arith in
       ap (λ (n : ℕ). n / 2 ^ z % 2 ^ w) e
-      ∙ sym (field-of-word b (8 * r .start) (o - 8 * r .start) w z (omega arith) (omega arith))
+      ∙ ap (λ (n : ℕ). bitField b (8 * r .start) n / 2 ^ z % 2 ^ w) m
+      ∙ sym (field-within b (8 * r .start) (o - 8 * r .start) w z (omega arith))
       ∙ ap (λ (n : ℕ). bitField b n w) a
       ∙ number-at b k (omega arith) ∙ sym (code-at b k (omega arith) (omega arith))
 

@@ -4,25 +4,48 @@ use Prim.Native.Nat.{ℕ, _+_, _*_, _/_, _%_, _^_, _≤_, _<_}
 use native.Mathlib.Omega.{arith}
 use mathlib.Core.Path.{_≡_, refl, sym, ap, ap₂, _∙_}
 use mathlib.Core.Bool.{Bool}
-use mathlib.Core.List.{List}
+use mathlib.Core.List.{List, [], _∷_, _++_, append-nil}
 use lib.ListN.{length, take, drop, getD, length-drop}
-use lib.Seq.{take-add, drop-drop, length-take-le}
-use lib.Pow.{high, low}
-use Rattle.format.specs.Bits.{number, bitsOf, bitField}
-use Rattle.laws.proofs.Bits.{Bytes, number-append, length-bitsOf}
+use lib.Seq.{drop-drop, take-at}
+use lib.Pow.{high, low, pow-add}
+use lib.Arith.{digits-lt}
+use native.Mathlib.Nat.{mod-eq-of-lt}
+use Rattle.format.specs.Bits.{bits, number, bitsOf, bitField, total, readFields, writeFields}
+use Rattle.laws.proofs.Bits.{Bytes, length-bits, number-bits, bits-mod, bits-add, length-bitsOf, bitField-lt, writeFields-readFields}
 use Rattle.bits.proofs.Window.{field-byte}
 use Rattle.checks.specs.Turned.{little2, little4, little8, turned2, turned4, turned8}
 
 module _ (s : List ℕ) where
   -- two fields, one behind the other, are one field
-  join : (o m n : ℕ) → o + (m + n) ≤ 8 * length s → bitField s o m * 2 ^ n + bitField s (o + m) n ≡ bitField s o (m + n)
-  unfolding bitField
+  pub join : (o m n : ℕ) → o + (m + n) ≤ 8 * length s → bitField s o m * 2 ^ n + bitField s (o + m) n ≡ bitField s o (m + n)
+  unfolding bitField writeFields readFields total
   join o m n h =
       let b : List Bool = drop o (bitsOf s) in
-      let l : length (take n (drop m b)) ≡ n = length-take-le n (drop m b) (simp (length-drop, length-bitsOf) (omega arith)) in
       let d : drop (o + m) (bitsOf s) ≡ drop m b = sym (drop-drop m o (bitsOf s)) in
-      ap₂ (λ (k : ℕ) (x : List Bool). number (take m b) * 2 ^ k + number (take n x)) (sym l) d
-      ∙ sym (number-append (take m b) (take n (drop m b))) ∙ ap number (sym (take-add m n b))
+      let x : ℕ = number (take m b) in
+      let y : ℕ = number (take n (drop m b)) in
+      let v : ℕ = x * 2 ^ n + y in
+      let ly : y < 2 ^ n = rw d at (bitField-lt s (o + m) n) in
+      let room : v < 2 ^ (m + n) = rw (pow-add 2 m n) (digits-lt (bitField-lt s o m) ly) in
+      let cut : bits m x ++ bits n y ≡ bits (m + n) v =
+      sym (bits-add m n v ∙ ap₂ _++_ (ap (bits m) (high x n ly)) (bits-mod n v y (low x n ly ∙ sym (mod-eq-of-lt ly)))) in
+      let whole : (bits m x ++ (bits n y ++ [])) ++ drop (m + (n + 0)) b ≡ b =
+      writeFields-readFields (m ∷ n ∷ []) b (simp (length-drop, length-bitsOf) (omega arith)) in
+      let t : take (m + n) b ≡ bits (m + n) v =
+      ap (take (m + n)) (sym whole ∙ ap (λ (l : List Bool). (bits m x ++ l) ++ drop (m + (n + 0)) b) (append-nil (bits n y)) ∙ ap (λ (l : List Bool). l ++ drop (m + (n + 0)) b) cut)
+      ∙ take-at (bits (m + n) v) (drop (m + (n + 0)) b) (m + n) (length-bits (m + n) v) in
+      ap (λ (l : List Bool). x * 2 ^ n + number (take n l)) d
+      ∙ sym (ap number t ∙ number-bits (m + n) v ∙ mod-eq-of-lt room)
+
+  -- a field of w bits, r bits into a number of bits, with z bits behind it
+  pub field-within : (o r w z : ℕ) → o + (r + (w + z)) ≤ 8 * length s → bitField s (o + r) w ≡ bitField s o (r + (w + z)) / 2 ^ z % 2 ^ w
+  field-within o r w z h =
+      let a : ℕ = bitField s o r in
+      let f : ℕ = bitField s (o + r) w in
+      let q : ℕ = bitField s (o + r + w) z in
+      let e : bitField s o (r + (w + z)) ≡ (a * 2 ^ w + f) * 2 ^ z + q =
+      sym (join o r (w + z) h) ∙ ap₂ (λ (i j : ℕ). a * i + j) (pow-add 2 w z) (sym (join (o + r) w z (omega arith))) ∙ omega arith in
+      sym (ap (λ (i : ℕ). i / 2 ^ z % 2 ^ w) e ∙ ap (λ (i : ℕ). i % 2 ^ w) (high (a * 2 ^ w + f) z (bitField-lt s (o + r + w) z)) ∙ low a w (bitField-lt s (o + r) w))
 
   module _ (bs : Bytes s) where
     byte : (i : ℕ) → i < length s → bitField s (8 * i) 8 ≡ getD s i 0
