@@ -90,7 +90,7 @@ module _ (x q : List Bool) (m r w z : ℕ) (e : r + (w + z) ≡ m) where
       ∙ sym (window-cut p ∙ cc)
 
   -- of bytes
-  field-in : (s : List ℕ) (n o : ℕ) → bitsOf s ≡ x ++ (bits m n ++ q) → length x ≡ o → bitField s (o + r) w ≡ n / 2 ^ z % 2 ^ w
+  pub field-in : (s : List ℕ) (n o : ℕ) → bitsOf s ≡ x ++ (bits m n ++ q) → length x ≡ o → bitField s (o + r) w ≡ n / 2 ^ z % 2 ^ w
   unfolding bitField
   field-in s n o h l = ap number (ap (λ (b : List Bool). take w (drop (o + r) b)) h ∙ window-take n o l) ∙ number-bits w (n / 2 ^ z)
 

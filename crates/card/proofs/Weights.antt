@@ -73,11 +73,11 @@ left b i = first (fieldChecks (suc i) (drop i table) (drop i (codesOf b)))
 abbrev pub rest : List ℕ → ℕ → ℕ
 rest b i = total (drop i (codesOf b))
 
-left-end : (b : List ℕ) → left b 46 ≡ none
+pub left-end : (b : List ℕ) → left b 46 ≡ none
 unfolding first fieldChecks
 left-end b = ap (λ (fs : List Field). first (fieldChecks 47 fs (drop 46 (codesOf b)))) (drop-of-length-le table {i = 46} (rw table-length (omega arith)))
 
-rest-end : (b : List ℕ) → rest b 46 ≡ 0
+pub rest-end : (b : List ℕ) → rest b 46 ≡ 0
 rest-end b = total-end (codesOf b) 46 (rw codes-length (omega arith))
 
 pub left-step : (b : List ℕ) (i : ℕ) → i < 46 → left b i ≡ fieldRefusal (suc i) (getD table i noField) (getD (codesOf b) i 0) (left b (suc i))

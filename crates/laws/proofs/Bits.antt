@@ -68,7 +68,7 @@ unfolding number
 number-lt [] = omega arith
 number-lt (b ∷ bs) = rw (pow-succ' 2 (length bs)) (digits-lt (digit-lt b) (number-lt bs))
 
-number-append : (xs ys : List Bool) → number (xs ++ ys) ≡ number xs * 2 ^ length ys + number ys
+pub number-append : (xs ys : List Bool) → number (xs ++ ys) ≡ number xs * 2 ^ length ys + number ys
 unfolding number
 number-append [] ys = omega arith
 number-append (x ∷ xs) ys =
@@ -193,7 +193,7 @@ unfolding bitField
 bitField-lt s o w = number-take-lt w (drop o (bitsOf s))
 
 -- the bits of a field's number are the bits that stand there
-field-bits : (s : List ℕ) (o w : ℕ) → o + w ≤ 8 * length s → bits w (bitField s o w) ≡ take w (drop o (bitsOf s))
+pub field-bits : (s : List ℕ) (o w : ℕ) → o + w ≤ 8 * length s → bits w (bitField s o w) ≡ take w (drop o (bitsOf s))
 unfolding bitField
 field-bits s o w h = bits-number-take w (drop o (bitsOf s)) (simp (length-drop, length-bitsOf) (omega arith))
 

@@ -21,10 +21,10 @@ counted-requires : tie.Need-counted-requires
 counted-requires c κs = search needs
 
 returns : tie.Need-returns
-returns c = judge-numbered _ _ _ _ (c .before .before .before .before .judge .ensures) (c .before .before .j .given .1) (c .refused .ensures)
+returns c = judge-numbered _ _ _ _ (c .before .before .before .before .judge .ensures .0) (c .before .before .j .given .1) (c .refused .ensures)
 
 returns-2 : tie.Need-returns-2
-returns-2 c = judge-numbered _ _ _ _ (c .before .before .before .before .judge .ensures) (c .before .before .j2 .given .1) (c .counted .ensures)
+returns-2 c = judge-numbered _ _ _ _ (c .before .before .before .before .judge .ensures .0) (c .before .before .j2 .given .1) (c .counted .ensures)
 
 pub lmr5-judge-spec : {M : Type 1} → statement M
 lmr5-judge-spec =
