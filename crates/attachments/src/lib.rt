@@ -42,7 +42,7 @@ fn fetch_found(s: &[u8], id: usize, found: Report, out: &mut [u8]) -> Reply
     if out.len() < al {
         return Reply::Refused(13, 0);
     }
-    shift::fetch(s, place + 3, al, out);
+    shift::fetch(&*s, place + 3, al, out);
     Reply::Count(al)
 }
 
@@ -50,10 +50,10 @@ fn fetch_found(s: &[u8], id: usize, found: Report, out: &mut [u8]) -> Reply
 pub fn fetch(s: &[u8], id: usize, out: &mut [u8]) -> Reply
     ensures { λ r. ⌜ after (answerOf r) (now (s .entry)) (now (out .exit)) ≡ effect (now (s .entry)) (machine.fetch id (now (out .entry))) ⌝ }
 {
-    let i = report::inspect(s, id);
+    let i = report::inspect(&*s, id);
     match i {
         Inspected::Refused(n, p) => Reply::Refused(n, p),
-        Inspected::Fine(found) => fetch_found(s, id, found, out),
+        Inspected::Fine(found) => fetch_found(&*s, id, found, out),
     }
 }
 
@@ -71,8 +71,8 @@ fn fetch_text_found(s: &[u8], found: Report, out: &mut [u8]) -> Reply
         at: place + 3,
         packed: true,
     };
-    if text::fits(s, c, al, out.len()) {
-        return Reply::Count(text::read(s, c, al, out));
+    if text::fits(&*s, c, al, out.len()) {
+        return Reply::Count(text::read(&*s, c, al, out));
     }
     Reply::Refused(13, 0)
 }
@@ -81,10 +81,10 @@ fn fetch_text_found(s: &[u8], found: Report, out: &mut [u8]) -> Reply
 pub fn fetch_text(s: &[u8], out: &mut [u8]) -> Reply
     ensures { λ r. ⌜ after (answerOf r) (now (s .entry)) (now (out .exit)) ≡ effect (now (s .entry)) (machine.fetchText (now (out .entry))) ⌝ }
 {
-    let i = report::inspect(s, 4);
+    let i = report::inspect(&*s, 4);
     match i {
         Inspected::Refused(n, p) => Reply::Refused(n, p),
-        Inspected::Fine(found) => fetch_text_found(s, found, out),
+        Inspected::Fine(found) => fetch_text_found(&*s, found, out),
     }
 }
 

@@ -24,7 +24,7 @@ use Rattle.report.specs.Answers.{inspected}
 use Rattle.report.specs.declared.Inspected.{Inspected}
 use Rattle.report.specs.declared.Report.{Report}
 use Rattle.report.proofs.Outcomes.{judge-refused, judge-fine}
-use Rattle.fields.specs.Accepted.{Summed, Found}
+use Rattle.fields.specs.Accepted.{Found}
 
 -- a call with no output
 pub record Quiet (c : Call) : Type 0 where
@@ -37,9 +37,6 @@ report-refuses b c i n p x q is e = rw (q .lends) at (effect-refused b (record {
 
 -- what the inspection of an accepted report found
 module _ (b : List ℕ) (r : Report) (x : Inspected) where
-  pub summed : x ≡ inspected b 0 → x ≡ Inspected.Fine r → Summed b (r .checksum)
-  summed is e = let f = judge-fine b 0 r x is e in record { report = f .0; is = ap (λ (q : Report). q .checksum) (f .1) }
-
   pub found : x ≡ inspected b 1 → x ≡ Inspected.Fine r → Found b (r .place)
   found is e = let f = judge-fine b 1 r x is e in record { report = f .0; is = ap (λ (q : Report). q .place) (f .1) }
 

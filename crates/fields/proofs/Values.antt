@@ -30,7 +30,7 @@ use Rattle.card.proofs.Given.{coding-outside, coding-code}
 use Rattle.card.specs.declared.Coding.the-variants.{Outside, Code}
 use Rattle.laws.proofs.Order.{between-in, first-nil, no-check}
 use Rattle.fields.proofs.Calls.{call-refuses, call-reads, call-stores, number-passes, quiet-read-field, quiet-set-field, quiet-clear-field}
-use Rattle.fields.specs.Accepted.{Accepted, Summed, replaced}
+use Rattle.fields.specs.Accepted.{Accepted, replaced}
 
 -- the value of field k is the entry of its code
 pub value-is : (b : List ℕ) (k : ℕ) (c : Coded) → 1 ≤ k → k ≤ 46 → c .0 ≡ getD (codesOf b) (k - 1) 0 → valueAt (sheetOf b) k ≡ entryOf (fieldAt k) c
@@ -123,10 +123,10 @@ module _ (b : List ℕ) (bs : Bytes b) (j : Accepted b) (k : ℕ) (t : Bool) (is
 
 -- ---- the number that seals
 
-module _ (b : List ℕ) (n k : ℕ) (h : Summed b n) where
+module _ (b : List ℕ) (n k : ℕ) (h : n ≡ checksum (codesOf b)) where
   pub sum-fits : n < 255
   unfolding checksum
-  sum-fits = omega (arith, h .is)
+  sum-fits = omega (arith, h)
 
   -- the checksum less the old code and more the new one, by a multiple of 255 above 0
   pub sealed : 1 ≤ k → k ≤ 46 → (o c : Coded) → o .0 ≡ getD (codesOf b) (k - 1) 0 → o .0 < 65536
@@ -135,4 +135,4 @@ module _ (b : List ℕ) (n k : ℕ) (h : Summed b n) where
   sealed low high o c e l =
       let t : total (set (codesOf b) (k - 1) (c .0)) + getD (codesOf b) (k - 1) 0 ≡ total (codesOf b) + c .0 =
       total-set (codesOf b) (k - 1) (c .0) (rw (codes-length b) (omega arith)) in
-      omega (arith, h .is)
+      omega (arith, h)

@@ -11,11 +11,6 @@ use Rattle.tail.specs.Walk.{placeOf}
 abbrev pub Accepted : List ℕ → Type 0
 Accepted b = judge b ≡ Verdict.accepted (sheetOf b)
 
--- with its checksum
-pub record Summed (b : List ℕ) (n : ℕ) : Type 0 where
-  pub report : Accepted b
-  pub is : n ≡ checksum (codesOf b)
-
 -- with the place of id 1, 0 where it does not stand
 pub record Found (b : List ℕ) (place : ℕ) : Type 0 where
   pub report : Accepted b

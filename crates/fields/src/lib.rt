@@ -12,7 +12,8 @@ ghost use Rattle.format.specs.Machine.{readField, setField, clearField, readFla
 ghost use Rattle.format.specs.Buffer.{after, effect};
 ghost use Rattle.format.specs.Reply.{answerOf};
 ghost use Rattle.card.specs.Answers.{Carded};
-ghost use Rattle.fields.specs.Accepted.{Accepted, Summed, Found, replaced, flagged};
+ghost use Rattle.card.specs.Rows.{Row};
+ghost use Rattle.fields.specs.Accepted.{Accepted, Found, replaced, flagged};
 use card::Coding;
 use format::Coded;
 use format::Reply;
@@ -48,51 +49,54 @@ fn field_of(s: &[u8], k: usize) -> Reply
     if !within(1, 46, k) {
         return Reply::Refused(8, 0);
     }
-    let c = card::code(s, k);
+    let row = card::row(k);
+    let c = card::code_in(&*s, row);
     if is_missing(c) {
         return Reply::Missing;
     }
-    Reply::Value(card::scaled(k, c))
+    Reply::Value(card::scaled_in(row, c))
 }
 
 // The value of field k, or that it is missing.
 pub fn read_field(s: &[u8], k: usize) -> Reply
     ensures { λ r. ⌜ after (answerOf r) (now (s .entry)) [] ≡ effect (now (s .entry)) (readField k) ⌝ }
 {
-    let i = report::inspect(s, 0);
+    let i = report::inspect(&*s, 0);
     match i {
         Inspected::Refused(n, p) => Reply::Refused(n, p),
-        Inspected::Fine(_) => field_of(s, k),
+        Inspected::Fine(_) => field_of(&*s, k),
     }
 }
 
-// Stores a code in field k of a report with this checksum, seals it, and gives the code that stood there.
-fn replace(s: &mut [u8], k: usize, c: Coded, checksum: u64) -> Coded
-    requires { ⌜ Summed (now s) checksum × (1 ≤ k) × (k ≤ 46) × (c .0 ≤ fieldAt k .highest) ⌝ }
+// Stores a code in field k, of its row, of an accepted report, seals it, and gives the code that stood there.
+fn replace(s: &mut [u8], k: usize, row: u64, c: Coded) -> Coded
+    requires { ⌜ Accepted (now s) × (1 ≤ k) × (k ≤ 46) × Row k row × (c .0 ≤ fieldAt k .highest) ⌝ }
     ensures { λ r. ⌜ (r .0 ≡ getD (codesOf (now (s .entry))) (k - 1) 0) × Carded (now (s .entry)) (now (s .exit)) (replaced (now (s .entry)) k (c .0)) ⌝ }
 {
-    let old = card::code(s, k);
+    let n = card::checksum(s);
+    let old = card::code_in(s, row);
     let x = c.0;
     let y = old.0;
-    card::store(s, k, c);
+    card::store_in(s, row, c);
     // 65535 is a multiple of 255, and no code is above it
-    card::seal(s, checksum + 65535 - y as u64 + x as u64);
+    card::seal(s, n + 65535 - y as u64 + x as u64);
     old
 }
 
-// Sets field k of a report with this checksum.
-fn set_field_of(s: &mut [u8], k: usize, v: Scaled, checksum: u64) -> Reply
-    requires { ⌜ Summed (now s) checksum ⌝ }
+// Sets field k of an accepted report.
+fn set_field_of(s: &mut [u8], k: usize, v: Scaled) -> Reply
+    requires { ⌜ Accepted (now s) ⌝ }
     ensures { λ r. ⌜ after (answerOf r) (now (s .exit)) [] ≡ effect (now (s .entry)) (setField k v) ⌝ }
 {
     if !within(1, 46, k) {
         return Reply::Refused(8, 0);
     }
-    let g = card::coded(k, v);
+    let row = card::row(k);
+    let g = card::coded_in(row, v);
     match g {
         Coding::Outside => Reply::Refused(9, k),
         Coding::Code(c) => {
-            replace(s, k, c, checksum);
+            replace(s, k, row, c);
             Reply::Done
         }
     }
@@ -105,22 +109,23 @@ pub fn set_field(s: &mut [u8], k: usize, v: Scaled) -> Reply
     let i = report::inspect(s, 0);
     match i {
         Inspected::Refused(n, p) => Reply::Refused(n, p),
-        Inspected::Fine(r) => set_field_of(s, k, v, r.checksum),
+        Inspected::Fine(_) => set_field_of(s, k, v),
     }
 }
 
-// Clears field k of a report with this checksum.
-fn clear_field_of(s: &mut [u8], k: usize, checksum: u64) -> Reply
-    requires { ⌜ Summed (now s) checksum ⌝ }
+// Clears field k of an accepted report.
+fn clear_field_of(s: &mut [u8], k: usize) -> Reply
+    requires { ⌜ Accepted (now s) ⌝ }
     ensures { λ r. ⌜ after (answerOf r) (now (s .exit)) [] ≡ effect (now (s .entry)) (clearField k) ⌝ }
 {
     if !within(1, 46, k) {
         return Reply::Refused(8, 0);
     }
+    let row = card::row(k);
     if card::is_required(k) {
         return Reply::Refused(10, k);
     }
-    replace(s, k, Coded(0), checksum);
+    replace(s, k, row, Coded(0));
     Reply::Done
 }
 
@@ -131,7 +136,7 @@ pub fn clear_field(s: &mut [u8], k: usize) -> Reply
     let i = report::inspect(s, 0);
     match i {
         Inspected::Refused(n, p) => Reply::Refused(n, p),
-        Inspected::Fine(r) => clear_field_of(s, k, r.checksum),
+        Inspected::Fine(_) => clear_field_of(s, k),
     }
 }
 
@@ -159,10 +164,10 @@ fn flag_of(s: &[u8], j: usize, place: usize) -> Reply
 pub fn read_flag(s: &[u8], j: usize) -> Reply
     ensures { λ r. ⌜ after (answerOf r) (now (s .entry)) [] ≡ effect (now (s .entry)) (readFlag j) ⌝ }
 {
-    let i = report::inspect(s, 1);
+    let i = report::inspect(&*s, 1);
     match i {
         Inspected::Refused(n, p) => Reply::Refused(n, p),
-        Inspected::Fine(r) => flag_of(s, j, r.place),
+        Inspected::Fine(r) => flag_of(&*s, j, r.place),
     }
 }
 

@@ -206,11 +206,6 @@ codes-set (f ∷ fs) [] i e = refl
 codes-set (f ∷ fs) (x ∷ es) zero e = refl
 codes-set (f ∷ fs) (x ∷ es) (suc i) e = ap (λ (l : List ℕ). codeOf f x .0 ∷ l) (codes-set fs es i e)
 
-pub fair-at : {fs : List Field} {es : List (Option Scaled)} → FairAll fs es → (i : ℕ) → Fair (getD fs i noField) (getD es i none)
-fair-at nil i = missing-fair noField
-fair-at (cons h t) zero = h
-fair-at (cons h t) (suc i) = fair-at t i
-
 pub fair-set : {fs : List Field} {es : List (Option Scaled)} → FairAll fs es
     → (i : ℕ) (e : Option Scaled) → Fair (getD fs i noField) e → FairAll fs (set es i e)
 fair-set nil i e h = nil

@@ -14,7 +14,7 @@ use lib.IntN.{ℤ, pos, negsuc, natAbs, subℕ, _+ℤ_}
 use Rattle.format.specs.Field.{Field, table, fieldAt, scaledOf, codedOf, entryOf, codes, entries}
 use Rattle.format.specs.Nibbles.{attachmentsOf, behind}
 use Rattle.format.specs.Sheet.{checksum}
-use Rattle.format.specs.Report.{codesOf, countOf, tailOf, sheetOf, judge}
+use Rattle.format.specs.Report.{checksumOf, codesOf, countOf, tailOf, sheetOf, judge}
 use Rattle.format.specs.Lister.{decimal, signedDecimal, line, fieldLine, fieldLines, listingOf, listing}
 use Rattle.format.specs.declared.Coded.{Coded}
 use Rattle.format.specs.declared.Scaled.{Scaled}
@@ -119,39 +119,43 @@ module _ (b : List ℕ) (x : Inspected) (is : x ≡ inspected b 0) where
     codes-table : length (codesOf b) ≡ length table
     codes-table = codes-length b ∙ sym table-length
 
-    pub fine-lists : listingOf (judge b) ≡ valueLines b 0 ++ totalLines (r .checksum) (r .count)
-    unfolding valueLines totalLines sheetOf
-    fine-lists =
-        let f = judge-fine b 0 r x is e in
-        let sum : checksum (codes table (entries table (codesOf b))) ≡ r .checksum =
-        ap checksum (codes-entries table (codesOf b) codes-table) ∙ sym (ap (λ (y : Report). y .checksum) (f .1)) in
-        let count : length (attachmentsOf (countOf b) (tailOf b)) ≡ r .count = attachments-length (countOf b) (tailOf b) ∙ sym (ap (λ (y : Report). y .count) (f .1)) in
-        ap listingOf (f .0)
-        ∙ ap₂ (λ (m n : ℕ). fieldLines 1 (entries table (codesOf b)) ++ (line (67 ∷ []) (decimal m) ++ line (65 ∷ []) (decimal n))) sum count
-
     pub fine-long : 38 ≤ length b
     fine-long = passes b (sheetOf b) (judge-fine b 0 r x is e .0) .0 .long
 
-    sum-fits : r .checksum < 255
-    unfolding checksum
-    sum-fits = omega (arith, ap (λ (y : Report). y .checksum) (judge-fine b 0 r x is e .1))
+    module _ (n : ℕ) (stored : n ≡ checksumOf b) where
+      -- the checksum that an accepted report stores is that of its fields
+      sum-is : n ≡ checksum (codesOf b)
+      sum-is = stored ∙ passes b (sheetOf b) (judge-fine b 0 r x is e .0) .0 .sum
 
-    pub fine-short : r .count < 2 ^ 64 → length (valueLines b 0 ++ totalLines (r .checksum) (r .count)) ≤ 512
-    unfolding valueLines totalLines
-    fine-short g =
-        let p = passes b (sheetOf b) (judge-fine b 0 r x is e .0) .0 in
-        let fields = lines-short 1 (checks-fair 1 table (codesOf b) codes-table (p .fields) .0) table-small (omega (arith, entries-length b)) in
-        omega (
-          arith,
-          fields,
-          entries-length b,
-          length-append (fieldLines 1 (entries table (codesOf b))) (line (67 ∷ []) (decimal (r .checksum)) ++ line (65 ∷ []) (decimal (r .count))),
-          length-append (line (67 ∷ []) (decimal (r .checksum))) (line (65 ∷ []) (decimal (r .count))),
-          length-append (decimal (r .checksum)) (10 ∷ []),
-          length-append (decimal (r .count)) (10 ∷ []),
-          decimal-short 2 (r .checksum) (omega (arith, sum-fits)),
-          decimal-short 19 (r .count) (omega arith),
-        )
+      pub fine-lists : listingOf (judge b) ≡ valueLines b 0 ++ totalLines n (r .count)
+      unfolding valueLines totalLines sheetOf
+      fine-lists =
+          let f = judge-fine b 0 r x is e in
+          let sum : checksum (codes table (entries table (codesOf b))) ≡ n = ap checksum (codes-entries table (codesOf b) codes-table) ∙ sym sum-is in
+          let count : length (attachmentsOf (countOf b) (tailOf b)) ≡ r .count = attachments-length (countOf b) (tailOf b) ∙ sym (ap (λ (y : Report). y .count) (f .1)) in
+          ap listingOf (f .0)
+          ∙ ap₂ (λ (m n : ℕ). fieldLines 1 (entries table (codesOf b)) ++ (line (67 ∷ []) (decimal m) ++ line (65 ∷ []) (decimal n))) sum count
+
+      sum-fits : n < 255
+      unfolding checksum
+      sum-fits = omega (arith, sum-is)
+
+      pub fine-short : r .count < 2 ^ 64 → length (valueLines b 0 ++ totalLines n (r .count)) ≤ 512
+      unfolding valueLines totalLines
+      fine-short g =
+          let p = passes b (sheetOf b) (judge-fine b 0 r x is e .0) .0 in
+          let fields = lines-short 1 (checks-fair 1 table (codesOf b) codes-table (p .fields) .0) table-small (omega (arith, entries-length b)) in
+          omega (
+            arith,
+            fields,
+            entries-length b,
+            length-append (fieldLines 1 (entries table (codesOf b))) (line (67 ∷ []) (decimal n) ++ line (65 ∷ []) (decimal (r .count))),
+            length-append (line (67 ∷ []) (decimal n)) (line (65 ∷ []) (decimal (r .count))),
+            length-append (decimal n) (10 ∷ []),
+            length-append (decimal (r .count)) (10 ∷ []),
+            decimal-short 2 n (omega (arith, sum-fits)),
+            decimal-short 19 (r .count) (omega arith),
+          )
 
 pub refused-short : (n p : ℕ) → n < 256 → p < 2 ^ 64 → length (refusalLine n p) ≤ 512
 refused-short n p h g =

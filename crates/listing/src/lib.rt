@@ -114,7 +114,7 @@ fn list_all(s: &[u8], out: &mut [u8]) -> usize
     let i = report::inspect(s, 0);
     match i {
         Inspected::Refused(n, p) => put_refusal(out, n as u64, p as u64),
-        Inspected::Fine(r) => { put_sheet(s, out, r.checksum, r.count as u64) }
+        Inspected::Fine(r) => put_sheet(s, out, card::checksum(s), r.count as u64),
     }
 }
 

@@ -111,7 +111,7 @@ fn answer_of(r: Reply) -> Answer
 pub extern "C" fn lmr5_judge(report: &[u8]) -> Answer
     ensures { λ r. ⌜ r ≡ numbered (judging (judge (now (report .entry)))) ⌝ }
 {
-    let j = report::judge(report);
+    let j = report::judge(&*report);
     match j {
         Judged::Refused(n, p) => refused(n, p),
         Judged::Accepted(size) => counted(size),
@@ -166,7 +166,7 @@ pub extern "C" fn lmr5_unpack(
 ) -> Answer
     ensures { λ r. ⌜ opening r (now (values .exit)) (now (tail .exit)) (now (contents .exit)) ≡ numberedUnpacked (spec.unpack (now (report .entry)) (now (values .entry)) (now (tail .entry))) (now (contents .entry)) ⌝ }
 {
-    let u = whole::unpack(report, values, tail);
+    let u = whole::unpack(&*report, values, tail);
     match u {
         Unpacked::Refused(n, p) => refused(n, p),
         Unpacked::Given(c) => {
@@ -199,7 +199,7 @@ pub extern "C" fn lmr5_pack(
 pub extern "C" fn lmr5_read_field(report: &[u8], field: usize) -> Answer
     ensures { λ r. ⌜ left r (now (report .entry)) [] ≡ numberedAfter (effect (now (report .entry)) (machine.readField field)) ⌝ }
 {
-    answer_of(fields::read_field(report, field))
+    answer_of(fields::read_field(&*report, field))
 }
 
 #[no_mangle]
@@ -220,7 +220,7 @@ pub extern "C" fn lmr5_clear_field(report: &mut [u8], field: usize) -> Answer
 pub extern "C" fn lmr5_read_flag(report: &[u8], flag: usize) -> Answer
     ensures { λ r. ⌜ left r (now (report .entry)) [] ≡ numberedAfter (effect (now (report .entry)) (machine.readFlag flag)) ⌝ }
 {
-    answer_of(fields::read_flag(report, flag))
+    answer_of(fields::read_flag(&*report, flag))
 }
 
 #[no_mangle]
@@ -250,7 +250,7 @@ pub extern "C" fn lmr5_put(report: &mut [u8], id: usize, content: &[u8]) -> Answ
 pub extern "C" fn lmr5_fetch(report: &[u8], id: usize, out: &mut [u8]) -> Answer
     ensures { λ r. ⌜ left r (now (report .entry)) (now (out .exit)) ≡ numberedAfter (effect (now (report .entry)) (machine.fetch id (now (out .entry)))) ⌝ }
 {
-    answer_of(attachments::fetch(report, id, out))
+    answer_of(attachments::fetch(&*report, id, out))
 }
 
 #[no_mangle]
@@ -271,7 +271,7 @@ pub extern "C" fn lmr5_put_text(report: &mut [u8], text: &[u8]) -> Answer
 pub extern "C" fn lmr5_fetch_text(report: &[u8], out: &mut [u8]) -> Answer
     ensures { λ r. ⌜ left r (now (report .entry)) (now (out .exit)) ≡ numberedAfter (effect (now (report .entry)) (machine.fetchText (now (out .entry)))) ⌝ }
 {
-    answer_of(attachments::fetch_text(report, out))
+    answer_of(attachments::fetch_text(&*report, out))
 }
 
 // ---- a script of calls

@@ -1,11 +1,11 @@
 -- Laws of a buffer's nibbles, from a cursor on and n of them.
 -- Assumes nothing.
-use Prim.Native.Nat.{ℕ, _+_, _-_, _*_, _/_, _≤_, _<_}
+use Prim.Native.Nat.{ℕ, _+_, _-_, _*_, _/_, _≤_, _<_, max}
 use native.Mathlib.Nat.{add-zero}
 use native.Mathlib.Numerals.{add-one}
 use native.Mathlib.Omega.{arith}
 use mathlib.Core.Path.{_≡_, refl, sym, ap, ap₂, _∙_}
-use mathlib.Core.Bool.{Bool, true, false, cond}
+use mathlib.Core.Bool.{Bool, true, false, cond, _&&_}
 use mathlib.Core.List.{List}
 use lib.ListN.{length, getD, take, drop, length-drop, drop-of-length-le}
 use lib.Seq.{length-take-le, getD-take, getD-drop, take-take, drop-drop, drop-cons}
@@ -93,15 +93,28 @@ is-short b c e =
 
 -- ---- bytes that are nibbles each, from place i on
 
-module _ (ns : List ℕ) (i : ℕ) where
-  pub nibble-over : i < length ns → 15 < getD ns i 0 → false ≡ allNibbles (drop i ns)
-  unfolding allNibbles
-  nibble-over h k = rw (drop-cons ns i 0 h, lt-leb (getD ns i 0) 15 k)
+max-leb : (a b : ℕ) → leb (max a b) 15 ≡ leb a 15 && leb b 15
+max-leb a b =
+    test-case (leb a 15)
+    (λ t. test-case (leb b 15)
+    (λ u. le-leb (max a b) 15 (omega (arith, leb-true a 15 t, leb-true b 15 u)) ∙ rw (t, u))
+    (λ u. lt-leb (max a b) 15 (omega (arith, leb-false b 15 u)) ∙ rw (t, u)))
+    (λ t. lt-leb (max a b) 15 (omega (arith, leb-false a 15 t)) ∙ rw t)
 
-  pub nibble-fine : i < length ns → getD ns i 0 ≤ 15 → allNibbles (drop (i + 1) ns) ≡ allNibbles (drop i ns)
-  unfolding allNibbles
-  nibble-fine h k = rw (drop-cons ns i 0 h, le-leb (getD ns i 0) 15 k, add-one)
+and-right : (p : Bool) → p && true ≡ p
+and-right true = refl
+and-right false = refl
 
-  pub nibbles-end : length ns ≤ i → true ≡ allNibbles (drop i ns)
+and-assoc : (p q r : Bool) → (p && q) && r ≡ p && (q && r)
+and-assoc true q r = refl
+and-assoc false q r = refl
+
+module _ (ns : List ℕ) (i top : ℕ) where
+  -- the largest so far, and the next
+  pub nibble-next : i < length ns → leb (max top (getD ns i 0)) 15 && allNibbles (drop (i + 1) ns) ≡ leb top 15 && allNibbles (drop i ns)
   unfolding allNibbles
-  nibbles-end h = ap allNibbles (sym (drop-of-length-le ns {i = i} h))
+  nibble-next h = rw (drop-cons ns i 0 h, max-leb top (getD ns i 0), add-one) (and-assoc (leb top 15) (leb (getD ns i 0) 15) _)
+
+  pub nibbles-end : length ns ≤ i → leb top 15 ≡ leb top 15 && allNibbles (drop i ns)
+  unfolding allNibbles
+  nibbles-end h = rw (drop-of-length-le ns {i = i} h) (sym (and-right (leb top 15)))

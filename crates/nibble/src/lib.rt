@@ -1,6 +1,6 @@
 // Nibbles of a buffer, high half of a byte first, read by a cursor.
 ghost use mathlib.Core.Path.{_≡_};
-ghost use Prim.Native.Nat.{_+_, _≤_, _<_, _^_};
+ghost use Prim.Native.Nat.{_+_, _≤_, _<_, _^_, max};
 ghost use lib.Dec.{ltb};
 ghost use lib.ListN.{length, getD};
 ghost use Rattle.format.specs.Machine.{allNibbles};
@@ -56,18 +56,27 @@ pub fn inside(s: &[u8], at: usize, packed: bool) -> bool
     at < s.len()
 }
 
-// Whether each byte is a nibble.
+// The larger of two bytes.
+fn larger(a: u8, b: u8) -> u8
+    ensures { λ r. ⌜ r ≡ max a b ⌝ }
+{
+    if a < b {
+        return b;
+    }
+    a
+}
+
+// Whether each byte is a nibble: whether the largest is. A loop that stops early is not made one over many bytes at once.
 pub fn all_nibbles(ns: &[u8]) -> bool
     ensures { λ r. ⌜ r ≡ allNibbles (now (ns .entry)) ⌝ }
 {
+    let mut top = 0;
     let mut i = 0;
     while i < ns.len() {
-        if 15 < ns[i] {
-            return false;
-        }
+        top = larger(top, ns[i]);
         i += 1;
     }
-    true
+    top <= 15
 }
 
 impl Cursor {

@@ -1,6 +1,6 @@
 -- Each outcome of judging, from the tests that led there; and what an outcome says of the report.
 -- Assumes nothing.
-use Prim.Native.Nat.{ℕ, _+_, _*_, _/_, _%_, _≤_, _<_}
+use Prim.Native.Nat.{ℕ, suc, _+_, _*_, _/_, _%_, _≤_, _<_}
 use native.Mathlib.Omega.{arith}
 use mathlib.Core.Path.{_≡_, refl, sym, ap, _∙_}
 use mathlib.Core.Bool.{Bool, true, false, cond, not, _&&_}
@@ -8,26 +8,29 @@ use mathlib.Core.List.{List, [], _∷_, _++_}
 use mathlib.Core.Option.{Option, none, some}
 use lib.ListN.{length, getD, drop, length-append, length-drop}
 use lib.Seq.{getD-drop}
-use lib.Dec.{eqb}
+use lib.Dec.{ltb, eqb}
 use borrow.Author.Tests.{lt-ltb, le-ltb, eq-eqb, ne-eqb}
 use Rattle.format.specs.Order.{Refusal, check, first}
-use Rattle.format.specs.Field.{table}
+use Rattle.format.specs.Field.{Field, table, required}
 use Rattle.format.specs.Nibbles.{nibbles, odd, tailNibbles, attachmentsOf}
 use Rattle.format.specs.Sheet.{checksum, size}
 use Rattle.format.specs.Report.{codesOf, checksumOf, countOf, tailOf, sheetOf, fieldChecks, attachmentChecks, tailLength, reportChecks, refused, accepted, verdict, judge}
 use Rattle.checks.specs.Answers.{checkedOf, cardCheck}
 use Rattle.checks.specs.declared.CardCheck.{CardCheck}
-use Rattle.tail.specs.Walk.{tailAt, walkedBy, walked}
+use Rattle.format.specs.Machine.{contentOf}
+use Rattle.tail.specs.Walk.{placeOf, tailAt, walkedBy, walked}
 use Rattle.tail.specs.declared.Tail.{Tail}
 use Rattle.tail.specs.declared.Walked.{Walked}
 use Rattle.tail.proofs.Turns.{walked-refused, walked-ended}
 use Rattle.nibble.specs.declared.Cursor.{Cursor}
 use Rattle.laws.proofs.Order.{first-skip, first-fits, first-append-skip, first-append-some}
 use Rattle.laws.proofs.Bits.{Bytes, drop-below}
-use Rattle.laws.proofs.Nibbles.{length-nibbles, nibbles-lt}
+use Rattle.laws.proofs.Fields.{table-length}
+use Rattle.laws.proofs.Nibbles.{length-nibbles, nibbles-lt, getD-low}
+use Rattle.card.proofs.Numbers.{count-at}
 use Rattle.laws.proofs.Attachments.{checks-fine}
 use Rattle.laws.proofs.Report.{size-is}
-use Rattle.report.specs.Answers.{judgedOf, reportOf, inspectedBy, inspected, lastOf}
+use Rattle.report.specs.Answers.{judgedOf, reportOf, inspectedBy, inspected, lastOf, FrontPasses, Front}
 use Rattle.report.specs.declared.Judged.{Judged}
 use Rattle.report.specs.declared.Report.{Report}
 use Rattle.report.specs.declared.Inspected.{Inspected}
@@ -80,6 +83,53 @@ end-within b bs long e =
     let tail = tailNibbles (attachmentsOf (countOf b) (tailOf b)) in
     omega (arith, ap length (w .starts), length-append tail (drop (length tail) (tailOf b)), length-drop 75 (nibbles b), length-nibbles b)
 
+-- ---- the front: the length, the fields, the checksum
+
+refused-place : (k : ℕ) (fs : List Field) (cs : List ℕ) (r : Refusal) → first (fieldChecks k fs cs) ≡ some r → (k ≤ r .place) × (r .place < k + length fs)
+unfolding fieldChecks first
+refused-place k [] cs r e = let z : _≡_ {A = ℕ} 0 1 = cc in absurd (omega arith)
+refused-place k (f ∷ fs) [] r e = let z : _≡_ {A = ℕ} 0 1 = cc in absurd (omega arith)
+refused-place k (f ∷ fs) (c ∷ cs) r e = go (ltb (f .highest) c) (required k && eqb c 0) (refused-place (suc k) fs cs r) e
+  where
+    go : (t u : Bool) → (first (fieldChecks (suc k) fs cs) ≡ some r → (suc k ≤ r .place) × (r .place < suc k + length fs))
+        → cond t (some (refusal 2 k)) (cond u (some (refusal 3 k)) (first (fieldChecks (suc k) fs cs))) ≡ some r
+        → (k ≤ r .place) × (r .place < k + suc (length fs))
+    go true u more e = let q : k ≡ r .place = cc in (omega arith, omega arith)
+    go false true more e = let q : k ≡ r .place = cc in (omega arith, omega arith)
+    go false false more e = let h = more e in (omega (arith, h .0), omega (arith, h .1))
+
+module _ (b : List ℕ) where
+  pub field-place : (n k : ℕ) → first (fieldChecks 1 table (codesOf b)) ≡ some (refusal n k) → (1 ≤ k) × (k ≤ 46)
+  field-place n k e = let h = refused-place 1 table (codesOf b) (refusal n k) e in (h .0, omega (arith, h .1, table-length))
+
+  pub front-short : length b < 38 → Front b 1
+  unfolding reportChecks
+  front-short h = record { passes = λ z. absurd (omega arith); refuses = λ _. first-fits _ _ (lt-ltb (length b) 38 h) }
+
+  module _ (long : 38 ≤ length b) where
+    pub front-field : (n k : ℕ) → n < 256 → first (fieldChecks 1 table (codesOf b)) ≡ some (refusal n k) → Front b (n + 256 * k)
+    unfolding reportChecks
+    front-field n k l e =
+        let p = field-place n k e in
+        let x : n ≡ (n + 256 * k) % 256 = omega arith in
+        let y : k ≡ (n + 256 * k) / 256 = omega arith in
+        record {
+          passes = λ z. absurd (omega (arith, p .0));
+          refuses = λ _. first-skip _ _ (le-ltb (length b) 38 long) ∙ first-append-some _ _ (refusal n k) e ∙ (λ i. some (record { number = x i; place = y i }));
+        }
+
+    module _ (fields : first (fieldChecks 1 table (codesOf b)) ≡ none) where
+      pub front-sum : (checksumOf b ≡ checksum (codesOf b) → ⊥) → Front b 4
+      unfolding reportChecks
+      front-sum h =
+          record {
+            passes = λ z. absurd (omega arith);
+            refuses = λ _. first-skip _ _ (le-ltb (length b) 38 long) ∙ first-append-skip _ _ fields ∙ first-fits _ _ (ap not (ne-eqb (checksumOf b) (checksum (codesOf b)) h));
+          }
+
+      pub front-passes : checksumOf b ≡ checksum (codesOf b) → Front b 0
+      front-passes sum = record { passes = λ _. record { long = long; fields = fields; sum = sum }; refuses = λ h. absurd (h refl) }
+
 -- ---- the outcomes
 
 by-cond : (t : Bool) (q : Report) → inspectedBy (cond t (some (refusal 7 0)) none) q ≡ cond t (Inspected.Refused 7 0) (Inspected.Fine q)
@@ -91,47 +141,41 @@ module _ (b : List ℕ) (i : ℕ) where
   unfolding inspected
   by-first o e = ap (λ (x : Option Refusal). inspectedBy x (reportOf b i (attachmentsOf (countOf b) (tailOf b)))) (sym e)
 
-  pub short : length b < 38 → Inspected.Refused 1 0 ≡ inspected b i
-  unfolding reportChecks
-  short h = by-first (some (refusal 1 0)) (first-fits _ _ (lt-ltb (length b) 38 h))
+  pub front-refused : (v : ℕ) → Front b v → (v ≡ 0 → ⊥) → Inspected.Refused (v % 256) (v / 256) ≡ inspected b i
+  front-refused v f h = by-first (some (refusal (v % 256) (v / 256))) (f .refuses h)
 
-  module _ (long : 38 ≤ length b) where
-    pub field-refused : (n p : ℕ) → first (fieldChecks 1 table (codesOf b)) ≡ some (refusal n p) → Inspected.Refused n p ≡ inspected b i
+  module _ (f : FrontPasses b) where
+    behind-front : (o : Option Refusal)
+        → first (attachmentChecks (countOf b) 1 [] (tailOf b) ++ (check (odd (75 + tailLength b) && not (eqb (getD (tailOf b) (tailLength b) 0) 0)) 7 0 ∷ [])) ≡ o
+        → first (reportChecks b) ≡ o
     unfolding reportChecks
-    field-refused n p e =
-        by-first (some (refusal n p)) (first-skip _ _ (le-ltb (length b) 38 long) ∙ first-append-some _ _ (refusal n p) e)
+    behind-front o e =
+        first-skip _ _ (le-ltb (length b) 38 (f .long)) ∙ first-append-skip _ _ (f .fields)
+        ∙ first-skip _ _ (ap not (eq-eqb (checksumOf b) (checksum (codesOf b)) (f .sum))) ∙ e
 
-    module _ (fields : first (fieldChecks 1 table (codesOf b)) ≡ none) where
-      pub sum-refused : (checksumOf b ≡ checksum (codesOf b) → ⊥) → Inspected.Refused 4 0 ≡ inspected b i
-      unfolding reportChecks
-      sum-refused h =
-          by-first (some (refusal 4 0))
-          (first-skip _ _ (le-ltb (length b) 38 long) ∙ first-append-skip _ _ fields ∙ first-fits _ _ (ap not (ne-eqb (checksumOf b) (checksum (codesOf b)) h)))
+    pub attachment-refused : (n p : ℕ) → first (attachmentChecks (countOf b) 1 [] (tailOf b)) ≡ some (refusal n p) → Inspected.Refused n p ≡ inspected b i
+    attachment-refused n p e = by-first (some (refusal n p)) (behind-front (some (refusal n p)) (first-append-some _ _ (refusal n p) e))
 
-      module _ (sum : checksumOf b ≡ checksum (codesOf b)) where
-        behind-sum : (o : Option Refusal)
-            → first (attachmentChecks (countOf b) 1 [] (tailOf b) ++ (check (odd (75 + tailLength b) && not (eqb (getD (tailOf b) (tailLength b) 0) 0)) 7 0 ∷ [])) ≡ o
-            → first (reportChecks b) ≡ o
-        unfolding reportChecks
-        behind-sum o e =
-            first-skip _ _ (le-ltb (length b) 38 long) ∙ first-append-skip _ _ fields
-            ∙ first-skip _ _ (ap not (eq-eqb (checksumOf b) (checksum (codesOf b)) sum)) ∙ e
+    -- the last nibble decides
+    pub last-decides : first (attachmentChecks (countOf b) 1 [] (tailOf b)) ≡ none
+        → (n : ℕ) (u : Tail) → n ≡ countOf b → u ≡ tailAt 75 i (attachmentsOf (countOf b) (tailOf b))
+        → lastOf b n u ≡ inspected b i
+    unfolding first
+    last-decides attachments n u en eu =
+        let at : getD (nibbles b) (75 + tailLength b) 0 ≡ getD (tailOf b) (tailLength b) 0 = sym (getD-drop 75 (nibbles b) (tailLength b) 0) in
+        let test = odd (75 + tailLength b) && not (eqb (getD (tailOf b) (tailLength b) 0) 0) in
+        rw (en, eu, at)
+        (sym (by-cond test (reportOf b i (attachmentsOf (countOf b) (tailOf b))))
+        ∙ by-first (cond test (some (refusal 7 0)) none)
+        (behind-front (cond test (some (refusal 7 0)) none) (first-append-skip (attachmentChecks (countOf b) 1 [] (tailOf b)) (check test 7 0 ∷ []) attachments)))
 
-        pub attachment-refused : (n p : ℕ) → first (attachmentChecks (countOf b) 1 [] (tailOf b)) ≡ some (refusal n p) → Inspected.Refused n p ≡ inspected b i
-        attachment-refused n p e = by-first (some (refusal n p)) (behind-sum (some (refusal n p)) (first-append-some _ _ (refusal n p) e))
-
-        module _ (attachments : first (attachmentChecks (countOf b) 1 [] (tailOf b)) ≡ none) where
-          -- the last nibble decides
-          pub last-decides : (v n : ℕ) (u : Tail) → v ≡ checksum (codesOf b) → n ≡ countOf b → u ≡ tailAt 75 i (attachmentsOf (countOf b) (tailOf b))
-              → lastOf b v n u ≡ inspected b i
-          unfolding first
-          last-decides v n u ev en eu =
-              let at : getD (nibbles b) (75 + tailLength b) 0 ≡ getD (tailOf b) (tailLength b) 0 = sym (getD-drop 75 (nibbles b) (tailLength b) 0) in
-              let test = odd (75 + tailLength b) && not (eqb (getD (tailOf b) (tailLength b) 0) 0) in
-              rw (ev, en, eu, at)
-              (sym (by-cond test (reportOf b i (attachmentsOf (countOf b) (tailOf b))))
-              ∙ by-first (cond test (some (refusal 7 0)) none)
-              (behind-sum (cond test (some (refusal 7 0)) none) (first-append-skip (attachmentChecks (countOf b) 1 [] (tailOf b)) (check test 7 0 ∷ []) attachments)))
+    -- a card alone: AC and the last nibble are 0
+    pub card-alone : Bytes b → getD b 37 0 ≡ 0 → Inspected.Fine (record { count = 0; end = 75; place = 0; al = 0 }) ≡ inspected b i
+    unfolding attachmentChecks attachmentsOf tailNibbles placeOf contentOf first
+    card-alone bs e =
+        let none-stand : countOf b ≡ 0 = sym (count-at b bs (f .long)) ∙ ap (λ (x : ℕ). x / 16) e in
+        let low : getD (nibbles b) 75 0 ≡ 0 = getD-low b 37 ∙ ap (λ (x : ℕ). x % 16) e in
+        rw (low) at (last-decides (rw none-stand refl) 0 (record { end = 75; place = 0; al = 0 }) (sym none-stand) (rw none-stand refl))
 
 -- ---- what an outcome says
 

@@ -1,5 +1,5 @@
 -- What judging a report answers.
-use Prim.Native.Nat.{ℕ, _+_, _≤_}
+use Prim.Native.Nat.{ℕ, _+_, _/_, _%_, _≤_}
 use mathlib.Core.Path.{_≡_}
 use mathlib.Core.Bool.{Bool, true, false, cond, not, _&&_}
 use mathlib.Core.List.{List}
@@ -10,7 +10,7 @@ use Rattle.format.specs.Field.{table}
 use Rattle.format.specs.Order.{Refusal, first}
 use Rattle.format.specs.Nibbles.{Attachment, nibbles, odd, tailNibbles, attachmentsOf}
 use Rattle.format.specs.Sheet.{Sheet, checksum, size}
-use Rattle.format.specs.Report.{codesOf, countOf, tailOf, fieldChecks, reportChecks, Verdict, refused, accepted, judge}
+use Rattle.format.specs.Report.{codesOf, checksumOf, countOf, tailOf, fieldChecks, reportChecks, Verdict, refused, accepted, judge}
 use Rattle.laws.proofs.Bits.{Bytes}
 use Rattle.format.specs.Machine.{contentOf}
 use Rattle.tail.specs.Walk.{placeOf}
@@ -55,11 +55,10 @@ pub record FrontCompared (r : Bool) (a b : List ℕ) (n : ℕ) : Type 0 where
   pub same : r ≡ true → take n a ≡ take n b
   pub other : r ≡ false → take n a ≡ take n b → ⊥
 
--- what an accepted report shows on the way: its checksum, AC, its end in nibbles, and the place and AL of id i
+-- what an accepted report shows on the way: AC, its end in nibbles, and the place and AL of id i
 abbrev pub reportOf : List ℕ → ℕ → List Attachment → Report
 reportOf b i list =
     record {
-      checksum = checksum (codesOf b);
       count = countOf b;
       end = 75 + length (tailNibbles list);
       place = placeOf 75 i list;
@@ -75,13 +74,18 @@ unfoldable pub inspected : List ℕ → ℕ → Inspected
 inspected b i = inspectedBy (first (reportChecks b)) (reportOf b i (attachmentsOf (countOf b) (tailOf b)))
 
 -- what the last nibble decides, behind a tail
-abbrev pub lastOf : List ℕ → ℕ → ℕ → Tail → Inspected
-lastOf b n count t =
+abbrev pub lastOf : List ℕ → ℕ → Tail → Inspected
+lastOf b count t =
     cond (odd (t .end) && not (eqb (getD (nibbles b) (t .end) 0) 0)) (Refused 7 0)
-    (Fine (record { checksum = n; count = count; end = t .end; place = t .place; al = t .al }))
+    (Fine (record { count = count; end = t .end; place = t .place; al = t .al }))
 
--- the length and the fields have passed
-pub record FieldsPass (b : List ℕ) (n : ℕ) : Type 0 where
+-- the length, the fields and the checksum have passed
+pub record FrontPasses (b : List ℕ) : Type 0 where
   pub long : 38 ≤ length b
   pub fields : first (fieldChecks 1 table (codesOf b)) ≡ none
-  pub is : n ≡ checksum (codesOf b)
+  pub sum : checksumOf b ≡ checksum (codesOf b)
+
+-- 0 where they have, else the report's first refusal: its number and 256 times its place
+pub record Front (b : List ℕ) (r : ℕ) : Type 0 where
+  pub passes : r ≡ 0 → FrontPasses b
+  pub refuses : (r ≡ 0 → ⊥) → first (reportChecks b) ≡ some (record { number = r % 256; place = r / 256 })

@@ -4,8 +4,7 @@ ghost use mathlib.Core.Bool.{true};
 ghost use Prim.Native.Nat.{_*_, _≤_};
 ghost use lib.ListN.{length};
 ghost use Rattle.format.specs.Report.{judge};
-ghost use Rattle.tail.specs.Walk.{walked};
-ghost use Rattle.report.specs.Answers.{judgedOf, Sizes, inspected, lastOf, FieldsPass, Takes, comparison, FrontCompared};
+ghost use Rattle.report.specs.Answers.{judgedOf, Sizes, Front, FrontPasses, inspected, lastOf, Takes, comparison, FrontCompared};
 use checks::CardCheck;
 use nibble::Cursor;
 use tail::Tail;
@@ -18,10 +17,9 @@ pub enum Judged {
     Accepted(usize),
 }
 
-// What an accepted report shows on the way: its checksum, AC, its end in nibbles, and for the id asked for
+// What an accepted report shows on the way: AC, its end in nibbles, and for the id asked for
 // the place of its header and its AL, both 0 where it does not stand.
 pub struct Report {
-    pub checksum: u64,
     pub count: usize,
     pub end: usize,
     pub place: usize,
@@ -33,10 +31,29 @@ pub enum Inspected {
     Fine(Report),
 }
 
+// The length, the fields and the checksum: 0 where they pass, or the refusal's number and 256 times its place.
+fn front(s: &[u8]) -> usize
+    ensures { λ r. ⌜ Front (now (s .entry)) r ⌝ }
+{
+    if s.len() < 38 {
+        return 1;
+    }
+    let c = checks::check(&*s);
+    match c {
+        CardCheck::Refused(n, k) => n as usize + 256 * k,
+        CardCheck::Checksum(n) => {
+            if card::checksum(&*s) != n {
+                return 4;
+            }
+            0
+        }
+    }
+}
+
 // The odd last nibble is 0.
-fn last(s: &[u8], checksum: u64, count: usize, t: Tail) -> Inspected
+fn last(s: &[u8], count: usize, t: Tail) -> Inspected
     requires { ⌜ t .end ≤ 2 * length (now s) ⌝ }
-    ensures { λ r. ⌜ r ≡ lastOf (now (s .entry)) checksum count t ⌝ }
+    ensures { λ r. ⌜ r ≡ lastOf (now (s .entry)) count t ⌝ }
 {
     let end = t.end;
     if end % 2 == 1 {
@@ -45,7 +62,6 @@ fn last(s: &[u8], checksum: u64, count: usize, t: Tail) -> Inspected
         }
     }
     Inspected::Fine(Report {
-        checksum,
         count,
         end,
         place: t.place,
@@ -53,64 +69,59 @@ fn last(s: &[u8], checksum: u64, count: usize, t: Tail) -> Inspected
     })
 }
 
-// The attachments behind the card. A card alone is not walked.
-fn walk_behind(s: &[u8], count: usize, want: usize) -> Walked
-    requires { ⌜ 38 ≤ length (now s) ⌝ }
-    ensures { λ r. ⌜ r ≡ walked (now (s .entry)) (record { at = 75; packed = true }) count want ⌝ }
+// The attachments and the last nibble.
+fn inspect_tail(s: &[u8], want: usize) -> Inspected
+    requires { ⌜ FrontPasses (now s) ⌝ }
+    ensures { λ r. ⌜ r ≡ inspected (now (s .entry)) want ⌝ }
 {
-    if count == 0 {
-        return Walked::Ended(Tail {
-            end: 75,
-            place: 0,
-            al: 0,
-        });
-    }
-    tail::walk(
-        s,
+    let count = card::count(&*s);
+    let w = tail::walk(
+        &*s,
         Cursor {
             at: 75,
             packed: true,
         },
         count,
         want,
-    )
-}
-
-// The checksum, the attachments, the last nibble.
-fn inspect_tail(s: &[u8], checksum: u64, want: usize) -> Inspected
-    requires { ⌜ FieldsPass (now s) checksum ⌝ }
-    ensures { λ r. ⌜ r ≡ inspected (now (s .entry)) want ⌝ }
-{
-    if card::checksum(s) != checksum {
-        return Inspected::Refused(4, 0);
-    }
-    let count = card::count(s);
-    let w = walk_behind(s, count, want);
+    );
     match w {
         Walked::Refused(n, p) => Inspected::Refused(n, p),
-        Walked::Ended(t) => last(s, checksum, count, t),
+        Walked::Ended(t) => last(&*s, count, t),
     }
 }
 
-// Judges the report, and says where id `want` stands in it.
+// Judges the report, and says where id `want` stands in it. A card alone is not walked.
 pub fn inspect(s: &[u8], want: usize) -> Inspected
     ensures { λ r. ⌜ r ≡ inspected (now (s .entry)) want ⌝ }
 {
-    if s.len() < 38 {
-        return Inspected::Refused(1, 0);
+    let v = front(&*s);
+    if v != 0 {
+        return Inspected::Refused((v % 256) as u8, v / 256);
     }
-    let c = checks::check(s);
-    match c {
-        CardCheck::Refused(n, p) => Inspected::Refused(n, p),
-        CardCheck::Checksum(n) => inspect_tail(s, n, want),
+    if s[37] == 0 {
+        return Inspected::Fine(Report {
+            count: 0,
+            end: 75,
+            place: 0,
+            al: 0,
+        });
     }
+    inspect_tail(&*s, want)
 }
 
-// Judges the report that a buffer begins with.
+// Judges the report that a buffer begins with. Not over `inspect`: as `front` has two callers it is not made part of
+// `inspect`, which so is small enough to be made part of its callers, and what both answer stays in registers.
 pub fn judge(s: &[u8]) -> Judged
     ensures { λ r. ⌜ (r ≡ judgedOf (judge (now (s .entry)))) × Sizes r ⌝ }
 {
-    let i = inspect(s, 0);
+    let v = front(&*s);
+    if v != 0 {
+        return Judged::Refused((v % 256) as u8, v / 256);
+    }
+    if s[37] == 0 {
+        return Judged::Accepted(38);
+    }
+    let i = inspect_tail(&*s, 0);
     match i {
         Inspected::Refused(n, p) => Judged::Refused(n, p),
         Inspected::Fine(r) => Judged::Accepted(r.end / 2 + r.end % 2),

@@ -7,23 +7,21 @@ use mathlib.Core.Path.{_≡_, refl, sym, ap, ap₂, subst, _∙_}
 use mathlib.Core.Bool.{Bool, true, false, cond}
 use mathlib.Core.List.{List, [], _∷_, _++_, append-assoc, append-nil}
 use mathlib.Core.Option.{Option, none, some}
-use lib.ListN.{length, getD, take, drop, length-append, length-drop, List·getD-eq-default}
+use lib.ListN.{length, getD, take, drop, length-append, length-drop}
 use lib.Seq.{drop-drop, drop-at, take-at, take-append-seam, drop-append-seam, take-append-add, drop-append-add, length-take-le}
-use lib.Dec.{ltb, leb, eqb}
+use lib.Dec.{ltb, leb}
 use lib.IntN.{ℤ}
-use lib.Signed.{mag}
 use borrow.Author.Tests.{ltb-false, le-leb, lt-leb, leb-true}
 use Rattle.format.specs.Order.{Refusal, first}
 use Rattle.format.specs.Sheet.{Sheet, size}
 use Rattle.format.specs.Report.{Verdict, judge}
 use Rattle.format.specs.Machine.{Call, readField, setField, clearField, readFlag, setFlag, clearFlag, put, fetch, remove, putText, fetchText, next, lent, writes, roomCheck, callChecks, checks, Answer, refused, accepted, steppedBy, step, over}
 use Rattle.format.specs.Buffer.{after, Shown, shown, Ran, effectOn, effect, calls, claim}
-use Rattle.format.specs.Reply.{refusal}
 use Rattle.laws.proofs.Lists.{or-false}
 use Rattle.laws.proofs.Order.{first-none, first-append-none}
 use Rattle.laws.proofs.Bits.{Bytes, append-below}
 use Rattle.laws.proofs.List.{whole-list}
-use Rattle.script.specs.Script.{bytesOf, bytes8, Entry, entry, numberAt, bytesAt, kinds, within, entryAt, recordSize, logSize, nextIn, listOf, entryOf, scriptOf, Lent, Fits, AllFit, headOf, recordOf, records, Replayed, logged, replayed, Performs, idle, performed, turn}
+use Rattle.script.specs.Script.{bytesOf, bytes8, Entry, entry, numberAt, bytesAt, kinds, within, entryAt, recordSize, logSize, nextIn, listOf, entryOf, scriptOf, Lent, Fits, AllFit, headOf, recordOf, records, answerAt, AnswerFits, Replayed, logged, replayed, Performs, idle, performed, turn}
 use Rattle.words.specs.Words.{signed, unsigned}
 use Rattle.script.proofs.Numbers.{length-bytes8, number-bytes8, signed-unsigned, unsigned-lt}
 
@@ -49,10 +47,6 @@ module _ (s : List ℕ) (k : ℕ) (e : Entry) (kind : getD s 0 0 ≡ k) (says : 
   pub entry-cut : length s < e .taken → entryAt s ≡ none
   unfolding entryAt within
   entry-cut h = rw (kind, says, lt-leb (e .taken) (length s) h)
-
-pub entry-unknown : (s : List ℕ) → 12 ≤ getD s 0 0 → entryAt s ≡ none
-unfolding entryAt within kinds
-entry-unknown s h = rw (List·getD-eq-default (kinds s) none {n = getD s 0 0} h)
 
 pub entry-zero : (s : List ℕ) → getD s 0 0 ≡ 0 → entryAt s ≡ none
 unfolding entryAt within kinds
@@ -260,19 +254,6 @@ list-cons room s e q =
     ∙ list-suc (length s) room s e q
     ∙ ap (λ (cs : List Call). e .call ∷ cs) (list-fuel (length s) (length rest) (room - recordSize (e .call)) rest (omega arith) (omega arith))
 
--- the records of a script's list fit the room
-pub list-room : (fuel room : ℕ) (s : List ℕ) → logSize (listOf fuel room s) ≤ room
-unfolding listOf logSize
-list-room zero room s = omega arith
-list-room (suc fuel) room s = go (nextIn room s) refl (list-room fuel)
-  where
-    go : (o : Option Entry) → nextIn room s ≡ o → ((r : ℕ) (d : List ℕ) → logSize (listOf fuel r d) ≤ r) → logSize (listOf (suc fuel) room s) ≤ room
-    go none q rec = rw (list-nil (suc fuel) room s q) (omega arith)
-    go (some e) q rec =
-        let n = next-some room s e q in
-        let h = rec (room - recordSize (e .call)) (drop (e .taken) s) in
-        rw (list-suc fuel room s e q) (omega arith)
-
 -- EVERY LIST HAS A SCRIPT: the script of a list is read as that list, and then as the list of what is behind it
 pub script-list : (cs : List Call) (room : ℕ) (rest : List ℕ) → AllFit cs → logSize cs ≤ room
     → (let s = scriptOf cs ++ rest in listOf (length s) room s ≡ cs ++ listOf (length rest) (room - logSize cs) rest)
@@ -288,18 +269,11 @@ script-list (c ∷ cs) room rest f h =
     ∙ ap (λ (x : List Call). c ∷ x)
     (rw (drop-append-seam (entryOf c) (scriptOf cs ++ rest), ← d) (script-list cs (room - recordSize c) rest (f .1) (omega arith))))
 
--- with nothing behind it, and with a byte 0, that ends the list
+-- with nothing behind it
 pub script-alone : (cs : List Call) (room : ℕ) → AllFit cs → logSize cs ≤ room → listOf (length (scriptOf cs)) room (scriptOf cs) ≡ cs
 script-alone cs room f h =
     rw append-nil at (script-list cs room [] f h)
     ∙ ap (λ (x : List Call). cs ++ x) (list-empty 0 (room - logSize cs) [] (omega arith))
-    ∙ append-nil cs
-
-pub script-ended : (cs : List Call) (room : ℕ) (rest : List ℕ) → AllFit cs → logSize cs ≤ room
-    → (let s = scriptOf cs ++ (0 ∷ rest) in listOf (length s) room s ≡ cs)
-script-ended cs room rest f h =
-    script-list cs room (0 ∷ rest) f h
-    ∙ ap (λ (x : List Call). cs ++ x) (list-nil (length (0 ∷ rest)) (room - logSize cs) (0 ∷ rest) (next-none (room - logSize cs) (0 ∷ rest) (entry-zero (0 ∷ rest) refl)))
     ∙ append-nil cs
 
 -- it is a script of bytes
@@ -344,19 +318,6 @@ script-bytes [] f = λ i. omega arith
 script-bytes (c ∷ cs) f = append-below 256 (entryOf c) (scriptOf cs) (entry-bytes c (f .0)) (script-bytes cs (f .1))
 
 -- ---- the log cuts nothing: an answer within 64 bits is read back from its record
-
-unfoldable pub answerAt : List ℕ → Answer
-answerAt s =
-    cond (eqb (getD s 0 0) 0) (refusal (getD s 1 0) (numberAt s 2))
-    (cond (eqb (getD s 0 0) 1) (accepted [])
-    (cond (eqb (getD s 0 0) 2) (accepted (some (signed (numberAt s 2)) ∷ [])) (accepted (none ∷ []))))
-
-abbrev pub AnswerFits : Answer → Type 0
-AnswerFits (refused r) = r .place < 2 ^ 64
-AnswerFits (accepted []) = Unit {0}
-AnswerFits (accepted (some z ∷ [])) = mag z < 2 ^ 63
-AnswerFits (accepted (none ∷ [])) = Unit {0}
-AnswerFits (accepted (x ∷ y ∷ more)) = ⊥
 
 pub answer-back : (a : Answer) (out : List ℕ) → AnswerFits a → answerAt (recordOf (shown a out)) ≡ a
 unfolding answerAt recordOf headOf
@@ -408,12 +369,6 @@ pub record-size : (b : List ℕ) (c : Call) → length (recordOf (shownOf b c)) 
 unfolding recordSize
 record-size b c = record-length (shownOf b c) ∙ ap (λ (n : ℕ). 10 + n) (effect-out b c)
 
-pub records-size : (b : List ℕ) (cs : List Call) → length (records (calls b cs .answers)) ≡ logSize cs
-unfolding records calls logSize
-records-size b [] = refl
-records-size b (c ∷ cs) =
-    rw (length-append (recordOf (shownOf b c)) (records (calls (effect b c .buffer) cs .answers)), record-size b c, records-size (effect b c .buffer) cs)
-
 -- ---- the driver
 
 -- what the calls of a script leave, each on the buffer as the one before left it
@@ -432,7 +387,7 @@ replay-claim b script log h =
 -- and it is claimed of every list that has this script
 pub performs : (r : Replayed) (b script log : List ℕ) → r ≡ replayed b script log → Performs r b script log
 unfolding replayed
-performs r b script log h = record { of-script = h; of-list = λ cs f e g. h ∙ of cs f e g }
+performs r b script log h = record { of-script = h; of-list = λ cs f e g. h ∙ of cs f e g; in-bytes = script-bytes; told = answer-back }
   where
     of : (cs : List Call) → AllFit cs → scriptOf cs ≡ script → logSize cs ≤ length log → replayed b script log ≡ logged cs (claim b cs) log
     of cs f e g = rw (← e, script-alone cs (length log) f g)

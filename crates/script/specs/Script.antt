@@ -5,11 +5,12 @@ use mathlib.Core.Bool.{cond}
 use mathlib.Core.List.{List, [], _∷_, _++_}
 use mathlib.Core.Option.{Option, none, some}
 use lib.ListN.{length, getD, take, drop}
-use lib.Dec.{leb}
+use lib.Dec.{leb, eqb}
 use lib.Signed.{mag}
 use Rattle.words.specs.Words.{signed, unsigned}
 use Rattle.format.specs.Machine.{Call, readField, setField, clearField, readFlag, setFlag, clearFlag, put, fetch, remove, putText, fetchText, lent, Answer, refused, accepted, over}
 use Rattle.format.specs.Buffer.{Shown, shown, Ran, effect, claim}
+use Rattle.format.specs.Reply.{refusal}
 use Rattle.format.specs.declared.Scaled.{Scaled}
 use Rattle.laws.proofs.Bits.{Bytes}
 
@@ -155,6 +156,21 @@ unfoldable pub records : List Shown → List ℕ
 records [] = []
 records (a ∷ more) = recordOf a ++ records more
 
+-- the answer that a record tells
+unfoldable pub answerAt : List ℕ → Answer
+answerAt s =
+    cond (eqb (getD s 0 0) 0) (refusal (getD s 1 0) (numberAt s 2))
+    (cond (eqb (getD s 0 0) 1) (accepted [])
+    (cond (eqb (getD s 0 0) 2) (accepted (some (signed (numberAt s 2)) ∷ [])) (accepted (none ∷ []))))
+
+-- an answer that 64 bits hold
+abbrev pub AnswerFits : Answer → Type 0
+AnswerFits (refused r) = r .place < 2 ^ 64
+AnswerFits (accepted []) = Unit {0}
+AnswerFits (accepted (some z ∷ [])) = mag z < 2 ^ 63
+AnswerFits (accepted (none ∷ [])) = Unit {0}
+AnswerFits (accepted (x ∷ y ∷ more)) = ⊥
+
 -- ---- the claim
 
 -- a buffer and a log after a script, with how many calls were performed, and how many bytes of script and log they took
@@ -187,6 +203,9 @@ replayed b script log =
 pub record Performs (r : Replayed) (b script log : List ℕ) : Type 0 where
   pub of-script : r ≡ replayed b script log
   pub of-list : (cs : List Call) → AllFit cs → scriptOf cs ≡ script → logSize cs ≤ length log → r ≡ logged cs (claim b cs) log
+  -- such a list's script can be lent, and a record tells its answer
+  pub in-bytes : (cs : List Call) → AllFit cs → Bytes (scriptOf cs)
+  pub told : (a : Answer) (out : List ℕ) → AnswerFits a → answerAt (recordOf (shown a out)) ≡ a
 
 -- ---- one call
 

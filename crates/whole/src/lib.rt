@@ -79,10 +79,10 @@ fn give(s: &[u8], r: Report, values: &mut [i64], tail: &mut [u8]) -> Unpacked
 pub fn unpack(s: &[u8], values: &mut [i64], tail: &mut [u8]) -> Unpacked
     ensures { λ r. ⌜ unpacked (unpackAnswer r) (now (values .exit)) (now (tail .exit)) ≡ spec.unpack (now (s .entry)) (now (values .entry)) (now (tail .entry)) ⌝ }
 {
-    let i = report::inspect(s, 0);
+    let i = report::inspect(&*s, 0);
     match i {
         Inspected::Refused(n, p) => Unpacked::Refused(n, p),
-        Inspected::Fine(r) => give(s, r, values, tail),
+        Inspected::Fine(r) => give(&*s, r, values, tail),
     }
 }
 

@@ -17,23 +17,28 @@ within-requires c κs = search needs
 
 returns : tie.Need-returns
 unfolding callChecks
-returns c = number-refuses _ (sheetOf (now (c .before .before .before .args .s))) (clearField (c .before .before .before .args .k)) (quiet-clear-field (c .before .before .before .args .k)) (λ i. c .before .before .slice-known .given i .fits) (c .before .before .before .pre .report)
+returns c = number-refuses _ (sheetOf (now (c .before .before .before .args .s))) (clearField (c .before .before .before .args .k)) (quiet-clear-field (c .before .before .before .args .k)) (λ i. c .before .before .slice-known .given i .fits) (c .before .before .before .pre)
     1 46 (c .before .before .before .args .k) _ refl _ (c .before .within .ensures) (c .if1 .taken)
+
+row-requires : tie.Need-row-requires
+row-requires c κs = between-in 1 46 (c .before .before .before .args .k) _ (c .before .within .ensures) (c .if1 .left)
 
 is-required-requires : tie.Need-is-required-requires
 is-required-requires c κs = search needs
 
 returns-2 : tie.Need-returns-2
-returns-2 c = field-required _ (λ i. c .before .before .before .before .slice-known .given i .fits) (c .before .before .before .before .before .pre .report) (c .before .before .before .before .before .args .k) _ (c .before .before .before .within .ensures) (c .before .before .if1 .left) _ (c .before .is-required .ensures) (c .if2 .taken)
+returns-2 c = field-required _ (λ i. c .before .before .before .before .before .slice-known .given i .fits) (c .before .before .before .before .before .before .pre) (c .before .before .before .before .before .before .args .k) _ (c .before .before .before .before .within .ensures) (c .before .before .before .if1 .left) _ (c .before .is-required .ensures) (c .if2 .taken)
 
 replace-requires : tie.Need-replace-requires
-replace-requires c κs = let h = between-in 1 46 (c .before .before .before .before .before .before .args .k) _ (c .before .before .before .before .within .ensures) (c .before .before .before .if1 .left) in (c .before .before .before .before .before .before .pre, h .0, h .1, omega arith)
+replace-requires c κs =
+    let h = between-in 1 46 (c .before .before .before .before .before .before .before .args .k) _ (c .before .before .before .before .before .within .ensures) (c .before .before .before .before .if1 .left) in
+    (c .before .before .before .before .before .before .before .pre, h .0, h .1, c .before .before .before .row .ensures, omega arith)
 
 same-length : tie.Need-same-length
 same-length c = search needs
 
 returns-3 : tie.Need-returns-3
-returns-3 c = field-cleared _ (λ i. c .before .before .before .before .before .before .before .before .slice-known .given i .fits) (c .before .before .before .before .before .before .before .before .before .pre .report) (c .before .before .before .before .before .before .before .before .before .args .k) _ (c .before .before .before .before .before .before .before .within .ensures) (c .before .before .before .before .before .before .if1 .left) _ (λ i. c .slice-known2 .given i .fits) _ (c .before .before .before .before .before .is-required .ensures) (c .before .before .before .before .if2 .left) _ refl (c .before .before .replace .ensures .1)
+returns-3 c = field-cleared _ (λ i. c .before .before .before .before .before .before .before .before .before .slice-known .given i .fits) (c .before .before .before .before .before .before .before .before .before .before .pre) (c .before .before .before .before .before .before .before .before .before .before .args .k) _ (c .before .before .before .before .before .before .before .before .within .ensures) (c .before .before .before .before .before .before .before .if1 .left) _ (λ i. c .slice-known2 .given i .fits) _ (c .before .before .before .before .before .is-required .ensures) (c .before .before .before .before .if2 .left) _ refl (c .before .before .replace .ensures .1)
 
 pub clear-field-of-spec : {M : Type 1} → statement M
 clear-field-of-spec =
@@ -41,6 +46,7 @@ clear-field-of-spec =
     (tie.spec
     within-requires
     returns
+    row-requires
     is-required-requires
     returns-2
     replace-requires

@@ -1,14 +1,18 @@
 -- `fields::field_of` meets its contract.
 -- Assumes nothing.
-use mathlib.Core.Path.{refl}
+use mathlib.Core.Path.{refl, ap, _∙_}
 use mathlib.Core.List.{[]}
 use denote.Ref.{now}
-use Rattle.laws.proofs.Report.{passes}
+use Rattle.format.specs.Field.{Field, scaledOf}
 use Rattle.format.specs.Report.{sheetOf}
 use Rattle.format.specs.Machine.{readField, callChecks}
 use Rattle.laws.proofs.Order.{between-in}
+use Rattle.laws.proofs.Report.{passes}
+use Rattle.card.proofs.Rows.{field-row, row-window}
+use Rattle.card.proofs.Numbers.{row-at}
 use Rattle.fields.proofs.Calls.{number-refuses, quiet-read-field}
 use Rattle.fields.proofs.Values.{field-missing, field-read}
+use native.Mathlib.Omega.{arith}
 use borrow.Author.Needs.{needs}
 use Rattle.fields.proofs.field_of.Statement.{statement}
 use Rattle.fields.proofs.field_of.Tie as tie
@@ -21,20 +25,30 @@ unfolding callChecks
 returns c = number-refuses _ (sheetOf (now (c .before .before .before .args .s))) (readField (c .before .before .before .args .k)) (quiet-read-field (c .before .before .before .args .k)) (λ i. c .before .before .shared-slice-known .given i .fits) (c .before .before .before .pre)
     1 46 (c .before .before .before .args .k) [] refl _ (c .before .within .ensures) (c .if1 .taken)
 
-code-requires : tie.Need-code-requires
-code-requires c κs = let h = between-in 1 46 (c .before .before .before .args .k) _ (c .before .within .ensures) (c .if1 .left) in (passes _ _ (c .before .before .before .pre) .0 .long, h .0, h .1)
+row-requires : tie.Need-row-requires
+row-requires c κs = between-in 1 46 (c .before .before .before .args .k) _ (c .before .within .ensures) (c .if1 .left)
+
+code-in-requires : tie.Need-code-in-requires
+code-in-requires c κs = row-window (c .before .before .before .before .args .k) _ _ (c .row .ensures) (passes _ _ (c .before .before .before .before .pre) .0 .long)
 
 is-missing-requires : tie.Need-is-missing-requires
 is-missing-requires c κs = search needs
 
 returns-2 : tie.Need-returns-2
-returns-2 c = field-missing _ (λ i. c .before .before .before .before .before .shared-slice-known .given i .fits) (c .before .before .before .before .before .before .pre) (c .before .before .before .before .before .before .args .k) _ (c .before .before .before .before .within .ensures) (c .before .before .before .if1 .left) _ (c .before .before .code .ensures) _ (c .before .is-missing .ensures) (c .if2 .taken)
+returns-2 c =
+    let h = between-in 1 46 (c .before .before .before .before .before .before .before .args .k) _ (c .before .before .before .before .before .within .ensures) (c .before .before .before .before .if1 .left) in
+    let at = c .before .before .code-in .ensures ∙ row-at (now (c .before .before .before .before .before .before .before .args .s)) (c .before .before .before .before .before .before .before .args .k) _ (c .before .before .before .row .ensures) (h .0) (h .1) in
+    field-missing _ (λ i. c .before .before .before .before .before .before .shared-slice-known .given i .fits) (c .before .before .before .before .before .before .before .pre) (c .before .before .before .before .before .before .before .args .k) _ (c .before .before .before .before .before .within .ensures) (c .before .before .before .before .if1 .left) _ at _ (c .before .is-missing .ensures) (c .if2 .taken)
 
-scaled-requires : tie.Need-scaled-requires
-scaled-requires c κs = between-in 1 46 (c .before .before .before .before .before .before .args .k) _ (c .before .before .before .before .within .ensures) (c .before .before .before .if1 .left)
+scaled-in-requires : tie.Need-scaled-in-requires
+scaled-in-requires c κs = search needs
 
 returns-3 : tie.Need-returns-3
-returns-3 c = field-read _ (λ i. c .before .before .before .before .before .before .shared-slice-known .given i .fits) (c .before .before .before .before .before .before .before .pre) (c .before .before .before .before .before .before .before .args .k) _ (c .before .before .before .before .before .within .ensures) (c .before .before .before .before .if1 .left) _ (c .before .before .before .code .ensures) _ (c .before .before .is-missing .ensures) (c .before .if2 .left) _ (c .scaled .ensures)
+returns-3 c =
+    let h = between-in 1 46 (c .before .before .before .before .before .before .before .before .args .k) _ (c .before .before .before .before .before .before .within .ensures) (c .before .before .before .before .before .if1 .left) in
+    let at = c .before .before .before .code-in .ensures ∙ row-at (now (c .before .before .before .before .before .before .before .before .args .s)) (c .before .before .before .before .before .before .before .before .args .k) _ (c .before .before .before .before .row .ensures) (h .0) (h .1) in
+    field-read _ (λ i. c .before .before .before .before .before .before .before .shared-slice-known .given i .fits) (c .before .before .before .before .before .before .before .before .pre) (c .before .before .before .before .before .before .before .before .args .k) _ (c .before .before .before .before .before .before .within .ensures) (c .before .before .before .before .before .if1 .left) _ at _ (c .before .before .is-missing .ensures) (c .before .if2 .left) _
+    (c .scaled-in .ensures ∙ ap (λ (f : Field). scaledOf f (c .before .before .before .code-in .result)) (field-row (c .before .before .before .before .before .before .before .before .args .k) _ (c .before .before .before .before .row .ensures) (h .0) (h .1)))
 
 pub field-of-spec : {M : Type 1} → statement M
 field-of-spec =
@@ -42,8 +56,9 @@ field-of-spec =
     (tie.spec
     within-requires
     returns
-    code-requires
+    row-requires
+    code-in-requires
     is-missing-requires
     returns-2
-    scaled-requires
+    scaled-in-requires
     returns-3)

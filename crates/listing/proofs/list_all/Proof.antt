@@ -21,11 +21,11 @@ refused c =
     let b : p < 2 ^ 64 = search needs in
     refused-short n p a b
 
-fine : (c : tie.After-put-sheet-arg) → length (valueLines (c .before .before .before .before .before .before .before .args .s .now) 0 ++ totalLines (c .before .before .i2 .given .0 .0 .checksum) (c .before .before .i2 .given .0 .0 .count)) ≤ 512
+fine : (c : tie.After-checksum) → length (valueLines (c .before .before .before .before .before .before .before .before .args .s .now) 0 ++ totalLines (c .checksum .result) (c .before .before .before .i2 .given .0 .0 .count)) ≤ 512
 fine c =
-    let r : Report = c .before .before .i2 .given .0 .0 in
+    let r : Report = c .before .before .before .i2 .given .0 .0 in
     let h : r .count < 2 ^ 64 = search needs in
-    fine-short (c .before .before .before .before .before .before .before .args .s .now) _ (c .before .before .before .before .inspect .ensures) r (c .before .before .i2 .given .1) h
+    fine-short (c .before .before .before .before .before .before .before .before .args .s .now) _ (c .before .before .before .before .before .inspect .ensures) r (c .before .before .before .i2 .given .1) _ (c .checksum .ensures .0) h
 
 inspect-requires : tie.Need-inspect-requires
 inspect-requires c κs = search needs
@@ -43,10 +43,11 @@ put-refusal-requires c κs =
 enum-known-i-2 : tie.Need-enum-known-i-2
 enum-known-i-2 c = search needs
 
+checksum-requires : tie.Need-checksum-requires
+checksum-requires c κs = fine-long (c .before .before .before .before .before .before .before .args .s .now) _ (c .before .before .before .before .inspect .ensures) _ (c .before .before .i2 .given .1)
+
 put-sheet-requires : tie.Need-put-sheet-requires
-put-sheet-requires c κs =
-    let r : Report = c .before .before .i2 .given .0 .0 in
-    (fine-long (c .before .before .before .before .before .before .before .args .s .now) _ (c .before .before .before .before .inspect .ensures) r (c .before .before .i2 .given .1), omega (arith, c .before .before .before .before .before .before .before .pre, fine c))
+put-sheet-requires c κs = (fine-long (c .before .before .before .before .before .before .before .before .args .s .now) _ (c .before .before .before .before .before .inspect .ensures) _ (c .before .before .before .i2 .given .1), omega (arith, c .before .before .before .before .before .before .before .before .pre, fine c))
 
 same-length : tie.Need-same-length
 same-length c = search needs
@@ -61,8 +62,8 @@ same-length-2 c = search needs
 
 returns-2 : tie.Need-returns-2
 returns-2 c =
-    puts-over (c .before .before .before .before .before .before .before .before .before .before .args .out .now) _ 0 _ _ (c .before .before .put-sheet .ensures) refl (omega (arith, c .before .before .before .before .before .before .before .before .before .before .pre, fine (c .before .before .before))) _
-    (fine-lists (c .before .before .before .before .before .before .before .before .before .before .args .s .now) _ (c .before .before .before .before .before .before .before .inspect .ensures) _ (c .before .before .before .before .before .i2 .given .1))
+    puts-over (c .before .before .before .before .before .before .before .before .before .before .before .args .out .now) _ 0 _ _ (c .before .before .put-sheet .ensures) refl (omega (arith, c .before .before .before .before .before .before .before .before .before .before .before .pre, fine (c .before .before .before))) _
+    (fine-lists (c .before .before .before .before .before .before .before .before .before .before .before .args .s .now) _ (c .before .before .before .before .before .before .before .before .inspect .ensures) _ (c .before .before .before .before .before .before .i2 .given .1) _ (c .before .before .before .checksum .ensures .0))
 
 pub list-all-spec : {M : Type 1} → statement M
 list-all-spec =
@@ -73,6 +74,7 @@ list-all-spec =
     cast-put-refusal
     put-refusal-requires
     enum-known-i-2
+    checksum-requires
     put-sheet-requires
     same-length
     returns

@@ -1,29 +1,33 @@
--- `nibble::all_nibbles` meets its contract. The invariant: what is still to check gives the answer.
+-- `nibble::all_nibbles` meets its contract. The invariant: the largest so far and what is still to check give the answer.
 -- Assumes nothing.
-use Prim.Native.Nat.{_≤_, _-_}
-use mathlib.Core.Path.{_≡_, refl, _∙_}
+use Prim.Native.Nat.{ℕ, _+_, _≤_, _-_}
+use mathlib.Core.Path.{_≡_, refl, ap, _∙_}
+use mathlib.Core.Bool.{_&&_}
+use mathlib.Core.List.{List}
 use lib.ListN.{length, drop}
+use lib.Dec.{leb}
+use denote.Ref.{now}
 use Rattle.format.specs.Machine.{allNibbles}
-use Rattle.nibble.proofs.View.{nibble-over, nibble-fine, nibbles-end}
+use Rattle.nibble.proofs.View.{nibble-next, nibbles-end}
 use borrow.Author.Needs.{needs}
 use native.Mathlib.Omega.{arith}
 use Rattle.nibble.proofs.all_nibbles.Statement.{statement}
 use Rattle.nibble.proofs.all_nibbles.Tie as tie
 
 abbrev Inv-loop : tie.InvT-loop
-Inv-loop ns i₀ i = (i ≤ length ns) × (allNibbles (drop i ns) ≡ allNibbles ns)
+Inv-loop ns top₀ i₀ top i = (i ≤ length ns) × (leb top 15 && allNibbles (drop i ns) ≡ allNibbles ns)
 
 abbrev μ-loop : tie.MeasureT-loop
-μ-loop ns i₀ i = length ns - i
+μ-loop ns top₀ i₀ top i = length ns - i
 
 loop-holds : tie.Need-loop-holds Inv-loop μ-loop
 loop-holds c = (omega arith, refl)
 
-shared-slice-read-if1 : tie.Need-shared-slice-read-if1 Inv-loop μ-loop
-shared-slice-read-if1 c = search needs
+shared-slice-read-larger : tie.Need-shared-slice-read-larger Inv-loop μ-loop
+shared-slice-read-larger c = search needs
 
-returns : tie.Need-returns Inv-loop μ-loop
-returns c = nibble-over _ _ (c .before .before .loop-test .taken) (c .if1 .taken) ∙ c .before .before .before .loop .inv .1
+larger-requires : tie.Need-larger-requires Inv-loop μ-loop
+larger-requires c κs = search needs
 
 add-i : tie.Need-add-i Inv-loop μ-loop
 add-i c = search needs
@@ -32,10 +36,17 @@ loop-less : tie.Need-loop-less Inv-loop μ-loop
 loop-less c = omega arith
 
 loop-again : tie.Need-loop-again Inv-loop μ-loop
-loop-again c = (omega arith, nibble-fine _ _ (c .before .before .loop-test .taken) (c .if1 .left) ∙ c .before .before .before .loop .inv .1)
+loop-again c =
+    let l = c .before .before .before .loop in
+    let ns : List ℕ = now (c .before .before .before .before .before .args .ns) in
+    let e : leb (c .larger .result) 15 && allNibbles (drop (l .i + 1) ns) ≡ leb (l .top) 15 && allNibbles (drop (l .i) ns) =
+    ap (λ (m : ℕ). leb m 15 && allNibbles (drop (l .i + 1) ns)) (c .larger .ensures) ∙ nibble-next ns (l .i) (l .top) (c .before .before .loop-test .taken) in
+    (omega arith, e ∙ l .inv .1)
 
-returns-2 : tie.Need-returns-2 Inv-loop μ-loop
-returns-2 c = nibbles-end _ _ (c .loop-test .left) ∙ c .before .loop .inv .1
+returns : tie.Need-returns Inv-loop μ-loop
+returns c =
+    let l = c .before .loop in
+    nibbles-end (now (c .before .before .before .args .ns)) (l .i) (l .top) (c .loop-test .left) ∙ l .inv .1
 
 pub all-nibbles-spec : {M : Type 1} → statement M
 all-nibbles-spec =
@@ -44,9 +55,9 @@ all-nibbles-spec =
     Inv-loop
     μ-loop
     loop-holds
-    shared-slice-read-if1
-    returns
+    shared-slice-read-larger
+    larger-requires
     add-i
     loop-less
     loop-again
-    returns-2)
+    returns)

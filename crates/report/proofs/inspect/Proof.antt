@@ -1,27 +1,29 @@
+-- `report::inspect` meets its contract.
+-- Assumes nothing.
+use mathlib.Core.Path.{sym, ap, _∙_}
+use Rattle.report.proofs.Outcomes.{front-refused, card-alone}
+use native.Mathlib.Omega.{arith}
 use borrow.Author.Needs.{needs}
-use Rattle.report.proofs.Outcomes.{short, card-sum, card-refused, field-refused}
 use Rattle.report.proofs.inspect.Statement.{statement}
 use Rattle.report.proofs.inspect.Tie as tie
 
+front-requires : tie.Need-front-requires
+front-requires c κs = search needs
+
+cast-t8 : tie.Need-cast-t8
+cast-t8 c = search needs
+
 returns : tie.Need-returns
-returns c = short _ _ (c .if1 .taken)
+returns c = front-refused _ _ _ (c .before .front .ensures) (c .if1 .taken)
 
-check-requires : tie.Need-check-requires
-check-requires c κs = search needs
-
-enum-known-c : tie.Need-enum-known-c
-enum-known-c c = search needs
-
-enum-known-c-2 : tie.Need-enum-known-c-2
-enum-known-c-2 c = search needs
-
-inspect-tail-requires : tie.Need-inspect-tail-requires
-inspect-tail-requires c κs =
-    let s = card-sum _ _ _ (c .before .before .before .check .ensures) (c .before .c2 .given .1) in
-    record { long = c .before .before .before .before .if1 .left; fields = s .0; is = s .1 }
+shared-slice-read-if2 : tie.Need-shared-slice-read-if2
+shared-slice-read-if2 c = let p = c .before .before .front .ensures .passes (c .before .if1 .left) in omega (arith, p .long)
 
 returns-2 : tie.Need-returns-2
-returns-2 c = field-refused _ _ (c .before .before .before .before .if1 .left) _ _ (card-refused _ _ _ _ (c .before .before .before .check .ensures) (c .before .c .given .1))
+returns-2 c = card-alone _ _ (c .before .before .before .front .ensures .passes (c .before .before .if1 .left)) (λ i. c .before .before .before .before .shared-slice-known .given i .fits) (c .if2 .taken)
+
+inspect-tail-requires : tie.Need-inspect-tail-requires
+inspect-tail-requires c κs = c .before .before .before .front .ensures .passes (c .before .before .if1 .left)
 
 returns-3 : tie.Need-returns-3
 returns-3 c = search needs
@@ -30,10 +32,10 @@ pub inspect-spec : {M : Type 1} → statement M
 inspect-spec =
     tie.close
     (tie.spec
+    front-requires
+    cast-t8
     returns
-    check-requires
-    enum-known-c
-    enum-known-c-2
-    inspect-tail-requires
+    shared-slice-read-if2
     returns-2
+    inspect-tail-requires
     returns-3)
