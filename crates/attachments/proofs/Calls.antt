@@ -23,7 +23,7 @@ use Rattle.report.specs.declared.Inspected.{Inspected}
 use Rattle.report.specs.Answers.{inspected}
 use Rattle.report.proofs.Outcomes.{judge-refused, judge-fine}
 use Rattle.laws.proofs.Order.{first-nil, no-check}
-use Rattle.laws.proofs.Bits.{Bytes}
+use Rattle.format.specs.Bits.{Bytes}
 use Rattle.laws.proofs.AttachmentEdits.{Placed, placed, content-fine}
 use Rattle.laws.proofs.Effects.{effect-refused, effect-refuses, effect-same, effect-room}
 use Rattle.attachments.specs.Found.{Found}

@@ -6,16 +6,16 @@ use mathlib.Core.Path.{_≡_, refl, sym, ap, ap₂, _∙_}
 use mathlib.Core.List.{List, [], _∷_, _++_, append-assoc}
 use lib.ListN.{length, take, drop, set, length-append, length-drop, length-replicate}
 use lib.Seq.{paste, paste-suc, take-paste, drop-paste, take-all, take-at, drop-at, take-take, take-add, drop-drop, take-append-le, drop-append-add, length-take-le}
-use Rattle.format.specs.Bits.{readFields}
-use Rattle.format.specs.Nibbles.{Attachment, attachment, nibbles, attachmentNibbles, tailNibbles}
+use Rattle.format.specs.Bits.{readFields, Bytes}
+use Rattle.format.specs.Nibbles.{Attachment, attachment, nibbles, attachmentNibbles, tailNibbles, Nibbles}
 use Rattle.format.specs.Sheet.{Sheet, widths, size}
 use Rattle.format.specs.Report.{numbersOf, tailOf, sheetOf}
 use Rattle.format.specs.Machine.{withAttachments}
 use Rattle.format.specs.Buffer.{zeros, layout}
 use Rattle.card.specs.Answers.{Carded}
 use Rattle.shift.proofs.Paste.{paste-two, laid-then}
-use Rattle.laws.proofs.Bits.{Bytes, uniform}
-use Rattle.laws.proofs.Nibbles.{Nibbles, length-nibbles}
+use Rattle.laws.proofs.Bits.{uniform}
+use Rattle.laws.proofs.Nibbles.{length-nibbles}
 use Rattle.laws.proofs.Card.{front-numbers}
 use Rattle.laws.proofs.Fields.{table-length, length-fair}
 use Rattle.laws.proofs.Report.{judged, size-is, numbers-taken}

@@ -15,7 +15,7 @@ use Rattle.format.specs.Buffer.{zeros}
 use Rattle.report.specs.declared.Report.{Report}
 use Rattle.tail.proofs.Place as place
 use Rattle.tail.proofs.Place.{absent-at, stands-at, around, beyond, body-is, body-ends}
-use Rattle.laws.proofs.Bits.{Bytes}
+use Rattle.format.specs.Bits.{Bytes}
 use Rattle.laws.proofs.Attachments.{fine-size}
 use Rattle.laws.proofs.AttachmentEdits.{Placed}
 use Rattle.laws.proofs.Report.{Good, judged, size-is, size-range, counted}

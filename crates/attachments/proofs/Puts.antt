@@ -26,7 +26,7 @@ use Rattle.laws.proofs.ShipText.{text-valid, text-all-nibbles}
 use Rattle.report.specs.declared.Report.{Report}
 use Rattle.laws.proofs.Lists.{test-case}
 use Rattle.laws.proofs.Order.{first-nil, no-check}
-use Rattle.laws.proofs.Bits.{Bytes}
+use Rattle.format.specs.Bits.{Bytes}
 use Rattle.laws.proofs.Nibbles.{length-nibbles}
 use Rattle.laws.proofs.Attachments.{FineAt, fine-nibbles, fine-count, tail-append}
 use Rattle.laws.proofs.AttachmentEdits.{put-fine, put-checked, remove-fine, put-absent, put-placed, remove-placed, put-length, remove-length, append-length}

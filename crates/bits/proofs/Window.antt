@@ -12,8 +12,8 @@ use lib.Dec.{lit<}
 use lib.ListN.{length, take, drop, getD, set, take-append-drop, length-append, length-set}
 use lib.Pow.{pow-pos, pow-mono, pow-add, shl-exact, shl-lt, shr-lt, shr-shr, split, high, low}
 use lib.Seq.{drop-cons, length-take-le, getD-set-same, getD-set-other, take-set-le, drop-set-lt}
-use Rattle.format.specs.Bits.{bits, number, bitsOf, bitField, splice}
-use Rattle.laws.proofs.Bits.{Bytes, length-bits, number-bits, bits-mod, bits-add, length-bitsOf, bitsOf-append, mid-take, mid-splice, field-same, field-before, field-after, field-back}
+use Rattle.format.specs.Bits.{bits, number, bitsOf, bitField, splice, Bytes}
+use Rattle.laws.proofs.Bits.{length-bits, number-bits, bits-mod, bits-add, length-bitsOf, bitsOf-append, mid-take, mid-splice, field-same, field-before, field-after, field-back}
 use Rattle.bits.specs.Window.{TwoBytes, FieldWritten, pair, patched}
 
 -- ---- the machine's shifts, at 64 bits

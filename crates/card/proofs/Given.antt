@@ -1,4 +1,4 @@
--- A card made of values and a presence word.
+-- Numbers laid on a card.
 -- Assumes nothing.
 use Prim.Native.Nat.{ℕ, _≤_}
 use native.Mathlib.Omega.{arith}

@@ -1,4 +1,4 @@
-// The card: its fields read, checked, summed and written; a field's coded number and its scaled value.
+// The card field by field: read, written, and walked for the first fault; a field's coded number and its scaled value.
 ghost use mathlib.Core.Path.{_≡_};
 ghost use mathlib.Core.Bool.{true, false};
 ghost use Prim.Native.Nat.{_+_, _-_, _*_, _/_, _%_, _≤_, _<_, _^_};
@@ -26,7 +26,7 @@ pub enum Coding {
 }
 
 // What the code knows of each field, as one number: in digits of 16, the bit at which it begins (3), its bits (1), its highest
-// coded number (3), its base and 1000 (4).
+// coded number (3), its base plus 1000 (4).
 pub const BOX10: u64 = 0x010_a_288_03e8;
 
 pub const YEAR: u64 = 0x01a_8_0ff_0aef;
@@ -119,7 +119,7 @@ pub const SH: u64 = 0x111_7_064_03e7;
 
 pub const A6: u64 = 0x118_2_002_03e7;
 
-// The number of field k.
+// The row of field k.
 fn packed_row(k: usize) -> u64
     requires { ⌜ (1 ≤ k) × (k ≤ 46) ⌝ }
     ensures { λ r. ⌜ r ≡ getD rows k 0 ⌝ }

@@ -10,8 +10,8 @@ use lib.Seq.{drop-drop, take-at}
 use lib.Pow.{high, low, pow-add}
 use lib.Arith.{digits-lt}
 use native.Mathlib.Nat.{mod-eq-of-lt}
-use Rattle.format.specs.Bits.{bits, number, bitsOf, bitField, total, readFields, writeFields}
-use Rattle.laws.proofs.Bits.{Bytes, length-bits, number-bits, bits-mod, bits-add, length-bitsOf, bitField-lt, writeFields-readFields}
+use Rattle.format.specs.Bits.{bits, number, bitsOf, bitField, total, readFields, writeFields, Bytes}
+use Rattle.laws.proofs.Bits.{length-bits, number-bits, bits-mod, bits-add, length-bitsOf, bitField-lt, writeFields-readFields}
 use Rattle.bits.proofs.Window.{field-byte}
 use Rattle.checks.specs.Turned.{little2, little4, little8, turned2, turned4, turned8}
 

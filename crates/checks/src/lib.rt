@@ -17,7 +17,6 @@ pub enum CardCheck {
 // ---- a word of eight bytes: loaded with its first byte lowest, then turned; the compiler makes one instruction of each
 
 // Two bytes as a number, the first lowest.
-
 fn load_two(s: &[u8], i: usize) -> u64
     requires { ⌜ i + 2 ≤ length (now s) ⌝ }
     ensures { λ r. ⌜ (r ≡ little2 (now (s .entry)) i) × (r < 65536) ⌝ }

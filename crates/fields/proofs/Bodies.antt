@@ -11,7 +11,7 @@ use lib.ListN.{length, getD, take, drop, set, length-append, length-set, length-
 use lib.Seq.{length-take-le, take-at, drop-at, set-at, set-append-left, take-take, drop-drop, drop-cons, getD-drop, drop-set-add, take-set-lt}
 use borrow.Author.Tests.{eq-eqb, ne-eqb, not-false, not-true}
 use Rattle.format.specs.Order.{Check, first, between}
-use Rattle.format.specs.Bits.{readFields}
+use Rattle.format.specs.Bits.{readFields, Bytes}
 use Rattle.format.specs.Nibbles.{attachment, nibbles, attachmentNibbles, tailNibbles}
 use Rattle.format.specs.Flags.{isFlag, flagInRange, qualityCode, flagAt, flagBody, withFlag}
 use Rattle.format.specs.Sheet.{Sheet, widths, cardNumbers, size}
@@ -21,7 +21,7 @@ use Rattle.format.specs.Buffer.{layout, after, effect}
 use Rattle.format.specs.Reply.{refusal, answerOf}
 use Rattle.format.specs.declared.Reply.the-variants.{Done, Flag, Missing}
 use Rattle.laws.proofs.Order.{between-in, first-nil, no-check}
-use Rattle.laws.proofs.Bits.{Bytes, uniform}
+use Rattle.laws.proofs.Bits.{uniform}
 use Rattle.laws.proofs.Nibbles.{length-nibbles}
 use Rattle.laws.proofs.Card.{front-numbers}
 use Rattle.laws.proofs.Flags.{flagFits, missing-fits, range-fits, valid-flags, flag-set-length, flag-set-valid, flag-set-nibbles}

@@ -17,7 +17,7 @@ use Rattle.format.specs.Buffer.{layout, after, effect}
 use Rattle.format.specs.Reply.{refusal}
 use Rattle.format.specs.declared.Scaled.{Scaled}
 use Rattle.laws.proofs.Order.{first-nil}
-use Rattle.laws.proofs.Bits.{Bytes}
+use Rattle.format.specs.Bits.{Bytes}
 use Rattle.laws.proofs.Report.{size-is, judged}
 use Rattle.laws.proofs.Effects.{effect-refused, effect-refuses, effect-done, effect-same}
 use Rattle.report.specs.Answers.{inspected}

@@ -9,7 +9,7 @@ use borrow.Author.Tests.{eqb-true, eqb-false}
 use mathlib.Core.List.{List, [], _∷_}
 use mathlib.Core.Option.{Option, none, some}
 use lib.ListN.{length, getD, set}
-use Rattle.format.specs.Bits.{total}
+use Rattle.format.specs.Bits.{total, Bytes}
 use Rattle.format.specs.Field.{Field, table, fieldAt, isField, required, inRange, coded, scaledOf, codedOf, entryOf, codeOf, entries, codes}
 use Rattle.format.specs.Sheet.{checksum, cardNumbers, size}
 use Rattle.format.specs.Report.{codesOf, sheetOf}
@@ -19,7 +19,6 @@ use Rattle.format.specs.declared.Reply.the-variants.{Done, Value, Missing}
 use Rattle.format.specs.Buffer.{layout, after, effect}
 use Rattle.format.specs.declared.Coded.{Coded}
 use Rattle.format.specs.declared.Scaled.{Scaled}
-use Rattle.laws.proofs.Bits.{Bytes}
 use Rattle.laws.proofs.Fields.{table-length, codes-entries}
 use Rattle.laws.proofs.Report.{numbers-taken}
 use Rattle.laws.proofs.Laid.{field-laid, value-numbers, total-set}

@@ -1,9 +1,7 @@
 -- The examples of document 01, "Edges of the shelf", as one list that one computed fact checks; and as a second list,
 -- cases in which two refusals fit at once, for the orders of 01.
 -- Assumes nothing.
-use Prim.Native.Nat.{ℕ, zero, suc, _+_, _-_, _*_, _/_, _^_, _<_}
-use mathlib.Core.Path.{_≡_}
-use mathlib.Core.Bool.{Bool, true, false}
+use Prim.Native.Nat.{ℕ, zero, suc, _+_, _-_, _^_}
 use mathlib.Core.List.{List, [], _∷_, _++_, map}
 use mathlib.Core.Option.{Option, none, some}
 use lib.ListN.{length, getD, take, drop, set, replicate}
@@ -12,17 +10,17 @@ use lib.IntN.{ℤ, pos, negsuc}
 use Rattle.format.specs.Order.{Refusal, first}
 use Rattle.format.specs.Field.{Field, minus, table, fieldAt, required, scaled, coded, scaledOf, codedOf, inRange, entryOf, codeOf, entries, codes}
 use Rattle.format.specs.Bits.{bits, number, bitsOf, bitField, total, offset, readFields, writeFields}
-use Rattle.format.specs.Nibbles.{Attachment, attachment, nibbles, bytes, padded, attachmentNibbles, tailNibbles, attachmentsOf, among}
+use Rattle.format.specs.Nibbles.{attachment, nibbles, bytes, padded, attachmentNibbles, tailNibbles, attachmentsOf, among}
 use Rattle.format.specs.Flags.{weights, weight, totalWeight, allMissing, qualityCode, flagsFit, flagBody, withFlag, flagsValid}
 use Rattle.format.specs.ShipText.{charCode, short, pairByte, codeNibbles, classify, byteOf, escapable, isSpace, symbolNibbles, fulls, rest, spaceRun, writeFrom, writeText, spaces, textStep, stateAfter, symbolsOf, readFrom, endFrom, atEnd, textValid, readText}
-use Rattle.format.specs.Sheet.{Sheet, sheet, widths, checksum, cardNumbers, cardNibbles, packing, size}
+use Rattle.format.specs.Sheet.{Sheet, widths, checksum, cardNumbers, cardNibbles, packing}
 use Rattle.format.specs.Report.{sheetOf, codesOf, checksumOf, fieldChecks, bodyValid, attachmentChecks, reportChecks, Verdict, refused, accepted, judge}
 use Rattle.format.specs.Machine.{Call, readField, setField, clearField, readFlag, setFlag, clearFlag, put, fetch, remove, putText, fetchText, stands, contentOf, putIn, removeFrom, withAttachments, next, gives, lent, writes, allNibbles, callChecks, checks, Answer, step}
-use Rattle.format.specs.Buffer.{layout, After, effect, Shown, Ran, calls, run, claim}
+use Rattle.format.specs.Buffer.{layout, effect, Shown, calls, run, claim}
 use Rattle.format.specs.Whole.{freshSheet, freshChecks, Wrote, fresh, presenceFrom, countPresent, Unpacked, unpackGives, unpack, packChecks, entriesGiven, countFrom, packSheet, packOrder, pack}
 use Rattle.format.specs.Lister.{digitsFrom, fieldLines, listing}
 use Rattle.format.specs.declared.Scaled.{Scaled}
-use Rattle.format.proofs.Test.{Example, none as nothing, same, every, each}
+use Rattle.format.proofs.Test.{Example, same, every}
 
 -- ---- sheets, verdicts and answers as numbers, so that one test compares all
 
@@ -177,9 +175,9 @@ examples =
     ∷ []
 
 -- all that the examples compute with
-pub hold : T (every examples)
+pub examples-hold : T (every examples)
 unfolding signed given valueNumbers sheetNumbers refusal judged answer answers yes refuses example freshExample freshBytes freshSheetExample sBytes textBytes reportWith reportOf highestCodes freshCodes badText flagless put1 flagCalls answersOf roomy wide examples same every first table fieldAt required scaledOf codedOf inRange entryOf codeOf entries codes bits number bitsOf bitField total readFields writeFields nibbles bytes padded attachmentNibbles tailNibbles attachmentsOf among weights weight totalWeight allMissing qualityCode flagsFit flagBody withFlag flagsValid charCode short pairByte codeNibbles classify byteOf escapable isSpace symbolNibbles fulls rest spaceRun writeFrom writeText spaces textStep stateAfter symbolsOf readFrom endFrom atEnd textValid readText widths checksum cardNumbers cardNibbles packing sheetOf fieldChecks bodyValid attachmentChecks reportChecks judge stands contentOf putIn removeFrom next gives lent writes allNibbles callChecks checks step layout effect calls run claim freshSheet freshChecks fresh digitsFrom fieldLines listing
-hold = tt
+examples-hold = tt
 
 -- ---- two refusals that fit at once, zeroed bytes, unpack and pack
 
@@ -329,10 +327,3 @@ orders =
 pub orders-hold : T (every orders)
 unfolding manyAttachments longTail longReport codesWith codesWithout spoilt one wholeValues numbers packed requiredBits unpackedNumbers orders presenceFrom countPresent unpackGives unpack packChecks entriesGiven countFrom packSheet packOrder pack signed given valueNumbers sheetNumbers refusal judged answer answers yes refuses example freshExample freshBytes freshSheetExample sBytes textBytes reportWith reportOf highestCodes freshCodes badText flagless put1 flagCalls answersOf roomy wide same every first table fieldAt required scaledOf codedOf inRange entryOf codeOf entries codes bits number bitsOf bitField total readFields writeFields nibbles bytes padded attachmentNibbles tailNibbles attachmentsOf among weights weight totalWeight allMissing qualityCode flagsFit flagBody withFlag flagsValid charCode short pairByte codeNibbles classify byteOf escapable isSpace symbolNibbles fulls rest spaceRun writeFrom writeText spaces textStep stateAfter symbolsOf readFrom endFrom atEnd textValid readText widths checksum cardNumbers cardNibbles packing sheetOf fieldChecks bodyValid attachmentChecks reportChecks judge stands contentOf putIn removeFrom next gives lent writes allNibbles callChecks checks step layout effect calls run claim freshSheet freshChecks fresh digitsFrom fieldLines listing
 orders-hold = tt
-
--- what the facts say of each entry
-pub examples-hold : (k : ℕ) → k < length examples → getD examples k nothing .got ≡ getD examples k nothing .want
-examples-hold = each examples hold
-
-pub each-order : (k : ℕ) → k < length orders → getD orders k nothing .got ≡ getD orders k nothing .want
-each-order = each orders orders-hold

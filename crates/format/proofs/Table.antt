@@ -1,19 +1,17 @@
 -- The field table, the weights and the character table against document 001, computed over the whole of each.
 -- Assumes nothing.
 use Prim.Native.Nat.{ℕ, zero, suc, _+_, _/_, _%_, _^_}
-use native.Mathlib.Nat.{le-of-suc-le-suc, not-suc-le-zero}
-use mathlib.Core.Path.{_≡_, refl}
 use mathlib.Core.Bool.{Bool, true, false, cond, not, _&&_}
-use mathlib.Core.List.{List, [], _∷_, _++_}
-use lib.ListN.{length, getD}
-use lib.Dec.{T, eqb, ltb, eqb→eq, ltb→lt}
+use mathlib.Core.List.{List, [], _∷_}
+use lib.ListN.{length}
+use lib.Dec.{T, eqb, ltb}
 use lib.IntN.{ℤ, pos, negsuc, _+ℤ_}
-use Rattle.format.specs.Field.{Field, field, minus, table}
+use Rattle.format.specs.Field.{Field, minus, table}
 use Rattle.format.specs.Bits.{total}
 use Rattle.format.specs.Sheet.{widths}
 use Rattle.format.specs.Flags.{weights}
 use Rattle.format.specs.ShipText.{charCode, short, codeNibbles, pairByte, classify, byteOf, escapable, isSpace, symbolNibbles, fulls, rest, spaceRun, writeFrom, writeText, spaces, textStep, stateAfter, symbolsOf, readFrom, endFrom, atEnd, textValid, readText}
-use Rattle.format.proofs.Test.{left, right, same}
+use Rattle.format.proofs.Test.{same}
 
 -- ---- fields: tables F0-1 and F0-2
 

@@ -1,9 +1,16 @@
 -- Bits, numbers and bytes. Bit 0 is the highest bit of byte 0. Fields follow one another without gaps, high bit first.
-use Prim.Native.Nat.{ℕ, zero, suc, _+_, _*_, _/_, _%_, _^_}
+use Prim.Native.Nat.{ℕ, zero, suc, _+_, _*_, _/_, _%_, _^_, _<_}
 use mathlib.Core.Bool.{Bool, true, false}
 use mathlib.Core.List.{List, [], _∷_, _++_}
-use lib.ListN.{length, take, drop}
+use lib.ListN.{length, getD, take, drop}
 use lib.Dec.{eqb}
+
+-- each number is below n; each is a byte
+abbrev pub Below : ℕ → List ℕ → Type 0
+Below n s = (i : ℕ) → getD s i 0 < n
+
+abbrev pub Bytes : List ℕ → Type 0
+Bytes s = Below 256 s
 
 abbrev pub digit : Bool → ℕ
 digit true = 1

@@ -1,12 +1,11 @@
 -- What a call, and a list of calls, leaves of the buffer and of the outputs; the claim about a list.
 use Prim.Native.Nat.{ℕ, _-_, max}
-use mathlib.Core.Path.{_≡_}
 use mathlib.Core.List.{List, [], _∷_, _++_, map}
 use lib.ListN.{length, drop, replicate}
 use Rattle.format.specs.Order.{Refusal}
 use Rattle.format.specs.Sheet.{Sheet, packing, size}
 use Rattle.format.specs.Report.{Verdict, refused, accepted, judge}
-use Rattle.format.specs.Machine.{Call, Answer, Stepped, lent, step}
+use Rattle.format.specs.Machine.{Call, Answer, lent, step}
 
 abbrev pub zeros : ℕ → List ℕ
 zeros n = replicate n 0

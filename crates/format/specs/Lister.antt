@@ -1,14 +1,13 @@
 -- The lister: what it prints for an input, as ASCII.
 use Prim.Native.Nat.{ℕ, zero, suc, _+_, _/_, _%_}
-use mathlib.Core.Bool.{Bool, true, false}
+use mathlib.Core.Bool.{true, false}
 use mathlib.Core.List.{List, [], _∷_, _++_}
 use mathlib.Core.Option.{Option, none, some}
 use lib.ListN.{length, take}
 use lib.Dec.{ltb}
 use lib.IntN.{ℤ, pos, negsuc}
-use Rattle.format.specs.Order.{Refusal}
 use Rattle.format.specs.Field.{table, codes}
-use Rattle.format.specs.Sheet.{Sheet, checksum}
+use Rattle.format.specs.Sheet.{checksum}
 use Rattle.format.specs.Report.{Verdict, refused, accepted, judge}
 use Rattle.format.specs.declared.Scaled.{Scaled}
 

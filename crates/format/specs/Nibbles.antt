@@ -4,11 +4,16 @@ use mathlib.Core.Bool.{Bool, cond, false, _||_}
 use mathlib.Core.List.{List, [], _∷_, _++_}
 use lib.ListN.{length, getD, take, drop}
 use lib.Dec.{eqb}
+use Rattle.format.specs.Bits.{Below}
 
 -- "a nibble is 4 bits, high half of a byte first"
 unfoldable pub nibbles : List ℕ → List ℕ
 nibbles [] = []
 nibbles (b ∷ bs) = b / 16 ∷ b % 16 ∷ nibbles bs
+
+-- each number is a nibble
+abbrev pub Nibbles : List ℕ → Type 0
+Nibbles ns = Below 16 ns
 
 unfoldable pub bytes : List ℕ → List ℕ
 bytes [] = []

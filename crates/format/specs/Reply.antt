@@ -1,7 +1,7 @@
 -- The code's answers: 01's number, place and values for each case.
 use Prim.Native.Nat.{ℕ}
-use mathlib.Core.List.{List, [], _∷_}
-use mathlib.Core.Option.{Option, none, some}
+use mathlib.Core.List.{[], _∷_}
+use mathlib.Core.Option.{none, some}
 use lib.IntN.{pos}
 use Rattle.format.specs.Machine.{Answer, refused, accepted}
 use Rattle.format.specs.declared.Reply.{Reply}

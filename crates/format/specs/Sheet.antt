@@ -1,5 +1,5 @@
 -- The sheet of the plain machine, and its packing.
-use Prim.Native.Nat.{ℕ, _+_, _%_}
+use Prim.Native.Nat.{ℕ, _%_}
 use mathlib.Core.List.{List, [], _∷_, _++_, map}
 use mathlib.Core.Option.{Option}
 use lib.ListN.{length, replicate}

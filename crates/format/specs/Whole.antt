@@ -1,9 +1,9 @@
 -- "Outside the list, on buffers of their own": fresh, unpack and pack.
-use Prim.Native.Nat.{ℕ, zero, suc, _+_, _*_, _/_, _%_, _^_}
+use Prim.Native.Nat.{ℕ, zero, suc, _+_, _/_, _%_, _^_}
 use mathlib.Core.Bool.{Bool, true, false, cond, not, _&&_, _||_}
 use mathlib.Core.List.{List, [], _∷_, _++_, map}
 use mathlib.Core.Option.{Option, none, some}
-use lib.ListN.{length, getD, take, drop, replicate}
+use lib.ListN.{length, take, replicate}
 use lib.Dec.{ltb, eqb}
 use lib.IntN.{ℤ, pos}
 use Rattle.format.specs.Order.{Refusal, Check, check, first}
@@ -157,3 +157,10 @@ unfoldable pub pack : List ℤ → ℕ → ℕ → List ℕ → List ℕ → Wro
 pack values word rptin ns out =
     let s = packSheet values word rptin ns in
     wroteBy (first (packOrder (length out) values word rptin ns)) (some (pos (size s)) ∷ []) (packing s) out
+
+-- ---- what comes back of values that were packed
+
+-- the values of the fields from k on, 0 where the word says that the field is missing
+unfoldable pub masked : ℕ → ℕ → List ℤ → List ℤ
+masked k word [] = []
+masked k word (v ∷ vs) = cond (bitAt word k) v (pos 0) ∷ masked (suc k) word vs

@@ -1,4 +1,4 @@
-// The types that the definitions and the code share. No function.
+// The types that the definitions share with the code, and a reader's states. No function.
 
 // A field's coded number as the card holds it. 0 is missing.
 pub struct Coded(pub u16);

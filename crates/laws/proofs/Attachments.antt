@@ -12,7 +12,7 @@ use lib.Seq.{take-at, drop-at, drop-append-seam, length-take-le}
 use lib.Dec.{leb, eqb}
 use borrow.Author.Tests.{le-ltb, le-leb, ne-eqb, ltb-false, leb-true, eqb-true, eqb-false, not-false}
 use Rattle.format.specs.Order.{first}
-use Rattle.format.specs.Nibbles.{Attachment, attachment, attachmentNibbles, tailNibbles, lengthAt, idAt, contentAt, behind, attachmentsOf, among}
+use Rattle.format.specs.Nibbles.{Attachment, attachment, attachmentNibbles, tailNibbles, lengthAt, idAt, contentAt, behind, attachmentsOf, among, Nibbles}
 use Rattle.format.specs.Flags.{flagsValid}
 use Rattle.format.specs.Report.{bodyValid, attachmentChecks}
 use Rattle.format.specs.Machine.{allNibbles}
@@ -20,7 +20,6 @@ use Rattle.format.specs.Whole.{countFrom, countIn}
 use Rattle.laws.proofs.Lists.{and-true, or-false, cond-case}
 use Rattle.laws.proofs.Order.{first-none}
 use Rattle.laws.proofs.Bits.{append-below, take-below, drop-below}
-use Rattle.laws.proofs.Nibbles.{Nibbles}
 
 -- ---- nibbles
 

@@ -12,19 +12,11 @@ use lib.Seq.{drop-append-le, drop-at, drop-cons, drop-drop, drop-length, getD-dr
 use lib.Dec.{eqb}
 use lib.Arith.{digits-lt}
 use lib.Pow.{high, low, mod-pow-add, pow-add, pow-mono, pow-pos}
-use Rattle.format.specs.Bits.{digit, bits, number, bitsOf, bitField, splice, total, offset, readFields, writeFields}
+use Rattle.format.specs.Bits.{Below, digit, bits, number, bitsOf, bitField, splice, total, offset, readFields, writeFields}
 
 -- each number fits its width
 abbrev pub Fit : List ℕ → List ℕ → Type 0
 Fit ws vs = (k : ℕ) → getD vs k 0 < 2 ^ getD ws k 0
-
--- each number is below n
-abbrev pub Below : ℕ → List ℕ → Type 0
-Below n s = (i : ℕ) → getD s i 0 < n
-
--- each number is a byte
-abbrev pub Bytes : List ℕ → Type 0
-Bytes s = Below 256 s
 
 module _ (n : ℕ) where
   pub append-below : (s t : List ℕ) → Below n s → Below n t → Below n (s ++ t)

@@ -14,7 +14,7 @@ use Rattle.format.specs.Report.{Verdict, judge}
 use Rattle.format.specs.Machine.{Call, next, gives, lent, writes, roomCheck, callChecks, checks, Answer, Stepped, steppedBy, step, over}
 use Rattle.format.specs.Buffer.{layout, after, effect}
 use Rattle.laws.proofs.Order.{first-fits, first-append-skip, no-check, no-checks, first-nil}
-use Rattle.laws.proofs.Bits.{Bytes}
+use Rattle.format.specs.Bits.{Bytes}
 use Rattle.laws.proofs.Report.{judged}
 use Rattle.laws.proofs.List.{layout-same}
 

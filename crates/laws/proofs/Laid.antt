@@ -10,15 +10,15 @@ use lib.ListN.{length, getD, drop, set, replicate, length-append, length-set, re
 use lib.Seq.{drop-at, set-at, set-append-left}
 use borrow.Author.Tests.{eqb-true, eqb-false}
 use Rattle.format.specs.Field.{table, fieldAt, codes, codeOf}
-use Rattle.format.specs.Bits.{readFields, writeFields, total}
-use Rattle.format.specs.Nibbles.{Attachment, nibbles, odd, tailNibbles}
+use Rattle.format.specs.Bits.{readFields, writeFields, total, Bytes}
+use Rattle.format.specs.Nibbles.{Attachment, nibbles, odd, tailNibbles, Nibbles}
 use Rattle.format.specs.Sheet.{Sheet, widths, checksum, cardNumbers, cardNibbles, packing, size}
 use Rattle.format.specs.Report.{numbersOf, tailOf, Verdict, judge}
 use Rattle.format.specs.Machine.{withValue, withAttachments}
 use Rattle.format.specs.Buffer.{zeros, layout}
 use Rattle.format.specs.declared.Scaled.{Scaled}
-use Rattle.laws.proofs.Bits.{Bytes, append-below}
-use Rattle.laws.proofs.Nibbles.{Nibbles, nibbles-append, nibbles-drop, nibbles-inj, nibbles-packed}
+use Rattle.laws.proofs.Bits.{append-below}
+use Rattle.laws.proofs.Nibbles.{nibbles-append, nibbles-drop, nibbles-inj, nibbles-packed}
 use Rattle.laws.proofs.Card.{card-length, card-lt, card-front}
 use Rattle.laws.proofs.Fields.{noField, table-length, length-codes, codes-set}
 use Rattle.laws.proofs.Attachments.{fine-nibbles}

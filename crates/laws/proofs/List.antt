@@ -23,7 +23,7 @@ use Rattle.format.specs.Buffer.{zeros, layout, after, effect, shown, Ran, calls
 use Rattle.laws.proofs.Lists.{or-false, drop-append, drop-replicate}
 use Rattle.laws.proofs.Order.{between-in, first-none, first-append-none}
 use Rattle.format.specs.declared.Scaled.{Scaled}
-use Rattle.laws.proofs.Bits.{Bytes}
+use Rattle.format.specs.Bits.{Bytes}
 use Rattle.laws.proofs.Fields.{Fair, missing-fair, in-range-fair, fair-set, Present, present-some, present-none}
 use Rattle.laws.proofs.Flags.{flagFits, missing-fits, range-fits, valid-flags, flag-set-length, flag-set-valid, flag-set-nibbles}
 use Rattle.laws.proofs.Attachments.{FineAt}

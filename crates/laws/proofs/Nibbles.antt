@@ -10,14 +10,10 @@ use lib.ListN.{length, take, drop, getD, replicate, length-append, take-append-d
 use lib.Seq.{length-take-le}
 use lib.Dec.{eqb}
 use borrow.Author.Tests.{eqb-false}
-use Rattle.format.specs.Bits.{bits, bitsOf, readFields, writeFields}
-use Rattle.format.specs.Nibbles.{nibbles, bytes, odd, padded}
+use Rattle.format.specs.Bits.{bits, bitsOf, readFields, writeFields, Bytes}
+use Rattle.format.specs.Nibbles.{Nibbles, nibbles, bytes, odd, padded}
 use Rattle.laws.proofs.Lists.{true-false}
-use Rattle.laws.proofs.Bits.{Below, Bytes, uniform, append-below, bits-add, bits-mod, take-below, uniform-append, uniform-back}
-
--- each number is a nibble
-abbrev pub Nibbles : List ℕ → Type 0
-Nibbles ns = Below 16 ns
+use Rattle.laws.proofs.Bits.{uniform, append-below, bits-add, bits-mod, take-below, uniform-append, uniform-back}
 
 -- ---- the nibbles of bytes
 

@@ -14,14 +14,14 @@ use lib.Dec.{eqb}
 use borrow.Author.Tests.{le-ltb, eq-eqb, ne-eqb, ltb-false, eqb-true, not-false}
 use Rattle.format.specs.Order.{Refusal, first}
 use Rattle.format.specs.Field.{Field, table, entries, codes}
-use Rattle.format.specs.Bits.{readFields, writeFields}
-use Rattle.format.specs.Nibbles.{Attachment, nibbles, bytes, padded, odd, tailNibbles, attachmentsOf}
+use Rattle.format.specs.Bits.{readFields, writeFields, Bytes}
+use Rattle.format.specs.Nibbles.{Attachment, nibbles, bytes, padded, odd, tailNibbles, attachmentsOf, Nibbles}
 use Rattle.format.specs.Sheet.{Sheet, widths, checksum, cardNumbers, cardNibbles, packing, size}
 use Rattle.format.specs.Report.{numbersOf, rptinOf, codesOf, checksumOf, countOf, tailOf, sheetOf, fieldChecks, attachmentChecks, tailLength, reportChecks, accepted, verdict, judge}
 use Rattle.laws.proofs.Lists.{true-false}
 use Rattle.laws.proofs.Order.{first-nil, no-check, no-checks, first-none, first-append-none}
-use Rattle.laws.proofs.Bits.{Bytes, Fit, append-below}
-use Rattle.laws.proofs.Nibbles.{Nibbles, length-nibbles, bytes-lt, padded-lt, nibbles-lt, nibbles-bytes, nibbles-inj, nibbles-take, padded-is, padded-even, length-bytes, length-bytes-padded}
+use Rattle.laws.proofs.Bits.{Fit, append-below}
+use Rattle.laws.proofs.Nibbles.{length-nibbles, bytes-lt, padded-lt, nibbles-lt, nibbles-bytes, nibbles-inj, nibbles-take, padded-is, padded-even, length-bytes, length-bytes-padded}
 use Rattle.laws.proofs.Card.{card-length, card-lt, card-back, tail-back, card-front, numbers-fit, numbers-length}
 use Rattle.laws.proofs.Fields.{table-length, FairAll, Present, length-fair, length-codes, codes-entries, entries-codes, checks-fair, fair-checks, codes-fit, checksum-lt}
 use Rattle.laws.proofs.Attachments.{Fine, fine-checks, tail-reads, fine-nibbles, fine-count, fine-size, Walked, checks-fine}

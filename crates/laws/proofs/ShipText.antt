@@ -17,7 +17,7 @@ use Rattle.format.specs.declared.TextStep.the-variants.{On, Plain, Original}
 use Rattle.format.specs.ShipText.{charCode, short, pairByte, codeNibbles, Symbol, plain, original, classify, byteOf, escapable, isSpace, symbolNibbles, fulls, rest, spaceRun, writeFrom, writeSymbols, writeText, spaces, textStep, stateAfter, symbolsOf, readFrom, endFrom, atEnd, textValid, readText}
 use Rattle.format.specs.Machine.{allNibbles}
 use Rattle.laws.proofs.Lists.{and-true, true-false, cond-case, test-case}
-use Rattle.laws.proofs.Bits.{Bytes}
+use Rattle.format.specs.Bits.{Bytes}
 use Rattle.laws.proofs.Characters.{Coded, a-digit, a-pair, coded, escape-code, code-bound, digit-code, paired}
 
 -- ---- symbols that a text may hold

@@ -21,11 +21,11 @@ use Rattle.format.specs.ShipText.{textStep, stateAfter, endFrom, atEnd, textVal
 use Rattle.format.specs.Sheet.{Sheet, packing, size}
 use Rattle.format.specs.Report.{bodyValid, attachmentChecks, Verdict, judge}
 use Rattle.format.specs.Machine.{Answer, valueCheck, withAttachments, allNibbles, over}
-use Rattle.format.specs.Whole.{contents, freshSheet, valueOrZero, isPresent, presence, countPresent, tail, unpacked, unpackGives, unpackChecks, unpackedBy, unpack, bitAt, bitOutside, packChecks, entriesGiven, countIn, packSheet, packOrder, pack}
+use Rattle.format.specs.Whole.{masked, contents, freshSheet, valueOrZero, isPresent, presence, countPresent, tail, unpacked, unpackGives, unpackChecks, unpackedBy, unpack, bitAt, bitOutside, packChecks, entriesGiven, countIn, packSheet, packOrder, pack}
 use Rattle.format.specs.declared.Scaled.{Scaled}
 use Rattle.laws.proofs.Lists.{true-false, cond-case}
 use Rattle.laws.proofs.Order.{first-nil, no-check, no-checks, first-none, first-append-none}
-use Rattle.laws.proofs.Bits.{Bytes}
+use Rattle.format.specs.Bits.{Bytes}
 use Rattle.laws.proofs.Fields.{Fair, missing-fair, in-range-fair, fair-range, noField, FairAll, nil, cons, length-fair, fair-set, Present, table-length}
 use Rattle.laws.proofs.Attachments.{nibbles-all, all-nibbles, tail-reads, tail-count, Fine, empty, fine-checks, fine-nibbles, Walked, checks-fine, count-all}
 use Rattle.laws.proofs.Report.{packing-bytes, report-is, Good, judge-packing, judged, size-is}
@@ -155,11 +155,6 @@ required-to = required-is (λ (k : ℕ). k ≤ 46) (omega arith) (omega arith) (
 
 needed-present : (word : ℕ) (es : List (Option Scaled)) → Agrees 1 word es → Needed word → Present 1 es
 needed-present word es a h i l r n = true-false (bitAt word (1 + i)) (h (1 + i) r) (a i ∙ ap isPresent n)
-
--- the values of the fields from k on, 0 where the word says that the field is missing
-unfoldable pub masked : ℕ → ℕ → List ℤ → List ℤ
-masked k word [] = []
-masked k word (v ∷ vs) = cond (bitAt word k) v (pos 0) ∷ masked (suc k) word vs
 
 values-given : (k word : ℕ) (vs : List ℤ) → map valueOrZero (entriesGiven k word vs) ≡ masked k word vs
 unfolding entriesGiven masked

@@ -98,7 +98,7 @@ fn put_text(b: &mut [u8], n: usize, s: &[u8], log: &mut [u8]) -> Performed
     answered(r, e, 10, log)
 }
 
-// Fetches an attachment, over the bytes that are lent.
+// Fetches an attachment to a copy of the output in the script.
 fn fetch(b: &[u8], k: usize, s: &[u8], log: &mut [u8]) -> Performed
     requires { ⌜ Begun 8 k (now s) (now log) ⌝ }
     ensures { λ r. ⌜ leaves (now (b .entry)) (now (log .exit)) r ≡ turn (now (b .entry)) (now (s .entry)) (now (log .entry)) ⌝ }
@@ -120,7 +120,7 @@ fn fetch(b: &[u8], k: usize, s: &[u8], log: &mut [u8]) -> Performed
     answered(r, e, to, log)
 }
 
-// Fetches the ship text, over the bytes that are lent.
+// Fetches the ship text to a copy of the output in the script.
 fn fetch_text(b: &[u8], n: usize, s: &[u8], log: &mut [u8]) -> Performed
     requires { ⌜ Begun 11 n (now s) (now log) ⌝ }
     ensures { λ r. ⌜ leaves (now (b .entry)) (now (log .exit)) r ≡ turn (now (b .entry)) (now (s .entry)) (now (log .entry)) ⌝ }

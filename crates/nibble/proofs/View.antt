@@ -4,18 +4,18 @@ use Prim.Native.Nat.{ℕ, _+_, _-_, _*_, _/_, _≤_, _<_, max}
 use native.Mathlib.Nat.{add-zero}
 use native.Mathlib.Numerals.{add-one}
 use native.Mathlib.Omega.{arith}
-use mathlib.Core.Path.{_≡_, refl, sym, ap, ap₂, _∙_}
+use mathlib.Core.Path.{_≡_, refl, sym, ap₂, _∙_}
 use mathlib.Core.Bool.{Bool, true, false, cond, _&&_}
 use mathlib.Core.List.{List}
 use lib.ListN.{length, getD, take, drop, length-drop, drop-of-length-le}
 use lib.Seq.{length-take-le, getD-take, getD-drop, take-take, drop-drop, drop-cons}
 use lib.Dec.{ltb, leb}
 use borrow.Author.Tests.{le-leb, lt-leb, leb-true, leb-false, lt-ltb, le-ltb, ltb-true, ltb-false}
-use Rattle.format.specs.Nibbles.{lengthAt, idAt}
+use Rattle.format.specs.Nibbles.{lengthAt, idAt, Nibbles}
 use Rattle.format.specs.Machine.{allNibbles}
 use Rattle.laws.proofs.Bits.{drop-below}
 use Rattle.laws.proofs.Lists.{test-case}
-use Rattle.laws.proofs.Nibbles.{Nibbles, length-nibbles}
+use Rattle.laws.proofs.Nibbles.{length-nibbles}
 use Rattle.nibble.specs.View.{view, from, part, moved, stepAt, headerAt}
 use Rattle.nibble.specs.declared.Cursor.{Cursor}
 use Rattle.nibble.specs.declared.Step.the-variants.{Nibble}

@@ -10,6 +10,7 @@ use lib.ListN.{length, getD, drop, length-append, length-drop}
 use lib.Seq.{getD-drop}
 use lib.Dec.{ltb, eqb}
 use borrow.Author.Tests.{lt-ltb, le-ltb, eq-eqb, ne-eqb}
+use Rattle.format.specs.Bits.{Bytes}
 use Rattle.format.specs.Order.{Refusal, check, first}
 use Rattle.format.specs.Field.{Field, table, required}
 use Rattle.format.specs.Nibbles.{nibbles, odd, tailNibbles, attachmentsOf}
@@ -24,7 +25,7 @@ use Rattle.tail.specs.declared.Walked.{Walked}
 use Rattle.tail.proofs.Turns.{walked-refused, walked-ended}
 use Rattle.nibble.specs.declared.Cursor.{Cursor}
 use Rattle.laws.proofs.Order.{first-skip, first-fits, first-append-skip, first-append-some}
-use Rattle.laws.proofs.Bits.{Bytes, drop-below}
+use Rattle.laws.proofs.Bits.{drop-below}
 use Rattle.laws.proofs.Fields.{table-length}
 use Rattle.laws.proofs.Nibbles.{length-nibbles, nibbles-lt, getD-low}
 use Rattle.card.proofs.Numbers.{count-at}

@@ -10,7 +10,7 @@ use lib.ListN.{length, getD, take, drop, length-append}
 use lib.Seq.{take-suc, getD-take}
 use Rattle.format.specs.Sheet.{Sheet, packing, size}
 use Rattle.format.specs.Report.{Verdict, refused, accepted, judge}
-use Rattle.laws.proofs.Bits.{Bytes}
+use Rattle.format.specs.Bits.{Bytes}
 use Rattle.laws.proofs.Report.{judged, size-range, reports-equal}
 use Rattle.laws.proofs.Whole.{least-reached, most-reached}
 use Rattle.report.specs.Answers.{judgedOf, Takes, Sizes, comparison, FrontCompared}

@@ -11,7 +11,7 @@ use Rattle.format.specs.Order.{Refusal, first}
 use Rattle.format.specs.Nibbles.{Attachment, nibbles, odd, tailNibbles, attachmentsOf}
 use Rattle.format.specs.Sheet.{Sheet, checksum, size}
 use Rattle.format.specs.Report.{codesOf, checksumOf, countOf, tailOf, fieldChecks, reportChecks, Verdict, refused, accepted, judge}
-use Rattle.laws.proofs.Bits.{Bytes}
+use Rattle.format.specs.Bits.{Bytes}
 use Rattle.format.specs.Machine.{contentOf}
 use Rattle.tail.specs.Walk.{placeOf}
 use Rattle.tail.specs.declared.Tail.{Tail}

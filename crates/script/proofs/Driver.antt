@@ -11,7 +11,7 @@ use Rattle.format.specs.Machine.{Call, lent, Answer, over}
 use Rattle.format.specs.Buffer.{After, after, effect}
 use Rattle.format.specs.Reply.{answerOf}
 use Rattle.format.specs.declared.Reply.{Reply}
-use Rattle.laws.proofs.Bits.{Bytes}
+use Rattle.format.specs.Bits.{Bytes}
 use Rattle.script.specs.Script.{bytes8, Entry, entry, numberAt, bytesAt, kinds, within, entryAt, recordSize, nextIn, headOf, Replayed, Performs, idle, turn}
 use Rattle.script.proofs.Scripts.{head-length, entry-whole, entry-cut, next-in, next-full, next-none, next-some, turn-idle, turn-done, effect-out, Kept, kept-turn, kept-end, replay-claim, performs}
 

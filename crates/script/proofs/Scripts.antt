@@ -12,6 +12,7 @@ use lib.Seq.{drop-drop, drop-at, take-at, take-append-seam, drop-append-seam, ta
 use lib.Dec.{ltb, leb}
 use lib.IntN.{ℤ}
 use borrow.Author.Tests.{ltb-false, le-leb, lt-leb, leb-true}
+use Rattle.format.specs.Bits.{Bytes}
 use Rattle.format.specs.Order.{Refusal, first}
 use Rattle.format.specs.Sheet.{Sheet, size}
 use Rattle.format.specs.Report.{Verdict, judge}
@@ -19,7 +20,7 @@ use Rattle.format.specs.Machine.{Call, readField, setField, clearField, readFla
 use Rattle.format.specs.Buffer.{after, Shown, shown, Ran, effectOn, effect, calls, claim}
 use Rattle.laws.proofs.Lists.{or-false}
 use Rattle.laws.proofs.Order.{first-none, first-append-none}
-use Rattle.laws.proofs.Bits.{Bytes, append-below}
+use Rattle.laws.proofs.Bits.{append-below}
 use Rattle.laws.proofs.List.{whole-list}
 use Rattle.script.specs.Script.{bytesOf, bytes8, Entry, entry, numberAt, bytesAt, kinds, within, entryAt, recordSize, logSize, nextIn, listOf, entryOf, scriptOf, Lent, Fits, AllFit, headOf, recordOf, records, answerAt, AnswerFits, Replayed, logged, replayed, Performs, idle, performed, turn}
 use Rattle.words.specs.Words.{signed, unsigned}

@@ -12,7 +12,7 @@ use Rattle.format.specs.Machine.{Call, readField, setField, clearField, readFla
 use Rattle.format.specs.Buffer.{Shown, shown, Ran, effect, claim}
 use Rattle.format.specs.Reply.{refusal}
 use Rattle.format.specs.declared.Scaled.{Scaled}
-use Rattle.laws.proofs.Bits.{Bytes}
+use Rattle.format.specs.Bits.{Bytes}
 
 -- ---- numbers in 8 bytes, the highest first
 

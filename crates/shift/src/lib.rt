@@ -4,8 +4,7 @@ ghost use Prim.Native.Nat.{ℕ, _+_, _*_, _%_, _≤_, _<_, _^_};
 ghost use mathlib.Core.List.{_++_};
 ghost use lib.ListN.{length, getD, take, drop, set, replicate};
 ghost use lib.Seq.{paste};
-ghost use Rattle.format.specs.Nibbles.{nibbles};
-ghost use Rattle.laws.proofs.Nibbles.{Nibbles};
+ghost use Rattle.format.specs.Nibbles.{nibbles, Nibbles};
 
 // Stores v at a place.
 pub fn put(s: &mut [u8], at: usize, v: u8)

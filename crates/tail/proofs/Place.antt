@@ -15,7 +15,7 @@ use Rattle.format.specs.Report.{tailOf, sheetOf, accepted, judge}
 use Rattle.format.specs.Machine.{stands, contentOf}
 use Rattle.format.specs.Buffer.{zeros}
 use Rattle.laws.proofs.Lists.{or-false, test-case}
-use Rattle.laws.proofs.Bits.{Bytes}
+use Rattle.format.specs.Bits.{Bytes}
 use Rattle.laws.proofs.Attachments.{tail-length, tail-append}
 use Rattle.laws.proofs.AttachmentEdits.{Placed}
 use Rattle.laws.proofs.Laid.{tail-taken}

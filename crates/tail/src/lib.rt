@@ -2,10 +2,9 @@
 ghost use mathlib.Core.Path.{_≡_};
 ghost use Prim.Native.Nat.{_+_, _≤_, _<_, _^_};
 ghost use lib.ListN.{length, drop};
-ghost use Rattle.format.specs.Nibbles.{behind};
+ghost use Rattle.format.specs.Nibbles.{behind, Nibbles};
 ghost use Rattle.format.specs.Report.{bodyValid};
 ghost use Rattle.format.specs.Whole.{countIn};
-ghost use Rattle.laws.proofs.Nibbles.{Nibbles};
 ghost use Rattle.nibble.specs.View.{view, part};
 ghost use Rattle.tail.specs.Look.{judgedAt, lookedAt, passedBy};
 ghost use Rattle.tail.specs.Walk.{walked};

@@ -5,7 +5,7 @@ use mathlib.Core.Bool.{Bool, true, false}
 use mathlib.Core.List.{List, _++_}
 use lib.ListN.{length, replicate}
 use Rattle.format.specs.ShipText.{writeText, textValid}
-use Rattle.laws.proofs.Bits.{Bytes}
+use Rattle.format.specs.Bits.{Bytes}
 
 -- "a body is valid only if the writer gives it for some text": it is valid exactly then
 pub record Writable (valid : Bool) (ns : List ℕ) : Type 0 where

@@ -12,14 +12,14 @@ use lib.ListN.{length, getD, take, drop, set}
 use lib.Seq.{getD-take, length-take-le}
 use lib.IntN.{ℤ, pos}
 use Rattle.format.specs.Order.{check, first}
-use Rattle.format.specs.Bits.{bits, bitsOf, splice, total}
+use Rattle.format.specs.Bits.{bits, bitsOf, splice, total, Bytes}
 use Rattle.format.specs.Field.{Field, table, fieldAt, required, scaled, inRange, codeOf}
 use Rattle.format.specs.Report.{numbersOf}
 use Rattle.format.specs.Whole.{bitAt, packChecks, entriesGiven}
 use Rattle.format.specs.declared.Coded.{Coded}
 use Rattle.format.specs.declared.Scaled.{Scaled}
 use Rattle.laws.proofs.Order.{first-none}
-use Rattle.laws.proofs.Bits.{Bytes, total-step, total-end}
+use Rattle.laws.proofs.Bits.{total-step, total-end}
 use Rattle.laws.proofs.Card.{numbers-length}
 use Rattle.laws.proofs.Fields.{noField, table-length, length-codes, codes-at}
 use Rattle.card.specs.Answers.{Carded, fielded}

@@ -24,7 +24,7 @@ use Rattle.report.specs.declared.Inspected.{Inspected}
 use Rattle.report.specs.Answers.{inspected}
 use Rattle.report.proofs.Outcomes.{judge-refused, judge-fine}
 use Rattle.laws.proofs.Order.{first-fits}
-use Rattle.laws.proofs.Bits.{Bytes}
+use Rattle.format.specs.Bits.{Bytes}
 use Rattle.laws.proofs.Report.{judged, size-is, size-range}
 use Rattle.laws.proofs.Laid.{tail-taken}
 use Rattle.laws.proofs.Presence.{count-ones}

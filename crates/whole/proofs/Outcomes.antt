@@ -27,7 +27,7 @@ use Rattle.nibble.specs.declared.Cursor.{Cursor}
 use Rattle.card.specs.Answers.{Carded}
 use Rattle.values.specs.Given.{given}
 use Rattle.laws.proofs.Order.{first-skip, first-fits, first-append-skip, first-append-some}
-use Rattle.laws.proofs.Bits.{Bytes}
+use Rattle.format.specs.Bits.{Bytes}
 use Rattle.laws.proofs.Nibbles.{length-nibbles}
 use Rattle.laws.proofs.Attachments as walks
 use Rattle.laws.proofs.Attachments.{all-nibbles, checks-fine, count-all, fine-count, fine-size}

@@ -18,7 +18,7 @@ use Rattle.format.specs.Machine.{Answer, over}
 use Rattle.format.specs.Whole.{Wrote, wroteBy, Unpacked, unpacked, unpackOn, unpackedBy, unpackChecks, unpackGives, unpack, valueOrZero, presence, tail, packSheet, packOrder, pack}
 use Rattle.laws.proofs.Lists.{or-false}
 use Rattle.laws.proofs.Order.{first-fits, first-skip, first-nil}
-use Rattle.laws.proofs.Bits.{Bytes}
+use Rattle.format.specs.Bits.{Bytes}
 use Rattle.laws.proofs.Whole.{packs, pack-tail, unpack-accepted, pack-unpacked, judge-pack, unpack-after-pack}
 use Rattle.whole.specs.Answers.{refusal, contentsNumbers}
 use Rattle.whole.specs.Trips.{trip, restoredOn, restored, recoveredBy, recovered}

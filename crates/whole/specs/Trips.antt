@@ -11,8 +11,7 @@ use Rattle.format.specs.Order.{Refusal, first}
 use Rattle.format.specs.Sheet.{packing, size}
 use Rattle.format.specs.Report.{Verdict, judge}
 use Rattle.format.specs.Machine.{Answer, over}
-use Rattle.format.specs.Whole.{contents, valueOrZero, tail, countIn, packSheet, packOrder}
-use Rattle.laws.proofs.Whole.{masked}
+use Rattle.format.specs.Whole.{contents, valueOrZero, tail, countIn, packSheet, packOrder, masked}
 use Rattle.whole.specs.Answers.{refusal}
 
 -- the answer of a round trip, and the values, the tail and the report after it

@@ -1,4 +1,3 @@
-use native.Mathlib.Omega.{arith}
 use borrow.Author.Needs.{needs}
 use Rattle.words.proofs.Complement.{low, high-fits, high}
 use Rattle.words.proofs.signed_of.Statement.{statement}

@@ -1,5 +1,4 @@
 use borrow.Author.Needs.{needs}
-use native.Mathlib.Omega.{arith}
 use Rattle.words.proofs.Complement.{above, below}
 use Rattle.words.proofs.unsigned_of.Statement.{statement}
 use Rattle.words.proofs.unsigned_of.Tie as tie
