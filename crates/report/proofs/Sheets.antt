@@ -13,7 +13,7 @@ use Rattle.format.specs.Report.{Verdict, refused, accepted, judge}
 use Rattle.format.specs.Bits.{Bytes}
 use Rattle.laws.proofs.Report.{judged, size-range, reports-equal}
 use Rattle.laws.proofs.Whole.{least-reached, most-reached}
-use Rattle.report.specs.Answers.{judgedOf, Takes, Sizes, comparison, FrontCompared}
+use Rattle.report.specs.Answers.{judgedOf, Takes, Sizes, bothCompared, comparison, FrontCompared}
 use Rattle.report.specs.declared.Judged.{Judged}
 use Rattle.report.specs.declared.Compared.{Compared}
 
@@ -74,33 +74,41 @@ module _ (a b : List ℕ) where
 -- ---- the outcomes
 
 module _ (a b : List ℕ) where
-  pub first-refused : (n p : ℕ) → Judged.Refused n p ≡ judgedOf (judge a) → comparison (Compared.Refused n p) (judge a) (judge b)
+  pub first-refused : (n p : ℕ) → Judged.Refused n p ≡ judgedOf (judge a) → comparison (Compared.Refused n p) a b
   first-refused n p e = rw (judged-refused (judge a) n p e)
 
-  pub second-refused : (m n p : ℕ) → Takes a m → Judged.Refused n p ≡ judgedOf (judge b)
-      → comparison (Compared.Refused n p) (judge a) (judge b)
+  pub second-refused : (m n p : ℕ) → Takes a m → Judged.Refused n p ≡ judgedOf (judge b) → comparison (Compared.Refused n p) a b
   second-refused m n p ea eb = rw (judged-accepted (judge a) m ea .1, judged-refused (judge b) n p eb)
 
   module _ (ba : Bytes a) (bb : Bytes b) (m n : ℕ) (ea : Takes a m) (eb : Takes b n) where
-    pub sizes-differ : (m ≡ n → ⊥) → comparison Compared.Different (judge a) (judge b)
+    -- the bytes are the same exactly when the sheets are
+    accepted-same : m ≡ n → take m a ≡ take m b → (s t : Sheet) → judge a ≡ accepted s → judge b ≡ accepted t → m ≡ size s → n ≡ size t
+        → bothCompared Compared.Same a b s t
+    accepted-same r e s t js jt x y =
+        let f : take (size s) a ≡ take (size t) b = ap (λ (k : ℕ). take k a) (sym x) ∙ e ∙ ap (λ (k : ℕ). take k b) (r ∙ y) in
+        (f, reports-equal a b s t ba bb js jt .0 f)
+
+    accepted-differ : (s t : Sheet) → judge a ≡ accepted s → judge b ≡ accepted t → (s ≡ t → ⊥) → bothCompared Compared.Different a b s t
+    accepted-differ s t js jt h = (λ e. h (reports-equal a b s t ba bb js jt .0 e), h)
+
+    pub sizes-differ : (m ≡ n → ⊥) → comparison Compared.Different a b
     sizes-differ h =
         let x = judged-accepted (judge a) m ea in
         let y = judged-accepted (judge b) n eb in
-        rw (x .1, y .1) (λ e. h (x .2 ∙ ap size e ∙ sym (y .2)))
+        rw (x .1, y .1) (accepted-differ (x .0) (y .0) (x .1) (y .1) (λ e. h (x .2 ∙ ap size e ∙ sym (y .2))))
 
-    -- the bytes are the same exactly when the sheets are
     module _ (r : m ≡ n) where
-      pub bytes-same : take m a ≡ take m b → comparison Compared.Same (judge a) (judge b)
+      pub bytes-same : take m a ≡ take m b → comparison Compared.Same a b
       bytes-same e =
           let x = judged-accepted (judge a) m ea in
           let y = judged-accepted (judge b) n eb in
-          rw (x .1, y .1)
-          (reports-equal a b (x .0) (y .0) ba bb (x .1) (y .1) .0
-          (ap (λ (k : ℕ). take k a) (sym (x .2)) ∙ e ∙ ap (λ (k : ℕ). take k b) (r ∙ y .2)))
+          rw (x .1, y .1) (accepted-same r e (x .0) (y .0) (x .1) (y .1) (x .2) (y .2))
 
-      pub bytes-differ : (take m a ≡ take m b → ⊥) → comparison Compared.Different (judge a) (judge b)
+      pub bytes-differ : (take m a ≡ take m b → ⊥) → comparison Compared.Different a b
       bytes-differ h =
           let x = judged-accepted (judge a) m ea in
           let y = judged-accepted (judge b) n eb in
+          let equal = reports-equal a b (x .0) (y .0) ba bb (x .1) (y .1) in
           rw (x .1, y .1)
-          (λ e. h (ap (λ (k : ℕ). take k a) (x .2) ∙ reports-equal a b (x .0) (y .0) ba bb (x .1) (y .1) .1 e ∙ ap (λ (k : ℕ). take k b) (sym (r ∙ y .2))))
+          (accepted-differ (x .0) (y .0) (x .1) (y .1)
+          (λ e. h (ap (λ (k : ℕ). take k a) (x .2) ∙ equal .1 e ∙ ap (λ (k : ℕ). take k b) (sym (r ∙ y .2)))))

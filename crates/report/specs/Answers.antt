@@ -38,17 +38,20 @@ pub record Sizes (r : Judged) : Type 0 where
   pub least : (b : List ℕ) × Bytes b × (judgedOf (judge b) ≡ Accepted 38)
   pub most : (b : List ℕ) × Bytes b × (judgedOf (judge b) ≡ Accepted 1853)
 
--- two accepted reports: whether their sheets are the same
-abbrev pub sheetsCompared : Compared → Sheet → Sheet → Type 0
-sheetsCompared (CRefused n p) s t = ⊥
-sheetsCompared Same s t = s ≡ t
-sheetsCompared Different s t = s ≡ t → ⊥
+-- two accepted reports of sheets s and t: equal byte for byte and by their sheets, or neither
+abbrev pub bothCompared : Compared → List ℕ → List ℕ → Sheet → Sheet → Type 0
+bothCompared (CRefused n p) a b s t = ⊥
+bothCompared Same a b s t = (take (size s) a ≡ take (size t) b) × (s ≡ t)
+bothCompared Different a b s t = (take (size s) a ≡ take (size t) b → ⊥) × (s ≡ t → ⊥)
 
--- "two reports in the order lent": the refusal of the first that is refused, or whether their sheets are the same
-abbrev pub comparison : Compared → Verdict → Verdict → Type 0
-comparison c (refused r) w = c ≡ CRefused (r .number) (r .place)
-comparison c (accepted s) (refused r) = c ≡ CRefused (r .number) (r .place)
-comparison c (accepted s) (accepted t) = sheetsCompared c s t
+abbrev pub comparedBy : Compared → List ℕ → List ℕ → Verdict → Verdict → Type 0
+comparedBy c a b (refused r) w = c ≡ CRefused (r .number) (r .place)
+comparedBy c a b (accepted s) (refused r) = c ≡ CRefused (r .number) (r .place)
+comparedBy c a b (accepted s) (accepted t) = bothCompared c a b s t
+
+-- "two reports in the order lent": the refusal of the first that is refused, or whether they are the same
+abbrev pub comparison : Compared → List ℕ → List ℕ → Type 0
+comparison c a b = comparedBy c a b (judge a) (judge b)
 
 -- whether the first n bytes of both are the same
 pub record FrontCompared (r : Bool) (a b : List ℕ) (n : ℕ) : Type 0 where

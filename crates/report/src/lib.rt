@@ -155,7 +155,7 @@ fn same_front(a: &[u8], b: &[u8], n: usize) -> bool
 // Compares two accepted reports of m and n bytes.
 fn compare(a: &[u8], m: usize, b: &[u8], n: usize) -> Compared
     requires { ⌜ Takes (now a) m × Takes (now b) n ⌝ }
-    ensures { λ r. ⌜ comparison r (judge (now (a .entry))) (judge (now (b .entry))) ⌝ }
+    ensures { λ r. ⌜ comparison r (now (a .entry)) (now (b .entry)) ⌝ }
 {
     if m != n {
         return Compared::Different;
@@ -169,7 +169,7 @@ fn compare(a: &[u8], m: usize, b: &[u8], n: usize) -> Compared
 // Compares the report that b begins with to an accepted one of m bytes.
 fn compare_second(a: &[u8], m: usize, b: &[u8]) -> Compared
     requires { ⌜ Takes (now a) m ⌝ }
-    ensures { λ r. ⌜ comparison r (judge (now (a .entry))) (judge (now (b .entry))) ⌝ }
+    ensures { λ r. ⌜ comparison r (now (a .entry)) (now (b .entry)) ⌝ }
 {
     let j = judge(b);
     match j {
@@ -180,7 +180,7 @@ fn compare_second(a: &[u8], m: usize, b: &[u8]) -> Compared
 
 // Whether the reports that two buffers begin with are equal byte for byte, which they are exactly when their sheets are.
 pub fn same(a: &[u8], b: &[u8]) -> Compared
-    ensures { λ r. ⌜ comparison r (judge (now (a .entry))) (judge (now (b .entry))) ⌝ }
+    ensures { λ r. ⌜ comparison r (now (a .entry)) (now (b .entry)) ⌝ }
 {
     let j = judge(a);
     match j {
