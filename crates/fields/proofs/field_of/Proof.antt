@@ -12,7 +12,6 @@ use Rattle.card.proofs.Rows.{field-row, row-window}
 use Rattle.card.proofs.Numbers.{row-at}
 use Rattle.fields.proofs.Calls.{number-refuses, quiet-read-field}
 use Rattle.fields.proofs.Values.{field-missing, field-read}
-use native.Mathlib.Omega.{arith}
 use borrow.Author.Needs.{needs}
 use Rattle.fields.proofs.field_of.Statement.{statement}
 use Rattle.fields.proofs.field_of.Tie as tie

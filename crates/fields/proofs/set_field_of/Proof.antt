@@ -11,7 +11,6 @@ use Rattle.card.proofs.Rows.{field-row}
 use Rattle.laws.proofs.Order.{between-in}
 use Rattle.fields.proofs.Calls.{number-refuses, quiet-set-field}
 use Rattle.fields.proofs.Values.{field-outside, field-set}
-use native.Mathlib.Omega.{arith}
 use borrow.Author.Needs.{needs}
 use Rattle.fields.proofs.set_field_of.Statement.{statement}
 use Rattle.fields.proofs.set_field_of.Tie as tie

@@ -1,6 +1,5 @@
 -- `report::inspect` meets its contract.
 -- Assumes nothing.
-use mathlib.Core.Path.{sym, ap, _∙_}
 use Rattle.report.proofs.Outcomes.{front-refused, card-alone}
 use native.Mathlib.Omega.{arith}
 use borrow.Author.Needs.{needs}
