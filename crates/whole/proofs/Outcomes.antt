@@ -99,7 +99,7 @@ laid-behind x ns n m en em h = go (odd n) refl
         ap (drop 75) pasted ∙ behind (drop n x) ∙ ap₂ (λ (a b : ℕ). ns ++ (zeros a ++ drop b x)) d q
 
 -- a layout with nothing to clear
-over-layout : (b : List ℕ) (s : Sheet) → layout b 0 s ≡ over (packing s) b
+pub over-layout : (b : List ℕ) (s : Sheet) → layout b 0 s ≡ over (packing s) b
 unfolding layout
 over-layout b s =
     let a : 0 - size s ≡ 0 = omega arith in

@@ -3,12 +3,16 @@ ghost use mathlib.Core.Path.{_≡_};
 ghost use mathlib.Core.Bool.{cond};
 ghost use Prim.Native.Nat.{_*_, _≤_, _^_};
 ghost use lib.ListN.{length, set};
+ghost use Rattle.format.specs.Field.{fieldAt};
 ghost use Rattle.format.specs.Nibbles.{nibbles, odd};
 ghost use Rattle.format.specs.Whole.{unpacked, countIn};
 ghost use Rattle.format.specs.Whole as spec;
 ghost use Rattle.whole.specs.Answers.{freshAnswer, unpackAnswer, packAnswer};
 ghost use Rattle.whole.specs.Trips.{trip, restored, recovered};
-ghost use Rattle.whole.specs.Steps.{Shown, fieldsChecked, FieldsPass, TailPasses};
+ghost use Rattle.card.specs.Answers.{Carded};
+ghost use Rattle.whole.specs.Steps.{Shown, fieldsChecked, FieldsPass, TailPasses, CodeOrZero, FiveFit, fiveNumbers, cleared};
+use card::Coding;
+use format::Coded;
 use format::Scaled;
 use nibble::Cursor;
 use report::Inspected;
@@ -193,6 +197,47 @@ pub fn pack(values: &[i64], word: u64, rptin: u16, tail: &[u8], out: &mut [u8]) 
 
 // ---- fresh
 
+// The code of a value of field k, or 0 where the value is out of range.
+fn code_or_zero(k: usize, v: Scaled) -> u16
+    requires { ⌜ (1 ≤ k) × (k ≤ 46) ⌝ }
+    ensures { λ r. ⌜ CodeOrZero (fieldAt k) v r ⌝ }
+{
+    let g = card::coded(k, v);
+    match g {
+        Coding::Outside => 0,
+        Coding::Code(c) => c.0,
+    }
+}
+
+// Clears the first 38 bytes.
+fn clear_card(out: &mut [u8])
+    requires { ⌜ 38 ≤ length (now out) ⌝ }
+    ensures { λ _. ⌜ now (out .exit) ≡ cleared (now (out .entry)) ⌝ }
+{
+    let mut i = 0;
+    while i < 38 {
+        out[i] = 0;
+        i += 1;
+    }
+}
+
+// Writes a card of these five codes, all else 0, and seals it.
+fn write_fresh(out: &mut [u8], box10: u16, year: u16, month: u16, x: u16, y: u16)
+    requires { ⌜ (38 ≤ length (now out)) × FiveFit box10 year month x y ⌝ }
+    ensures { λ _. ⌜ Carded (cleared (now (out .entry))) (now (out .exit)) (fiveNumbers box10 year month x y) ⌝ }
+{
+    clear_card(out);
+    card::store(out, 1, Coded(box10));
+    card::store(out, 2, Coded(year));
+    card::store(out, 3, Coded(month));
+    card::store(out, 6, Coded(x));
+    card::store(out, 7, Coded(y));
+    card::seal(
+        out,
+        box10 as u64 + year as u64 + month as u64 + x as u64 + y as u64,
+    );
+}
+
 // The report of these five values, all else missing, to the first 38 bytes of out.
 pub fn fresh(
     box10: Scaled,
@@ -204,24 +249,31 @@ pub fn fresh(
 ) -> Started
     ensures { λ r. ⌜ record { answer = freshAnswer r; out = now (out .exit) } ≡ spec.fresh box10 year month x y (now (out .entry)) ⌝ }
 {
-    let v1 = box10.0;
-    let v2 = year.0;
-    let v3 = month.0;
-    let v6 = x.0;
-    let v7 = y.0;
-    let mut values = [0i64; 46];
-    values[0] = v1;
-    values[1] = v2;
-    values[2] = v3;
-    values[5] = v6;
-    values[6] = v7;
-    let tail = [0u8; 0];
-    // Bits 1, 2, 3, 6 and 7.
-    let p = pack(&values, 206, 0, &tail, out);
-    match p {
-        Packed::Refused(n, k) => Started::Refused(n, k),
-        Packed::Written(_) => Started::Written,
+    let a = code_or_zero(1, box10);
+    if a == 0 {
+        return Started::Refused(9, 1);
     }
+    let b = code_or_zero(2, year);
+    if b == 0 {
+        return Started::Refused(9, 2);
+    }
+    let c = code_or_zero(3, month);
+    if c == 0 {
+        return Started::Refused(9, 3);
+    }
+    let d = code_or_zero(6, x);
+    if d == 0 {
+        return Started::Refused(9, 6);
+    }
+    let e = code_or_zero(7, y);
+    if e == 0 {
+        return Started::Refused(9, 7);
+    }
+    if out.len() < 38 {
+        return Started::Refused(13, 0);
+    }
+    write_fresh(out, a, b, c, d, e);
+    Started::Written
 }
 
 // ---- the two round trips

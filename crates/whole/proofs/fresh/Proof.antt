@@ -1,103 +1,68 @@
--- `whole::fresh` meets its contract: pack of five values.
+-- `whole::fresh` meets its contract: one law for each return.
 -- Assumes nothing.
-use mathlib.Core.Path.{_≡_, sym, ap, _∙_}
-use mathlib.Core.List.{[]}
 use denote.Ref.{now}
-use mir.Syntax.{w64}
-use mir.Val.{toZ, ofZ}
-use Rattle.format.specs.Whole.{pack}
-use Rattle.whole.specs.Answers.{packAnswer}
-use Rattle.whole.specs.declared.Packed as answers
-use Rattle.whole.proofs.Five.{fiveOf, fiveValues, fresh-refused, fresh-written}
+use Rattle.whole.proofs.Five.{refused-1, refused-2, refused-3, refused-6, refused-7, five-fit, short, written}
 use borrow.Author.Needs.{needs}
 use Rattle.whole.proofs.fresh.Statement.{statement}
 use Rattle.whole.proofs.fresh.Tie as tie
 
-abbrev given : tie.After-pack → tie.Start
-given c = c .before .before .before .before .before .before .before .before .before .before
+code-or-zero-requires : tie.Need-code-or-zero-requires
+code-or-zero-requires c κs = search needs
 
--- each value, as a local holds it
-held-1 : (c : tie.After-pack) → toZ w64 (ofZ w64 (given c .args .box10 .0)) ≡ given c .args .box10 .0
-held-1 c = search needs
+returns : tie.Need-returns
+returns c = refused-1 (c .before .before .before .args .box10) (c .before .before .before .args .year) (c .before .before .before .args .month) (c .before .before .before .args .x) (c .before .before .before .args .y) (now (c .before .before .before .args .out)) _ (c .before .code-or-zero .ensures) (c .if1 .taken)
 
-held-2 : (c : tie.After-pack) → toZ w64 (ofZ w64 (given c .args .year .0)) ≡ given c .args .year .0
-held-2 c = search needs
+code-or-zero-requires-2 : tie.Need-code-or-zero-requires-2
+code-or-zero-requires-2 c κs = search needs
 
-held-3 : (c : tie.After-pack) → toZ w64 (ofZ w64 (given c .args .month .0)) ≡ given c .args .month .0
-held-3 c = search needs
+returns-2 : tie.Need-returns-2
+returns-2 c = refused-2 (c .before .before .before .before .before .args .box10) (c .before .before .before .before .before .args .year) (c .before .before .before .before .before .args .month) (c .before .before .before .before .before .args .x) (c .before .before .before .before .before .args .y) (now (c .before .before .before .before .before .args .out)) _ (c .before .before .before .code-or-zero .ensures) (c .before .before .if1 .left) _ (c .before .code-or-zero2 .ensures) (c .if2 .taken)
 
-held-6 : (c : tie.After-pack) → toZ w64 (ofZ w64 (given c .args .x .0)) ≡ given c .args .x .0
-held-6 c = search needs
+code-or-zero-requires-3 : tie.Need-code-or-zero-requires-3
+code-or-zero-requires-3 c κs = search needs
 
-held-7 : (c : tie.After-pack) → toZ w64 (ofZ w64 (given c .args .y .0)) ≡ given c .args .y .0
-held-7 c = search needs
+returns-3 : tie.Need-returns-3
+returns-3 c = refused-3 (c .before .before .before .before .before .before .before .args .box10) (c .before .before .before .before .before .before .before .args .year) (c .before .before .before .before .before .before .before .args .month) (c .before .before .before .before .before .before .before .args .x) (c .before .before .before .before .before .before .before .args .y) (now (c .before .before .before .before .before .before .before .args .out)) _ (c .before .before .before .before .before .code-or-zero .ensures) (c .before .before .before .before .if1 .left) _ (c .before .before .before .code-or-zero2 .ensures) (c .before .before .if2 .left) _ (c .before .code-or-zero3 .ensures) (c .if3 .taken)
 
--- what pack left
-packed : (c : tie.After-pack) (r : answers.Packed) → c .pack .result ≡ r
-    → record { answer = packAnswer r; out = c .pack .last .1 .1 .1 .1 .0 }
-    ≡ pack (fiveValues (given c .args .box10) (given c .args .year) (given c .args .month) (given c .args .x) (given c .args .y)) 206 0 [] (now (given c .args .out))
-packed c r e =
-    ap (λ (x : answers.Packed). record { answer = packAnswer x; out = c .pack .last .1 .1 .1 .1 .0 }) (sym e)
-    ∙ c .pack .ensures
-    ∙ (λ i. pack (fiveOf (held-1 c i) (held-2 c i) (held-3 c i) (held-6 c i) (held-7 c i)) 206 0 [] (now (given c .args .out)))
+code-or-zero-requires-4 : tie.Need-code-or-zero-requires-4
+code-or-zero-requires-4 c κs = search needs
 
-array-set-from-values : tie.Need-array-set-from-values
-array-set-from-values c = search needs
+returns-4 : tie.Need-returns-4
+returns-4 c = refused-6 (c .before .before .before .before .before .before .before .before .before .args .box10) (c .before .before .before .before .before .before .before .before .before .args .year) (c .before .before .before .before .before .before .before .before .before .args .month) (c .before .before .before .before .before .before .before .before .before .args .x) (c .before .before .before .before .before .before .before .before .before .args .y) (now (c .before .before .before .before .before .before .before .before .before .args .out)) _ (c .before .before .before .before .before .before .before .code-or-zero .ensures) (c .before .before .before .before .before .before .if1 .left) _ (c .before .before .before .before .before .code-or-zero2 .ensures) (c .before .before .before .before .if2 .left) _ (c .before .before .before .code-or-zero3 .ensures) (c .before .before .if3 .left) _ (c .before .code-or-zero4 .ensures) (c .if4 .taken)
 
-array-set-from-values-2 : tie.Need-array-set-from-values-2
-array-set-from-values-2 c = search needs
+code-or-zero-requires-5 : tie.Need-code-or-zero-requires-5
+code-or-zero-requires-5 c κs = search needs
 
-array-set-from-values-3 : tie.Need-array-set-from-values-3
-array-set-from-values-3 c = search needs
+returns-5 : tie.Need-returns-5
+returns-5 c = refused-7 (c .before .before .before .before .before .before .before .before .before .before .before .args .box10) (c .before .before .before .before .before .before .before .before .before .before .before .args .year) (c .before .before .before .before .before .before .before .before .before .before .before .args .month) (c .before .before .before .before .before .before .before .before .before .before .before .args .x) (c .before .before .before .before .before .before .before .before .before .before .before .args .y) (now (c .before .before .before .before .before .before .before .before .before .before .before .args .out)) _ (c .before .before .before .before .before .before .before .before .before .code-or-zero .ensures) (c .before .before .before .before .before .before .before .before .if1 .left) _ (c .before .before .before .before .before .before .before .code-or-zero2 .ensures) (c .before .before .before .before .before .before .if2 .left) _ (c .before .before .before .before .before .code-or-zero3 .ensures) (c .before .before .before .before .if3 .left) _ (c .before .before .before .code-or-zero4 .ensures) (c .before .before .if4 .left) _ (c .before .code-or-zero5 .ensures) (c .if5 .taken)
 
-array-set-from-values-4 : tie.Need-array-set-from-values-4
-array-set-from-values-4 c = search needs
+returns-6 : tie.Need-returns-6
+returns-6 c = short (c .before .before .before .before .before .before .before .before .before .before .before .before .args .box10) (c .before .before .before .before .before .before .before .before .before .before .before .before .args .year) (c .before .before .before .before .before .before .before .before .before .before .before .before .args .month) (c .before .before .before .before .before .before .before .before .before .before .before .before .args .x) (c .before .before .before .before .before .before .before .before .before .before .before .before .args .y) (now (c .before .before .before .before .before .before .before .before .before .before .before .before .args .out)) _ (c .before .before .before .before .before .before .before .before .before .before .code-or-zero .ensures) (c .before .before .before .before .before .before .before .before .before .if1 .left) _ (c .before .before .before .before .before .before .before .before .code-or-zero2 .ensures) (c .before .before .before .before .before .before .before .if2 .left) _ (c .before .before .before .before .before .before .code-or-zero3 .ensures) (c .before .before .before .before .before .if3 .left) _ (c .before .before .before .before .code-or-zero4 .ensures) (c .before .before .before .if4 .left) _ (c .before .before .code-or-zero5 .ensures) (c .before .if5 .left) (c .if6 .taken)
 
-array-set-from-values-5 : tie.Need-array-set-from-values-5
-array-set-from-values-5 c = search needs
-
-slice-aggregate-pack : tie.Need-slice-aggregate-pack
-slice-aggregate-pack c = search needs
-
-slice-aggregate-pack-2 : tie.Need-slice-aggregate-pack-2
-slice-aggregate-pack-2 c = search needs
-
-pack-requires : tie.Need-pack-requires
-pack-requires c κs = search needs
-
-enum-known-p : tie.Need-enum-known-p
-enum-known-p c = search needs
-
-enum-told : tie.Need-enum-told
-enum-told c = search needs
+write-fresh-requires : tie.Need-write-fresh-requires
+write-fresh-requires c κs = (c .before .if6 .left, five-fit (c .before .before .before .before .before .before .before .before .before .before .before .before .before .args .box10) (c .before .before .before .before .before .before .before .before .before .before .before .before .before .args .year) (c .before .before .before .before .before .before .before .before .before .before .before .before .before .args .month) (c .before .before .before .before .before .before .before .before .before .before .before .before .before .args .x) (c .before .before .before .before .before .before .before .before .before .before .before .before .before .args .y) (now (c .before .before .before .before .before .before .before .before .before .before .before .before .before .args .out)) _ (c .before .before .before .before .before .before .before .before .before .before .before .code-or-zero .ensures) (c .before .before .before .before .before .before .before .before .before .before .if1 .left) _ (c .before .before .before .before .before .before .before .before .before .code-or-zero2 .ensures) (c .before .before .before .before .before .before .before .before .if2 .left) _ (c .before .before .before .before .before .before .before .code-or-zero3 .ensures) (c .before .before .before .before .before .before .if3 .left) _ (c .before .before .before .before .before .code-or-zero4 .ensures) (c .before .before .before .before .if4 .left) _ (c .before .before .before .code-or-zero5 .ensures) (c .before .before .if5 .left))
 
 same-length : tie.Need-same-length
 same-length c = search needs
 
-returns : tie.Need-returns
-returns c = fresh-refused (c .before .before .before .before .before .before .before .before .before .before .before .before .before .before .before .args .box10) (c .before .before .before .before .before .before .before .before .before .before .before .before .before .before .before .args .year) (c .before .before .before .before .before .before .before .before .before .before .before .before .before .before .before .args .month) (c .before .before .before .before .before .before .before .before .before .before .before .before .before .before .before .args .x) (c .before .before .before .before .before .before .before .before .before .before .before .before .before .before .before .args .y) _ (now (c .before .before .before .before .before .before .before .before .before .before .before .before .before .before .before .args .out)) _ _ (packed (c .before .before .before .before .before) _ (c .before .p .given .1))
-
-same-length-2 : tie.Need-same-length-2
-same-length-2 c = search needs
-
-returns-2 : tie.Need-returns-2
-returns-2 c = fresh-written (c .before .before .before .before .before .before .before .before .before .before .before .before .before .before .args .box10) (c .before .before .before .before .before .before .before .before .before .before .before .before .before .before .args .year) (c .before .before .before .before .before .before .before .before .before .before .before .before .before .before .args .month) (c .before .before .before .before .before .before .before .before .before .before .before .before .before .before .args .x) (c .before .before .before .before .before .before .before .before .before .before .before .before .before .before .args .y) _ (now (c .before .before .before .before .before .before .before .before .before .before .before .before .before .before .args .out)) _ (packed (c .before .before .before .before) _ (c .enum-told .given .1))
+returns-7 : tie.Need-returns-7
+returns-7 c = written (c .before .before .before .before .before .before .before .before .before .before .before .before .before .before .before .before .args .box10) (c .before .before .before .before .before .before .before .before .before .before .before .before .before .before .before .before .args .year) (c .before .before .before .before .before .before .before .before .before .before .before .before .before .before .before .before .args .month) (c .before .before .before .before .before .before .before .before .before .before .before .before .before .before .before .before .args .x) (c .before .before .before .before .before .before .before .before .before .before .before .before .before .before .before .before .args .y) (now (c .before .before .before .before .before .before .before .before .before .before .before .before .before .before .before .before .args .out)) _ (c .before .before .before .before .before .before .before .before .before .before .before .before .before .before .code-or-zero .ensures) (c .before .before .before .before .before .before .before .before .before .before .before .before .before .if1 .left) _ (c .before .before .before .before .before .before .before .before .before .before .before .before .code-or-zero2 .ensures) (c .before .before .before .before .before .before .before .before .before .before .before .if2 .left) _ (c .before .before .before .before .before .before .before .before .before .before .code-or-zero3 .ensures) (c .before .before .before .before .before .before .before .before .before .if3 .left) _ (c .before .before .before .before .before .before .before .before .code-or-zero4 .ensures) (c .before .before .before .before .before .before .before .if4 .left) _ (c .before .before .before .before .before .before .code-or-zero5 .ensures) (c .before .before .before .before .before .if5 .left) _ (c .before .before .before .before .if6 .left) (λ i. c .slice-known2 .given i .fits) (c .before .before .write-fresh .ensures)
 
 pub fresh-spec : {M : Type 1} → statement M
 fresh-spec =
     tie.close
     (tie.spec
-    array-set-from-values
-    array-set-from-values-2
-    array-set-from-values-3
-    array-set-from-values-4
-    array-set-from-values-5
-    slice-aggregate-pack
-    slice-aggregate-pack-2
-    pack-requires
-    enum-known-p
-    enum-told
-    same-length
+    code-or-zero-requires
     returns
-    same-length-2
-    returns-2)
+    code-or-zero-requires-2
+    returns-2
+    code-or-zero-requires-3
+    returns-3
+    code-or-zero-requires-4
+    returns-4
+    code-or-zero-requires-5
+    returns-5
+    returns-6
+    write-fresh-requires
+    same-length
+    returns-7)
