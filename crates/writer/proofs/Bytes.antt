@@ -22,13 +22,13 @@ pub byte-space : (at s b : ℕ) (d : List ℕ) → b ≡ 32 → (at ≡ at + len
 unfolding piece waiting
 byte-space at s b d e = rw (eq-eqb b 32 e) (omega arith, refl, refl)
 
-pub byte-code : (at s b v a x : ℕ) (d o p : List ℕ) → (b ≡ 32 → ⊥) → v ≡ charCode b → (a ≡ at + length (spaceRun s)) × (o ≡ sets d at (spaceRun s))
-    → (x ≡ a + length (codeNibbles v)) × (p ≡ sets o a (codeNibbles v))
+pub byte-code : (at s b a x : ℕ) (d o p : List ℕ) → (b ≡ 32 → ⊥) → (a ≡ at + length (spaceRun s)) × (o ≡ sets d at (spaceRun s))
+    → (x ≡ a + length (codeNibbles (charCode b))) × (p ≡ sets o a (codeNibbles (charCode b)))
     → (x ≡ at + length (piece s b)) × (0 ≡ waiting s b) × (p ≡ sets d at (piece s b))
 unfolding piece waiting
-byte-code at s b v a x d o p n e f g =
-    rw (ne-eqb b 32 n, ← e)
-    (omega (arith, f .0, g .0, length-append (spaceRun s) (codeNibbles v)), refl, stores d o p (spaceRun s) (codeNibbles v) at a (f .1) (f .0) (g .1))
+byte-code at s b a x d o p n f g =
+    rw (ne-eqb b 32 n)
+    (omega (arith, f .0, g .0, length-append (spaceRun s) (codeNibbles (charCode b))), refl, stores d o p (spaceRun s) (codeNibbles (charCode b)) at a (f .1) (f .0) (g .1))
 
 -- ---- the loop
 

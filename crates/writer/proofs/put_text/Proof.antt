@@ -22,7 +22,7 @@ shared-slice-read-put-byte : tie.Need-shared-slice-read-put-byte Inv-loop μ-loo
 shared-slice-read-put-byte c = search needs
 
 put-byte-requires : tie.Need-put-byte-requires Inv-loop μ-loop
-put-byte-requires c κs = (c .before .before .before .loop .inv .room, omega (arith, c .before .before .before .loop .inv .few, c .before .before .before .before .before .before .good .0 .1))
+put-byte-requires c κs = (c .before .before .before .loop .inv .room, omega (arith, c .before .before .before .loop .inv .few, c .before .before .before .before .before .before .good .0 .1), omega (arith, writing-length _ _ _ _ _ _ (c .before .before .before .loop .inv), c .before .before .before .before .before .before .pre))
 
 same-length : tie.Need-same-length Inv-loop μ-loop
 same-length c = c .before .before .before .put-byte .kept .0 ∙ writing-length _ _ _ _ _ _ (c .before .before .before .before .before .before .before .loop .inv)
