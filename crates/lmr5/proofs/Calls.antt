@@ -1,6 +1,6 @@
 -- What the definitions say of a call, said with its answer in numbers.
 -- Assumes nothing.
-use Prim.Native.Nat.{ℕ, _<_}
+use Prim.Native.Nat.{ℕ, _<_, _^_}
 use native.Mathlib.Omega.{arith}
 use mathlib.Core.Path.{_≡_, refl, sym, ap, ap₂, _∙_}
 use mathlib.Core.List.{List, [], _∷_, map}
@@ -10,7 +10,7 @@ use lib.IntN.{ℤ, pos}
 use mir.Syntax.{w64}
 use mir.Val.{SFits, toZ, ofZ}
 use mir.ValLaws.{toZ-ofZ, toZ-pos}
-use Rattle.words.specs.Words.{signed, unsigned}
+use Rattle.words.specs.Words.{unsigned}
 use Rattle.format.specs.Machine as machine
 use Rattle.format.specs.Machine.{accepted}
 use Rattle.format.specs.Buffer.{After, after}
@@ -22,26 +22,23 @@ use Rattle.report.specs.declared.Judged.the-variants.{Refused, Accepted}
 use Rattle.format.specs.Whole.{Wrote, Unpacked, unpacked}
 use Rattle.whole.specs.Answers.{contentsNumbers}
 use Rattle.whole.specs.declared.Contents.{Contents}
-use Rattle.script.proofs.Numbers.{signed-unsigned}
 use Rattle.lmr5.specs.declared.Answer.{Answer}
 use Rattle.lmr5.specs.Numbered.{numbers, numbered, left, numberedAfter, judging, numberedWrote, Opened, opening, openedBy, numberedUnpacked, word}
 
 -- a number that 64 bits hold is given as it is
 pub number-given : (z : ℤ) → SFits w64 z → numbers 0 1 0 (toZ w64 (ofZ w64 z)) ≡ numbered (accepted (some z ∷ []))
-number-given z f = ap (numbers 0 1 0) (toZ-ofZ w64 z f ∙ sym (signed-unsigned z (f .sfits)))
+number-given z f = ap (numbers 0 1 0) (toZ-ofZ w64 z f)
 
 -- held in a register
 pub held-given : (z : ℤ) (r : Answer) → SFits w64 z → r ≡ numbered (accepted (some (toZ w64 (ofZ w64 z)) ∷ [])) → r ≡ numbered (accepted (some z ∷ []))
 held-given z r f h = h ∙ ap (λ (x : ℤ). numbered (accepted (some x ∷ []))) (toZ-ofZ w64 z f)
 
--- a word as a signed number
-pub word-given : (n : ℕ) (z : ℤ) (r : Answer) → SFits w64 z → z ≡ signed n → r ≡ numbered (accepted (some (toZ w64 (ofZ w64 z)) ∷ [])) → r ≡ numbered (accepted (some (pos n) ∷ []))
-unfolding unsigned
-word-given n z r f e h = held-given z r f h ∙ ap (numbers 0 1 0) (signed-unsigned z (f .sfits) ∙ e)
+-- a count, and a flag's value
+pub count-given : (n : ℕ) (r : Answer) → n < 2 ^ 63 → r ≡ numbered (accepted (some (toZ w64 n) ∷ [])) → r ≡ numbered (accepted (some (pos n) ∷ []))
+count-given n r f h = h ∙ ap (λ (x : ℤ). numbered (accepted (some x ∷ []))) (toZ-pos w64 n (omega arith))
 
--- a flag's value
 pub flag-given : (n : ℕ) (r : Answer) → n < 256 → r ≡ numbered (accepted (some (toZ w64 n) ∷ [])) → r ≡ numbered (accepted (some (pos n) ∷ []))
-flag-given n r f h = h ∙ ap (λ (x : ℤ). numbered (accepted (some x ∷ []))) (toZ-pos w64 n (omega arith))
+flag-given n r f h = count-given n r (omega arith) h
 
 -- each of the eleven calls
 pub call-numbered : (a : machine.Answer) (b o : List ℕ) (w : After) (r : Answer) → after a b o ≡ w → r ≡ numbered a → left r b o ≡ numberedAfter w

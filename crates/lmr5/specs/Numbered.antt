@@ -1,9 +1,10 @@
 -- The answers of the definitions as the numbers that a program in another language gets.
-use Prim.Native.Nat.{ℕ}
+use Prim.{Unit}
+use Prim.Native.Nat.{ℕ, _<_, _^_}
 use mathlib.Core.List.{List, [], _∷_, map}
 use mathlib.Core.Option.{Option, none, some}
-use lib.IntN.{ℤ, pos}
-use Rattle.words.specs.Words.{signed, unsigned}
+use lib.IntN.{ℤ, pos, negsuc}
+use Rattle.words.specs.Words.{unsigned}
 use Rattle.format.specs.Sheet.{size}
 use Rattle.format.specs.Report.{Verdict}
 use Rattle.format.specs.Machine as machine
@@ -15,13 +16,20 @@ use Rattle.lmr5.specs.declared.Answer.{Answer}
 abbrev pub numbers : ℕ → ℕ → ℕ → ℤ → Answer
 numbers refusal given place value = record { refusal = refusal; given = given; place = place; value = value }
 
--- the refusal's number and place, 0 where it is accepted; then 0, or 1 and the number that is given, in 64 bits, or 2 where it
--- is missing
+-- the refusal's number and place, 0 where it is accepted; then 0, or 1 and the number that is given, or 2 where it is missing
 abbrev pub numbered : machine.Answer → Answer
 numbered (refused r) = numbers (r .number) 0 (r .place) (pos 0)
 numbered (accepted []) = numbers 0 0 0 (pos 0)
-numbered (accepted (some z ∷ more)) = numbers 0 1 0 (signed (unsigned z))
+numbered (accepted (some z ∷ more)) = numbers 0 1 0 z
 numbered (accepted (none ∷ more)) = numbers 0 2 0 (pos 0)
+
+-- a number that is given, unless negative, is below 2^63
+abbrev pub Counts : machine.Answer → Type 0
+Counts (refused r) = Unit {0}
+Counts (accepted []) = Unit {0}
+Counts (accepted (some (pos n) ∷ more)) = n < 2 ^ 63
+Counts (accepted (some (negsuc n) ∷ more)) = Unit {0}
+Counts (accepted (none ∷ more)) = Unit {0}
 
 -- ---- the eleven calls: the answer, the buffer and the output after one
 

@@ -1,4 +1,5 @@
 // The calls for programs in C and other languages, over pointers and lengths. Each is one call of the crates below.
+ghost use Prim.Native.Nat.{_<_, _^_};
 ghost use mathlib.Core.Path.{_≡_};
 ghost use mathlib.Core.List.{[], _∷_, map};
 ghost use mathlib.Core.Option.{none, some};
@@ -12,7 +13,7 @@ ghost use Rattle.format.specs.Whole as spec;
 ghost use Rattle.format.specs.Reply.{refusal, answerOf};
 ghost use Rattle.whole.specs.Answers.{contentsNumbers};
 ghost use Rattle.script.specs.Script.{Performs};
-ghost use Rattle.lmr5.specs.Numbered.{numbered, left, numberedAfter, judging, numberedWrote, word, opening, numberedUnpacked};
+ghost use Rattle.lmr5.specs.Numbered.{numbered, Counts, left, numberedAfter, judging, numberedWrote, word, opening, numberedUnpacked};
 use format::Reply;
 use format::Scaled;
 use report::Judged;
@@ -84,12 +85,14 @@ fn given(v: i64) -> Answer
 }
 
 fn counted(n: usize) -> Answer
+    requires { ⌜ n < 2 ^ 63 ⌝ }
     ensures { λ r. ⌜ r ≡ numbered (machine.accepted (some (pos n) ∷ [])) ⌝ }
 {
-    given(words::signed_of(n as u64))
+    given(n as i64)
 }
 
 fn answer_of(r: Reply) -> Answer
+    requires { ⌜ Counts (answerOf r) ⌝ }
     ensures { λ a. ⌜ a ≡ numbered (answerOf r) ⌝ }
 {
     match r {

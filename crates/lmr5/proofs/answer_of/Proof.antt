@@ -1,10 +1,10 @@
 -- `lmr5::answer_of` meets its contract.
 -- Assumes nothing.
 use Rattle.lmr5.proofs.Calls.{held-given, flag-given}
-use mathlib.Core.Path.{sym, ap, _∙_}
+use mathlib.Core.Path.{sym, ap, subst, _∙_}
 use Rattle.format.specs.Reply.{answerOf}
 use Rattle.format.specs.declared.Reply.{Reply}
-use Rattle.lmr5.specs.Numbered.{numbered}
+use Rattle.lmr5.specs.Numbered.{numbered, Counts}
 use borrow.Author.Needs.{needs}
 use Rattle.lmr5.proofs.answer_of.Statement.{statement}
 use Rattle.lmr5.proofs.answer_of.Tie as tie
@@ -46,7 +46,7 @@ enum-known-r-4 : tie.Need-enum-known-r-4
 enum-known-r-4 c = search needs
 
 counted-requires : tie.Need-counted-requires
-counted-requires c κs = search needs
+counted-requires c κs = subst (λ (r : Reply). Counts (answerOf r)) (c .before .r4 .given .1) (c .before .before .before .pre)
 
 returns : tie.Need-returns
 returns c = c .refused .ensures ∙ ap (λ (r : Reply). numbered (answerOf r)) (sym (c .before .before .r .given .1))

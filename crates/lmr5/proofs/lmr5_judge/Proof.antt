@@ -1,5 +1,6 @@
 -- `lmr5::lmr5_judge` meets its contract.
 -- Assumes nothing.
+use native.Mathlib.Omega.{arith}
 use Rattle.lmr5.proofs.Calls.{judge-numbered}
 use borrow.Author.Needs.{needs}
 use Rattle.lmr5.proofs.lmr5_judge.Statement.{statement}
@@ -18,7 +19,7 @@ enum-known-j-2 : tie.Need-enum-known-j-2
 enum-known-j-2 c = search needs
 
 counted-requires : tie.Need-counted-requires
-counted-requires c κs = search needs
+counted-requires c κs = let w = c .before .before .before .judge .ensures .1 .within _ (c .before .j2 .given .1) in omega arith
 
 returns : tie.Need-returns
 returns c = judge-numbered _ _ _ _ (c .before .before .before .before .judge .ensures .0) (c .before .before .j .given .1) (c .refused .ensures)
