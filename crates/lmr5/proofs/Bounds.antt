@@ -15,7 +15,7 @@ use borrow.Author.Tests.{leb-true}
 use Rattle.format.specs.Order.{Refusal, first}
 use Rattle.format.specs.Field.{Field, table, inRange}
 use Rattle.format.specs.Flags.{flagAt}
-use Rattle.format.specs.Nibbles.{Attachment}
+use Rattle.format.specs.Nibbles.{Attachment, Nibbles}
 use Rattle.format.specs.Sheet.{Sheet}
 use Rattle.format.specs.Report.{Verdict, judge}
 use Rattle.format.specs.Machine as machine
@@ -26,8 +26,7 @@ use Rattle.format.specs.declared.Scaled.{Scaled}
 use Rattle.whole.specs.Answers.{packAnswer}
 use Rattle.whole.specs.declared.Packed.{Packed}
 use Rattle.laws.proofs.Lists.{and-true, true-false, cond-case}
-use Rattle.laws.proofs.Bits.{Bytes}
-use Rattle.laws.proofs.Nibbles.{Nibbles}
+use Rattle.format.specs.Bits.{Bytes}
 use Rattle.laws.proofs.Fields.{Fair, FairAll, nil, cons, fair-range}
 use Rattle.laws.proofs.Attachments.{Fine, empty, one}
 use Rattle.laws.proofs.ShipText.{read-text-length}

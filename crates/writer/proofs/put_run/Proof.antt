@@ -1,6 +1,5 @@
 -- `writer::put_run` meets its contract.
 -- Assumes nothing.
-use native.Mathlib.Omega.{arith}
 use mathlib.Core.Path.{ap}
 use borrow.Author.Needs.{needs}
 use Rattle.format.specs.ShipText.{fulls, rest, spaceRun}
