@@ -9,8 +9,12 @@ use mathlib.Core.Option.{Option, none, some}
 use lib.ListN.{length, getD, drop, length-append, length-drop}
 use lib.Seq.{getD-drop}
 use lib.Dec.{ltb, eqb}
+<<<<<<< HEAD
 use borrow.Author.Tests.{lt-ltb, le-ltb, eq-eqb, ne-eqb}
 use Rattle.format.specs.Bits.{Bytes}
+=======
+use borrow.Author.Tests.{lt-ltb, le-ltb, ltb-false, eq-eqb, ne-eqb}
+>>>>>>> r1/r1
 use Rattle.format.specs.Order.{Refusal, check, first}
 use Rattle.format.specs.Field.{Field, table, required}
 use Rattle.format.specs.Nibbles.{nibbles, odd, tailNibbles, attachmentsOf}
@@ -23,13 +27,15 @@ use Rattle.tail.specs.Walk.{placeOf, tailAt, walkedBy, walked}
 use Rattle.tail.specs.declared.Tail.{Tail}
 use Rattle.tail.specs.declared.Walked.{Walked}
 use Rattle.tail.proofs.Turns.{walked-refused, walked-ended}
+use Rattle.nibble.specs.View.{stepAt}
 use Rattle.nibble.specs.declared.Cursor.{Cursor}
+use Rattle.nibble.specs.declared.Step.{Step}
 use Rattle.laws.proofs.Order.{first-skip, first-fits, first-append-skip, first-append-some}
 use Rattle.laws.proofs.Bits.{drop-below}
 use Rattle.laws.proofs.Fields.{table-length}
 use Rattle.laws.proofs.Nibbles.{length-nibbles, nibbles-lt, getD-low}
 use Rattle.card.proofs.Numbers.{count-at}
-use Rattle.laws.proofs.Attachments.{checks-fine}
+use Rattle.laws.proofs.Attachments.{checks-fine, fine-size}
 use Rattle.laws.proofs.Report.{size-is}
 use Rattle.report.specs.Answers.{judgedOf, reportOf, inspectedBy, inspected, lastOf, FrontPasses, Front}
 use Rattle.report.specs.declared.Judged.{Judged}
@@ -77,12 +83,31 @@ module _ (b : List ℕ) (i n : ℕ) (w : Walked) (count : n ≡ countOf b) (is :
       → (first (attachmentChecks (countOf b) 1 [] (tailOf b)) ≡ none) × (t ≡ tailAt 75 i (attachmentsOf (countOf b) (tailOf b)))
   tail-ended t e = walked-ended _ _ t (sym whole ∙ e)
 
--- the attachments end within the buffer
-pub end-within : (b : List ℕ) → Bytes b → 38 ≤ length b → first (attachmentChecks (countOf b) 1 [] (tailOf b)) ≡ none → 75 + tailLength b ≤ 2 * length b
+-- the attachments end within the buffer, and within the largest report
+pub end-within : (b : List ℕ) → Bytes b → 38 ≤ length b → first (attachmentChecks (countOf b) 1 [] (tailOf b)) ≡ none
+    → (75 + tailLength b ≤ 2 * length b) × (75 + tailLength b ≤ 3706)
 end-within b bs long e =
     let w = checks-fine (countOf b) 1 [] (tailOf b) (drop-below 16 75 (nibbles b) (nibbles-lt b bs)) e in
-    let tail = tailNibbles (attachmentsOf (countOf b) (tailOf b)) in
-    omega (arith, ap length (w .starts), length-append tail (drop (length tail) (tailOf b)), length-drop 75 (nibbles b), length-nibbles b)
+    let tail = tailNibbles (attachmentsOf (countOf b) (tailOf b)) in (
+      omega (arith, ap length (w .starts), length-append tail (drop (length tail) (tailOf b)), length-drop 75 (nibbles b), length-nibbles b),
+      omega (arith, fine-size (w .fine)),
+    )
+
+-- what reading the last nibble answers
+step-value : (t : Bool) (v w : ℕ) (j k : Cursor) → cond t (Step.Nibble v j) Step.End ≡ Step.Nibble w k → w ≡ v
+step-value true v w j k e = cc
+step-value false v w j k e = let z : _≡_ {A = ℕ} 0 1 = cc in absurd (omega arith)
+
+step-end : (t : Bool) (v : ℕ) (j : Cursor) → cond t (Step.Nibble v j) Step.End ≡ Step.End → t ≡ false
+step-end true v j e = let z : _≡_ {A = ℕ} 0 1 = cc in absurd (omega arith)
+step-end false v j e = refl
+
+module _ (b : List ℕ) (end : ℕ) (x : Step) (is : x ≡ stepAt b (record { at = end; packed = true })) where
+  pub last-read : (v : ℕ) (k : Cursor) → x ≡ Step.Nibble v k → v ≡ getD (nibbles b) end 0
+  last-read v k e = step-value (ltb end (length (nibbles b))) _ v _ k (sym is ∙ e)
+
+  pub last-missing : x ≡ Step.End → length (nibbles b) ≤ end
+  last-missing e = ltb-false end (length (nibbles b)) (step-end (ltb end (length (nibbles b))) _ _ (sym is ∙ e))
 
 -- ---- the front: the length, the fields, the checksum
 

@@ -1,12 +1,13 @@
 // A report judged: its length, fields, checksum, attachments and odd last nibble, in one walk.
 ghost use mathlib.Core.Path.{_≡_};
 ghost use mathlib.Core.Bool.{true};
-ghost use Prim.Native.Nat.{_*_, _≤_};
+ghost use Prim.Native.Nat.{_*_, _≤_, _^_};
 ghost use lib.ListN.{length};
 ghost use Rattle.format.specs.Report.{judge};
 ghost use Rattle.report.specs.Answers.{judgedOf, Sizes, Front, FrontPasses, inspected, lastOf, Takes, comparison, FrontCompared};
 use checks::CardCheck;
 use nibble::Cursor;
+use nibble::Step;
 use tail::Tail;
 use tail::Walked;
 
@@ -52,13 +53,23 @@ fn front(s: &[u8]) -> usize
 
 // The odd last nibble is 0.
 fn last(s: &[u8], count: usize, t: Tail) -> Inspected
-    requires { ⌜ t .end ≤ 2 * length (now s) ⌝ }
+    requires { ⌜ (t .end ≤ 2 * length (now s)) × (t .end ≤ 2 ^ 32) ⌝ }
     ensures { λ r. ⌜ r ≡ lastOf (now (s .entry)) count t ⌝ }
 {
     let end = t.end;
     if end % 2 == 1 {
-        if nibble::nibble_at(s, end, true) != 0 {
-            return Inspected::Refused(7, 0);
+        let c = Cursor {
+            at: end,
+            packed: true,
+        };
+        let n = c.nibble(s);
+        match n {
+            Step::Nibble(v, _) => {
+                if v != 0 {
+                    return Inspected::Refused(7, 0);
+                }
+            }
+            Step::End => {}
         }
     }
     Inspected::Fine(Report {

@@ -110,10 +110,6 @@ module _ (b : List ℕ) (c : Cursor) (mask : ℕ) (seen : List ℕ) (want place 
 
 -- ---- the walk
 
--- where a walk from a cursor on stands
-abbrev pub here : Cursor → State → Cursor
-here c st = record { at = st .at; packed = c .packed }
-
 -- i attachments of count are walked over: the ids seen, bounds, and what the others give
 pub record Walking (b : List ℕ) (c : Cursor) (count want : ℕ) (st : State) (i : ℕ) : Type 0 where
   pub seen : List ℕ
@@ -121,12 +117,13 @@ pub record Walking (b : List ℕ) (c : Cursor) (count want : ℕ) (st : State) (
   pub kept : among want seen ≡ false → (st .place ≡ 0) × (st .al ≡ 0)
   pub few : i ≤ st .mask
   pub low : st .mask < 65536
-  pub near : st .at ≤ 65536 + 258 * i
+  pub near : st .cursor .at ≤ 65536 + 258 * i
+  pub packed : st .cursor .packed ≡ c .packed
   pub passed : i ≤ count
-  pub rest : walkedFrom b (count - i) (i + 1) seen (here c st) want (st .place) (st .al) ≡ walked b c count want
+  pub rest : walkedFrom b (count - i) (i + 1) seen (st .cursor) want (st .place) (st .al) ≡ walked b c count want
 
 pub walk-start : (b : List ℕ) (c : Cursor) (count want : ℕ) → c .at ≤ 65536
-    → Walking b c count want (record { at = c .at; mask = 0; place = 0; al = 0 }) 0
+    → Walking b c count want (record { cursor = c; mask = 0; place = 0; al = 0 }) 0
 unfolding walkedFrom walked among
 walk-start b c count want h =
     let e : count - 0 ≡ count = omega arith in
@@ -137,32 +134,33 @@ walk-start b c count want h =
       few = omega arith;
       low = omega arith;
       near = omega arith;
+      packed = refl;
       passed = omega arith;
       rest = rw e;
     }
 
 module _ (b : List ℕ) (c : Cursor) (count want : ℕ) (st : State) (i : ℕ) (k : Walking b c count want st i) where
-  pub walk-end : count ≤ i → Ended (record { end = st .at; place = st .place; al = st .al }) ≡ walked b c count want
+  pub walk-end : count ≤ i → Ended (record { end = st .cursor .at; place = st .place; al = st .al }) ≡ walked b c count want
   unfolding walkedFrom attachmentsOf attachmentChecks first placeOf contentOf tailNibbles
   walk-end h =
       let z : count - i ≡ 0 = omega arith in
       let place = found-or (among want (k .seen)) (st .place) (λ t. k .kept t .0) in
       let al = found-or (among want (k .seen)) (st .al) (λ t. k .kept t .1) in
-      let ended : walkedFrom b 0 (i + 1) (k .seen) (here c st) want (st .place) (st .al) ≡ Ended (record { end = st .at; place = st .place; al = st .al }) = rw (add-zero (st .at), place, al) in
+      let ended : walkedFrom b 0 (i + 1) (k .seen) (st .cursor) want (st .place) (st .al) ≡ Ended (record { end = st .cursor .at; place = st .place; al = st .al }) = rw (add-zero (st .cursor .at), place, al) in
       sym ended ∙ (rw z at (k .rest))
 
   module _ (h : i < count) where
     left : count - i ≡ suc (count - (i + 1))
     left = omega arith
 
-    pub walk-fault : (n : ℕ) → lookedAt b (here c st) (st .mask) ≡ Fault n → Refused n (i + 1) ≡ walked b c count want
-    walk-fault n e = sym (from-fault b (here c st) (st .mask) (k .seen) want (st .place) (st .al) (count - (i + 1)) (i + 1) (k .marks) n e) ∙ (rw left at (k .rest))
+    pub walk-fault : (n : ℕ) → lookedAt b (st .cursor) (st .mask) ≡ Fault n → Refused n (i + 1) ≡ walked b c count want
+    walk-fault n e = sym (from-fault b (st .cursor) (st .mask) (k .seen) want (st .place) (st .al) (count - (i + 1)) (i + 1) (k .marks) n e) ∙ (rw left at (k .rest))
 
-    pub walk-more : (a d : ℕ) → Nibbles (view (c .packed) b) → lookedAt b (here c st) (st .mask) ≡ Fine a d → Walking b c count want (passedBy st a d want) (i + 1)
+    pub walk-more : (a d : ℕ) → Nibbles (view (c .packed) b) → lookedAt b (st .cursor) (st .mask) ≡ Fine a d → Walking b c count want (passedBy st a d want) (i + 1)
     unfolding among
     walk-more a d nibbles e =
-        let p = passes b (here c st) (st .mask) a d e in
-        let s = passed-small b (here c st) (st .mask) a d nibbles p in
+        let p = passes b (st .cursor) (st .mask) a d e in
+        let s = passed-small b (st .cursor) (st .mask) a d (rw (k .packed) nibbles) p in
         let g = mask-grows (st .mask) d (p .new) in
         let few = k .few in
         let near = k .near in
@@ -173,8 +171,9 @@ module _ (b : List ℕ) (c : Cursor) (count want : ℕ) (st : State) (i : ℕ) (
           few = omega arith;
           low = mask-lt (st .mask) d (k .low) (s .1);
           near = omega arith;
+          packed = k .packed;
           passed = omega arith;
-          rest = rw (add-one (i + 1)) (sym (from-fine b (here c st) (st .mask) (k .seen) want (st .place) (st .al) (count - (i + 1)) (i + 1) (k .marks) a d e) ∙ (rw left at (k .rest)));
+          rest = rw (add-one (i + 1)) (sym (from-fine b (st .cursor) (st .mask) (k .seen) want (st .place) (st .al) (count - (i + 1)) (i + 1) (k .marks) a d e) ∙ (rw left at (k .rest)));
         }
 
 -- ---- what an answer says

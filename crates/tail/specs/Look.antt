@@ -29,8 +29,8 @@ lookedAt b c mask =
 -- behind an attachment of this AL and id
 abbrev pub passedBy : State → ℕ → ℕ → ℕ → State
 passedBy st al id want = record {
-  at = st .at + (3 + al);
+  cursor = moved (st .cursor) (3 + al);
   mask = bitOr (st .mask) (2 ^ id);
-  place = cond (eqb id want) (st .at) (st .place);
+  place = cond (eqb id want) (st .cursor .at) (st .place);
   al = cond (eqb id want) al (st .al);
 }

@@ -32,9 +32,9 @@ enum Looked {
     Fine(usize, usize),
 }
 
-// A walk's place, the ids seen, and the place of the header of an id and its AL.
+// A walk's cursor, the ids seen, and the place of the header of an id and its AL.
 struct State {
-    at: usize,
+    cursor: Cursor,
     mask: u64,
     place: usize,
     al: usize,
@@ -93,21 +93,22 @@ fn look(s: &[u8], c: Cursor, mask: u64) -> Looked
 
 // The state behind an attachment.
 fn passed(st: State, al: usize, id: usize, want: usize) -> State
-    requires { ⌜ (st .at ≤ 2 ^ 30) × (al < 256) × (id < 16) ⌝ }
+    requires { ⌜ (st .cursor .at ≤ 2 ^ 30) × (al < 256) × (id < 16) ⌝ }
     ensures { λ r. ⌜ r ≡ passedBy st al id want ⌝ }
 {
-    let at = st.at + (3 + al);
+    let at = st.cursor.at;
+    let cursor = st.cursor.skip(3 + al);
     let mask = st.mask | (1 << id);
     if id == want {
         return State {
-            at,
+            cursor,
             mask,
-            place: st.at,
+            place: at,
             al,
         };
     }
     State {
-        at,
+        cursor,
         mask,
         place: st.place,
         al: st.al,
@@ -119,16 +120,15 @@ pub fn walk(s: &[u8], c: Cursor, count: usize, want: usize) -> Walked
     requires { ⌜ Nibbles (view (c .packed) (now s)) × (c .at ≤ length (view (c .packed) (now s))) × (c .at ≤ 65536) ⌝ }
     ensures { λ r. ⌜ r ≡ walked (now (s .entry)) c count want ⌝ }
 {
-    let packed = c.packed;
     let mut st = State {
-        at: c.at,
+        cursor: c,
         mask: 0,
         place: 0,
         al: 0,
     };
     let mut i = 0;
     while i < count {
-        let l = look(s, Cursor { at: st.at, packed }, st.mask);
+        let l = look(s, st.cursor, st.mask);
         match l {
             Looked::Fault(n) => {
                 return Walked::Refused(n, i + 1);
@@ -140,7 +140,7 @@ pub fn walk(s: &[u8], c: Cursor, count: usize, want: usize) -> Walked
         i += 1;
     }
     Walked::Ended(Tail {
-        end: st.at,
+        end: st.cursor.at,
         place: st.place,
         al: st.al,
     })

@@ -30,7 +30,8 @@ last-requires : tie.Need-last-requires
 last-requires c κs =
     let t = tail-ended _ _ _ _ (c .before .before .before .before .count .ensures .0) (c .before .before .before .walk .ensures) _ (c .before .w2 .given .1) in
     let within = end-within _ (λ i. c .before .before .before .before .before .shared-slice-known .given i .fits) (c .before .before .before .before .before .before .pre .long) (t .0) in
-    omega (arith, ap (λ (x : Tail). x .end) (t .1))
+    let end = ap (λ (x : Tail). x .end) (t .1) in
+    (omega (arith, end, within .0), omega (arith, end, within .1))
 
 returns : tie.Need-returns
 returns c = attachment-refused _ _ (c .before .before .before .before .before .before .pre) _ _ (tail-refused _ _ _ _ (c .before .before .before .before .count .ensures .0) (c .before .before .before .walk .ensures) _ _ (c .before .w .given .1))

@@ -6,15 +6,15 @@ use native.Mathlib.Omega.{arith}
 use denote.Ref.{now}
 use borrow.Author.Needs.{needs}
 use Rattle.tail.proofs.Checks.{passes, passed-small}
-use Rattle.tail.proofs.Turns.{Walking, here, walk-start, walk-fault, walk-more, walk-end}
+use Rattle.tail.proofs.Turns.{Walking, walk-start, walk-fault, walk-more, walk-end}
 use Rattle.tail.proofs.walk.Statement.{statement}
 use Rattle.tail.proofs.walk.Tie as tie
 
 abbrev Inv-loop : tie.InvT-loop
-Inv-loop s count want packed st₀ i₀ st i = Walking s (record { at = st₀ .at; packed = packed }) count want st i
+Inv-loop s count want st₀ i₀ st i = Walking s (st₀ .cursor) count want st i
 
 abbrev μ-loop : tie.MeasureT-loop
-μ-loop s count want packed st₀ i₀ st i = count - i
+μ-loop s count want st₀ i₀ st i = count - i
 
 loop-holds : tie.Need-loop-holds Inv-loop μ-loop
 loop-holds c =
@@ -24,13 +24,13 @@ loop-holds c =
 look-requires : tie.Need-look-requires Inv-loop μ-loop
 look-requires c κs =
     let l = c .before .loop in
-    (c .before .before .before .pre .0, omega (arith, l .inv .few, l .inv .low, l .inv .near))
+    (rw (l .inv .packed) (c .before .before .before .pre .0), omega (arith, l .inv .few, l .inv .low, l .inv .near))
 
 enum-known-l : tie.Need-enum-known-l Inv-loop μ-loop
 enum-known-l c = search needs
 
-add-t14 : tie.Need-add-t14 Inv-loop μ-loop
-add-t14 c = search needs
+add-t12 : tie.Need-add-t12 Inv-loop μ-loop
+add-t12 c = search needs
 
 returns : tie.Need-returns Inv-loop μ-loop
 returns c =
@@ -45,7 +45,7 @@ passed-requires : tie.Need-passed-requires Inv-loop μ-loop
 passed-requires c κs =
     let a = c .before .before .before .before .before .before .before .args in
     let l = c .before .before .before .before .before .loop in
-    let s = passed-small (now (a .s)) (here (a .c) (l .st)) (l .st .mask) _ _ (c .before .before .before .before .before .before .before .pre .0) (passes _ _ _ _ _ (sym (c .before .before .before .look .ensures) ∙ c .before .l2 .given .1)) in
+    let s = passed-small (now (a .s)) (l .st .cursor) (l .st .mask) _ _ (rw (l .inv .packed) (c .before .before .before .before .before .before .before .pre .0)) (passes _ _ _ _ _ (sym (c .before .before .before .look .ensures) ∙ c .before .l2 .given .1)) in
     (omega (arith, l .inv .few, l .inv .low, l .inv .near), s .0, s .1)
 
 add-i : tie.Need-add-i Inv-loop μ-loop
@@ -75,7 +75,7 @@ walk-spec =
     loop-holds
     look-requires
     enum-known-l
-    add-t14
+    add-t12
     returns
     enum-known-l-2
     passed-requires
