@@ -9,12 +9,8 @@ use mathlib.Core.Option.{Option, none, some}
 use lib.ListN.{length, getD, drop, length-append, length-drop}
 use lib.Seq.{getD-drop}
 use lib.Dec.{ltb, eqb}
-<<<<<<< HEAD
-use borrow.Author.Tests.{lt-ltb, le-ltb, eq-eqb, ne-eqb}
-use Rattle.format.specs.Bits.{Bytes}
-=======
 use borrow.Author.Tests.{lt-ltb, le-ltb, ltb-false, eq-eqb, ne-eqb}
->>>>>>> r1/r1
+use Rattle.format.specs.Bits.{Bytes}
 use Rattle.format.specs.Order.{Refusal, check, first}
 use Rattle.format.specs.Field.{Field, table, required}
 use Rattle.format.specs.Nibbles.{nibbles, odd, tailNibbles, attachmentsOf}
