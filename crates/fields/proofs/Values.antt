@@ -123,10 +123,6 @@ module _ (b : List ℕ) (bs : Bytes b) (j : Accepted b) (k : ℕ) (t : Bool) (is
 -- ---- the number that seals
 
 module _ (b : List ℕ) (n k : ℕ) (h : n ≡ checksum (codesOf b)) where
-  pub sum-fits : n < 255
-  unfolding checksum
-  sum-fits = omega (arith, h)
-
   -- the checksum less the old code and more the new one, by a multiple of 255 above 0
   pub sealed : 1 ≤ k → k ≤ 46 → (o c : Coded) → o .0 ≡ getD (codesOf b) (k - 1) 0 → o .0 < 65536
       → (n + 65535 - o .0 + c .0) % 255 ≡ checksum (set (codesOf b) (k - 1) (c .0))
