@@ -3,7 +3,8 @@
 use std::path::Path;
 
 fn main() {
-    let root = Path::new(env!("CARGO_MANIFEST_DIR")).join("../lib");
+    let here = std::env::var("CARGO_MANIFEST_DIR").expect("cargo names the folder");
+    let root = Path::new(&here).join("../lib");
     let archive = root.join("liblmr5.a");
     if !archive.exists() {
         eprintln!("lib/liblmr5.a is missing: run make lib");

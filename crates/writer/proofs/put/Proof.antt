@@ -1,4 +1,4 @@
--- `text::put` meets its contract.
+-- `writer::put` meets its contract.
 -- Assumes nothing.
 use mathlib.Core.Path.{sym}
 use lib.Seq.{set-out}

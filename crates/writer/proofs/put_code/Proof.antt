@@ -1,4 +1,4 @@
--- `text::put_code` meets its contract.
+-- `writer::put_code` meets its contract.
 -- Assumes nothing.
 use Prim.{tt}
 use native.Mathlib.Omega.{arith}

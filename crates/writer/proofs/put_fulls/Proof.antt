@@ -1,4 +1,4 @@
--- `text::put_fulls` meets its contract.
+-- `writer::put_fulls` meets its contract.
 -- Assumes nothing.
 use Prim.{tt}
 use Prim.Native.Nat.{_-_, _≤_}

@@ -1,4 +1,4 @@
--- `text::put_rest` meets its contract.
+-- `writer::put_rest` meets its contract.
 -- Assumes nothing.
 use Prim.{tt}
 use native.Mathlib.Omega.{arith}

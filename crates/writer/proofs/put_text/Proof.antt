@@ -1,4 +1,4 @@
--- `text::put_text` meets its contract.
+-- `writer::put_text` meets its contract.
 -- Assumes nothing.
 use Prim.Native.Nat.{_-_}
 use native.Mathlib.Omega.{arith}
