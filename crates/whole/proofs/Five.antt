@@ -4,12 +4,13 @@ use Prim.Native.Nat.{ℕ, zero, suc, _+_, _%_, _≤_, _<_, max}
 use native.Mathlib.Numerals.{add-one}
 use native.Mathlib.Omega.{arith}
 use mathlib.Core.Path.{_≡_, refl, sym, ap, _∙_}
-use mathlib.Core.Bool.{not}
+use mathlib.Core.Bool.{Bool, true, false, not}
 use mathlib.Core.List.{List, [], _∷_, _++_}
 use mathlib.Core.Option.{Option, none, some}
 use lib.ListN.{length, getD, drop, set, replicate, length-replicate, length-drop}
 use lib.Seq.{drop-cons, set-at}
-use borrow.Author.Tests.{lt-ltb, le-ltb}
+use lib.Dec.{eqb}
+use borrow.Author.Tests.{lt-ltb, le-ltb, eqb-true, eqb-false}
 use Rattle.format.specs.Order.{Refusal, first}
 use Rattle.format.specs.Bits.{bits, bitsOf, number, total, readFields, Bytes}
 use Rattle.format.specs.Field.{Field, table, fieldAt, codedOf, codeOf, codes, BOX10, YEAR, MONTH, X, Y}
@@ -46,6 +47,14 @@ module _ (f : Field) (v : Scaled) where
       let q = coding-code f v c e in
       let is : c .0 ≡ codedOf f v .0 = ap (λ (x : Coded). x .0) (q .0) in
       record { outside = λ z. absurd (omega (arith, is, coded-range f v i .0)); inside = λ _. (i, is, q .1) }
+
+-- it is tested for a missing one
+module _ (c : ℕ) (m : Bool) (is : m ≡ eqb c 0) where
+  pub missing : m ≡ true → c ≡ 0
+  missing e = eqb-true c 0 (sym is ∙ e)
+
+  pub not-missing : m ≡ false → c ≡ 0 → ⊥
+  not-missing e = eqb-false c 0 (sym is ∙ e)
 
 -- ---- the card cleared
 
