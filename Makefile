@@ -18,8 +18,10 @@ lib:
 	cp target/staticlib/liblmr5.a lib/liblmr5.a
 	gcc -shared -Wl,-soname,liblmr5.so -o lib/liblmr5.so -Wl,--whole-archive lib/liblmr5.a -Wl,--no-whole-archive
 	$(MAKE) --no-print-directory header-test
+	gcc -std=c99 -Wall -Wextra -pedantic -Werror -Iinclude -o lib/refusals header/refusals.c lib/liblmr5.a
+	lib/refusals
 
-# Compares the header with what crates/lmr5 exports and with the field table, and compiles it as C99 and, with g++, as C++.
+# Compares the header with what crates/lmr5 exports and with the definitions, and compiles it as C99 and, with g++, as C++.
 header-test:
 	@for tool in gcc cargo; do command -v $$tool >/dev/null || { echo "make header-test: $$tool is not on the PATH" >&2; exit 1; }; done
 	cd header && cargo test --quiet && cargo run --quiet -- ..

@@ -116,16 +116,101 @@ fn contents(text: &str) -> Vec<String> {
         .collect()
 }
 
-pub fn declared(source: &str, table: &str) -> Declared {
-    let text = plain(source);
+/// `setField` as `SET_FIELD`, and `remove` as the header's `DROP`.
+fn call_name(name: &str) -> String {
+    if name == "remove" {
+        return "DROP".to_string();
+    }
+    let mut said = String::new();
+    for c in name.chars() {
+        if c.is_uppercase() {
+            said.push('_');
+        }
+        said.push(c.to_ascii_uppercase());
+    }
+    said
+}
+
+/// The kinds of a script's entries: `entryOf (setField k v) = 2 ∷ ..`.
+fn kinds(script: &str) -> Vec<String> {
+    let lines = script
+        .lines()
+        .filter_map(|line| line.strip_prefix("entryOf ("));
+    lines
+        .map(|line| {
+            let (call, bytes) = line.split_once(") = ").expect("an entry's bytes");
+            let name = call.split(' ').next().expect("a call");
+            let kind = bytes.split(' ').next().expect("a kind");
+            format!("LMR5_SCRIPT_{} = {kind}", call_name(name))
+        })
+        .collect()
+}
+
+/// The shapes of an answer.
+const SHAPES: [(&str, &str); 4] = [
+    ("refused r", "REFUSED"),
+    ("accepted []", "NOTHING"),
+    ("accepted (some z ∷ more)", "VALUE"),
+    ("accepted (none ∷ more)", "MISSING"),
+];
+
+/// The word at a place of what a definition gives for each shape: `headOf (refused r) = 0 ∷ ..`.
+fn by_shape(
+    text: &str,
+    definition: &str,
+    at: usize,
+    shapes: &[(&str, &str)],
+    prefix: &str,
+) -> Vec<String> {
+    let word = |shape: &str| {
+        let start = format!("{definition} ({shape}) = ");
+        let line = text.lines().find_map(|line| line.strip_prefix(&start));
+        let word = line.and_then(|line| line.split(' ').nth(at));
+        word.unwrap_or_else(|| panic!("{start}is not found"))
+    };
+    shapes
+        .iter()
+        .map(|(shape, name)| format!("{prefix}_{name} = {}", word(shape)))
+        .collect()
+}
+
+/// The bound of a report's size: `(n ≤ 1853)`.
+fn longest(sizes: &str) -> Vec<String> {
+    let (_, rest) = sizes.split_once("(n ≤ ").expect("the bound of a size");
+    let (bound, _) = rest.split_once(')').expect("the bound of a size");
+    vec![format!("LMR5_LONGEST_REPORT = {bound}")]
+}
+
+/// The texts that the header has to agree with.
+pub struct Sources<'a> {
+    pub exports: &'a str,
+    pub table: &'a str,
+    pub script: &'a str,
+    pub numbered: &'a str,
+    pub sizes: &'a str,
+}
+
+pub fn declared(sources: &Sources) -> Declared {
+    let text = plain(sources.exports);
     let mut declared = Declared::default();
     functions(&text, &mut declared);
     structs(&text, &mut declared);
-    declared
-        .enums
-        .insert("lmr5_field".to_string(), fields(table));
-    declared
-        .enums
-        .insert("lmr5_contents".to_string(), contents(&text));
+    let enums = [
+        ("lmr5_field", fields(sources.table)),
+        ("lmr5_contents", contents(&text)),
+        ("lmr5_script", kinds(sources.script)),
+        (
+            "lmr5_log",
+            by_shape(sources.script, "headOf", 0, &SHAPES, "LMR5_LOG"),
+        ),
+        (
+            "lmr5_given",
+            by_shape(sources.numbered, "numbered", 2, &SHAPES[1..], "LMR5_GIVEN"),
+        ),
+        ("lmr5_longest", longest(sources.sizes)),
+    ];
+    for (name, numbers) in enums {
+        declared.enums.insert(name.to_string(), numbers);
+    }
     declared
 }
