@@ -5,13 +5,13 @@
  * every input; its promise stands in crates/lmr5/src/lib.rt. This header is not frozen: the change requests that are still
  * pending will add to it.
  *
- * WHAT A CALL IS LENT
+ * WHAT A CALL GETS
  * A buffer is a pointer and its length, in elements. The library keeps no pointer, allocates nothing, owns nothing and has
  * no state: when a call returns, every buffer is the caller's alone. A call may be made from any thread. What the caller
  * sees to, since the library cannot:
  *   - A length is the true length of the memory behind its pointer, and at most PTRDIFF_MAX bytes. NULL is allowed where
  *     the length is 0. `contents` points to 6 numbers. Pointers are aligned as their type asks, as C's own are.
- *   - All lent memory is initialised, outputs too: a call may leave part of an output as it was.
+ *   - All memory that a call gets is initialised, outputs too: a call may leave part of an output as it was.
  *   - A buffer that a call may write (not `const`) overlaps no other buffer of that call. Two `const` buffers may overlap.
  *   - While a call runs no other thread writes its buffers, nor reads those that it may write.
  *
@@ -274,10 +274,10 @@ lmr5_answer lmr5_fetch_text(const uint8_t *report, size_t report_length, uint8_t
  *   LMR5_SCRIPT_SET_FLAG     5      flag, value                        17
  *   LMR5_SCRIPT_CLEAR_FLAG   6      flag                               9
  *   LMR5_SCRIPT_PUT          7      id, n, n bytes of content          17 + n
- *   LMR5_SCRIPT_FETCH        8      id, n, n bytes lent as output      17 + n
+ *   LMR5_SCRIPT_FETCH        8      id, n, n bytes of output          17 + n
  *   LMR5_SCRIPT_DROP         9      id                                 9
  *   LMR5_SCRIPT_PUT_TEXT     10     n, n bytes of text                 9 + n
- *   LMR5_SCRIPT_FETCH_TEXT   11     n, n bytes lent as output          9 + n
+ *   LMR5_SCRIPT_FETCH_TEXT   11     n, n bytes of output              9 + n
  *
  * The log holds a record of each call: a byte, the tag; a byte, the refusal's number or 0; and 8 bytes, the refusal's place,
  * the value that was given (in two's complement) or 0, the highest first. A fetch's record has the n bytes of its output

@@ -5,13 +5,13 @@ use std::hint::black_box;
 
 use bench::fast::{calls as fast, script, whole};
 use bench::library;
-use bench::reports::{remarks, sheet};
+use bench::reports::{observation, remarks};
 use reference::attachment::Attachment;
 use reference::call::Call;
 use reference::cases::material::{random_flags, random_value, tail_of, values_and_word};
 use reference::gate::script::script as script_of;
+use reference::observation::Observation;
 use reference::prng::Prng;
-use reference::sheet::Sheet;
 use reference::table::REQUIRED;
 
 use crate::measure::{Line, measure};
@@ -23,7 +23,7 @@ const ROW: usize = 64;
 
 struct Bed {
     size: usize,
-    sheet: Sheet,
+    observation: Observation,
     /// The report, and room behind it.
     report: Vec<u8>,
     prng: Prng,
@@ -31,12 +31,12 @@ struct Bed {
 
 impl Bed {
     fn new(size: usize) -> Bed {
-        let sheet = sheet(size);
-        let mut report = sheet.packing();
+        let observation = observation(size);
+        let mut report = observation.packing();
         report.resize(size + ROOM, 0xA5);
         Bed {
             size,
-            sheet,
+            observation,
             report,
             prng: Prng::new(size as u64 + 1),
         }
@@ -97,7 +97,7 @@ impl Bed {
     }
 
     fn ids(&self) -> Vec<usize> {
-        let ids = self.sheet.attachments.iter();
+        let ids = self.observation.attachments.iter();
         ids.map(|attachment| attachment.id as usize).collect()
     }
 }
@@ -134,7 +134,7 @@ fn fresh(bed: &mut Bed) -> Option<Line> {
 }
 
 fn unpack(bed: &mut Bed) -> Line {
-    let room = tail_of(&bed.sheet).len();
+    let room = tail_of(&bed.observation).len();
     let outputs = || (vec![0i64; 46], vec![0u8; room]);
     let (ours, theirs) = (RefCell::new(outputs()), RefCell::new(outputs()));
     bed.steady(
@@ -156,8 +156,8 @@ fn unpack(bed: &mut Bed) -> Line {
 }
 
 fn pack(bed: &mut Bed) -> Line {
-    let (values, word) = values_and_word(&bed.sheet, 0);
-    let tail = tail_of(&bed.sheet);
+    let (values, word) = values_and_word(&bed.observation, 0);
+    let tail = tail_of(&bed.observation);
     bed.steady(
         "pack",
         &[(); ROW],
@@ -296,7 +296,7 @@ fn alike(prng: &mut Prng, attachment: &Attachment) -> Vec<u8> {
 }
 
 fn put_replace(bed: &mut Bed) -> Option<Line> {
-    let standing = bed.sheet.attachments.clone();
+    let standing = bed.observation.attachments.clone();
     if standing.is_empty() {
         return None;
     }
@@ -316,8 +316,12 @@ fn put_append(bed: &mut Bed) -> Line {
         Some(id) => (bed, id),
         None => {
             shorter = Bed::new(bed.size);
-            let last = shorter.sheet.attachments.pop().expect("fifteen stand");
-            let mut report = shorter.sheet.packing();
+            let last = shorter
+                .observation
+                .attachments
+                .pop()
+                .expect("fifteen stand");
+            let mut report = shorter.observation.packing();
             report.resize(bed.size + ROOM, 0);
             shorter.report = report;
             (&mut shorter, last.id as usize)
@@ -329,7 +333,7 @@ fn put_append(bed: &mut Bed) -> Line {
 
 /// The first long attachment made shorter by an odd number, so that all behind it moves.
 fn put_shorten(bed: &mut Bed) -> Option<Line> {
-    let standing = bed.sheet.attachments.get(1)?.clone();
+    let standing = bed.observation.attachments.get(1)?.clone();
     let length = standing.nibbles.len() - 11;
     let row = bed.row(|prng| (standing.id as usize, prng.nibbles(length)));
     Some(put_line(bed, "put_shorten", &row, true))
@@ -373,8 +377,8 @@ fn drop_line(bed: &mut Bed) -> Line {
 }
 
 fn put_text(bed: &mut Bed) -> Line {
-    let stands = bed.sheet.content(4).is_some();
-    let length = bed.sheet.content(4).map_or(120, <[u8]>::len);
+    let stands = bed.observation.content(4).is_some();
+    let length = bed.observation.content(4).map_or(120, <[u8]>::len);
     let row = bed.row(|prng| {
         let mut text = remarks(length);
         let index = prng.below(text.len());
@@ -425,7 +429,7 @@ fn list(bed: &mut Bed) -> Vec<Call> {
         calls.push(Call::SetFlag { flag, value: 5 });
     }
     calls.push(Call::ClearFlag { flag: 3 });
-    if let Some(attachment) = bed.sheet.attachments.last() {
+    if let Some(attachment) = bed.observation.attachments.last() {
         let id = attachment.id.into();
         let output = vec![0; 255];
         calls.push(Call::Fetch { id, output });
@@ -439,14 +443,14 @@ fn list(bed: &mut Bed) -> Vec<Call> {
         calls.push(Call::Fetch { id, output });
         calls.push(Call::Drop { id });
     }
-    let length = bed.sheet.content(4).map_or(120, <[u8]>::len);
+    let length = bed.observation.content(4).map_or(120, <[u8]>::len);
     calls.push(Call::PutText {
         text: remarks(length),
     });
     calls.push(Call::FetchText {
         output: vec![0; 400],
     });
-    calls.push(if bed.sheet.content(4).is_some() {
+    calls.push(if bed.observation.content(4).is_some() {
         Call::ReadField { field: 46 }
     } else {
         Call::Drop { id: 4 }

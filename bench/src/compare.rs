@@ -6,10 +6,10 @@ use reference::cases::random::random_call;
 use reference::cases::{Case, Outcome, fixed, random};
 use reference::gate::script;
 use reference::judge::judge;
-use reference::machine::step;
 use reference::outside::Unpacked;
 use reference::prng::Prng;
 use reference::refusal::Refusal;
+use reference::step::step;
 
 use crate::fast::{self, calls, whole};
 use crate::library::{self, Answer, Performed};
@@ -273,11 +273,11 @@ fn script_agrees(side: Side, start: &[u8], entries: &[u8], room: usize) -> bool 
 pub fn calls_on(report: &[u8], room: usize, prng: &mut Prng) -> Case {
     let mut buffer = report.to_vec();
     buffer.extend(prng.bytes(room));
-    let mut sheet = judge(report).expect("a sound report").sheet;
+    let mut observation = judge(report).expect("a sound report").observation;
     let mut calls = Vec::new();
     for _ in 0..12 {
-        let call = random_call(prng, &sheet, buffer.len());
-        sheet = step(&sheet, buffer.len(), &call).0;
+        let call = random_call(prng, &observation, buffer.len());
+        observation = step(&observation, buffer.len(), &call).0;
         calls.push(call);
     }
     Case::Calls { buffer, calls }

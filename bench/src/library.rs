@@ -79,7 +79,7 @@ mod symbols {
     }
 }
 
-// SAFETY of every call below: a slice's pointer is lent with its length, and
+// SAFETY of every call below: a slice's pointer is given with its length, and
 // the archive reads and writes within them only.
 
 #[inline(always)]

@@ -6,7 +6,7 @@ mod calls;
 mod measure;
 
 use bench::compare::{SIDES, agrees, cases};
-use bench::reports::{SIZES, sheet};
+use bench::reports::{SIZES, observation};
 use measure::{ALL_ROUNDS, Line, PASSES};
 
 /// Calls whose ratio at 38 bytes has a bar of 1.2.
@@ -23,7 +23,7 @@ fn machine() -> String {
 }
 
 fn check() {
-    let reports = SIZES.map(|size| sheet(size).packing());
+    let reports = SIZES.map(|size| observation(size).packing());
     let cases = cases(11, 4000, &reports);
     for (index, case) in cases.iter().enumerate() {
         for side in SIDES {

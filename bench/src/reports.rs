@@ -1,9 +1,9 @@
 //! The reports that calls are measured on.
 
 use reference::attachment::Attachment;
-use reference::cases::material::{fresh_sheet, random_flags, random_value};
+use reference::cases::material::{fresh_observation, random_flags, random_value};
+use reference::observation::Observation;
 use reference::prng::Prng;
-use reference::sheet::Sheet;
 use reference::table::{FIELDS, fields};
 use reference::text;
 
@@ -46,14 +46,14 @@ fn attachments(lengths: &[(u8, usize)], prng: &mut Prng) -> Vec<Attachment> {
 }
 
 /// A report of one of the four sizes, with every field present.
-pub fn sheet(size: usize) -> Sheet {
+pub fn observation(size: usize) -> Observation {
     let mut prng = Prng::new(size as u64);
-    let mut sheet = fresh_sheet();
-    sheet.rptin = 0x1234;
+    let mut observation = fresh_observation();
+    observation.rptin = 0x1234;
     for field in fields() {
-        sheet.values[field.number - 1] = Some(random_value(&mut prng, field.number));
+        observation.values[field.number - 1] = Some(random_value(&mut prng, field.number));
     }
-    assert_eq!(sheet.values.len(), FIELDS);
+    assert_eq!(observation.values.len(), FIELDS);
     let lengths: Vec<(u8, usize)> = match size {
         38 => vec![],
         200 => vec![(1, 16), (5, 100), (4, 120), (9, 77)],
@@ -73,7 +73,7 @@ pub fn sheet(size: usize) -> Sheet {
             all
         }
     };
-    sheet.attachments = attachments(&lengths, &mut prng);
-    assert_eq!(sheet.size(), size);
-    sheet
+    observation.attachments = attachments(&lengths, &mut prng);
+    assert_eq!(observation.size(), size);
+    observation
 }

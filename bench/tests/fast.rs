@@ -2,11 +2,11 @@
 
 use bench::compare::{Side, agrees, cases};
 use bench::fast::{Given, calls, whole};
-use bench::reports::{SIZES, sheet};
+use bench::reports::{SIZES, observation};
 use reference::cases::Case;
 
 fn reports() -> Vec<Vec<u8>> {
-    SIZES.map(|size| sheet(size).packing()).to_vec()
+    SIZES.map(|size| observation(size).packing()).to_vec()
 }
 
 #[test]

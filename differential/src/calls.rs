@@ -6,24 +6,24 @@ use reference::card::CARD_NIBBLES;
 use reference::cases::calls::WIDE_NUMBERS;
 use reference::cases::material::{random_body, random_text};
 use reference::cases::random::random_call;
-use reference::machine;
+use reference::observation::Observation;
 use reference::prng::Prng;
-use reference::sheet::Sheet;
+use reference::step;
 use reference::table::field;
 use reference::text;
 
 use crate::reports::{changed_body, near_edge};
 
-/// Some calls in turn on a sheet; n is the buffer's length.
-pub fn list(prng: &mut Prng, sheet: &Sheet, n: usize) -> Vec<Call> {
-    let mut sheet = sheet.clone();
+/// Some calls in turn on an observation; n is the buffer's length.
+pub fn list(prng: &mut Prng, observation: &Observation, n: usize) -> Vec<Call> {
+    let mut observation = observation.clone();
     let mut calls = Vec::new();
     for _ in 0..prng.pick(&[1, 2, 3, 5, 8, 13, 21]) {
         let call = match calls.last() {
             Some(last) if prng.one_in(3) => follow(prng, last),
-            _ => call(prng, &sheet, n),
+            _ => call(prng, &observation, n),
         };
-        sheet = machine::step(&sheet, n, &call).0;
+        observation = step::step(&observation, n, &call).0;
         calls.push(call);
     }
     calls
@@ -47,17 +47,17 @@ fn follow(prng: &mut Prng, last: &Call) -> Call {
     }
 }
 
-/// A call that fits a sheet or just does not.
-pub fn call(prng: &mut Prng, sheet: &Sheet, n: usize) -> Call {
-    let mut call = random_call(prng, sheet, n);
+/// A call that fits an observation or just does not.
+pub fn call(prng: &mut Prng, observation: &Observation, n: usize) -> Call {
+    let mut call = random_call(prng, observation, n);
     if prng.one_in(4) {
-        vary(prng, &mut call, sheet, n);
+        vary(prng, &mut call, observation, n);
     }
     call
 }
 
 /// Moves one argument to an edge.
-fn vary(prng: &mut Prng, call: &mut Call, sheet: &Sheet, n: usize) {
+fn vary(prng: &mut Prng, call: &mut Call, observation: &Observation, n: usize) {
     match call {
         Call::SetField {
             field: number,
@@ -81,15 +81,17 @@ fn vary(prng: &mut Prng, call: &mut Call, sheet: &Sheet, n: usize) {
             if prng.one_in(4) {
                 *id = edge_number(prng);
             } else {
-                let length = sheet.content(*id).map_or(0, <[u8]>::len);
+                let length = observation.content(*id).map_or(0, <[u8]>::len);
                 *output = edge_output(prng, length);
             }
         }
         Call::FetchText { output } => {
-            let text = sheet.content(u64::from(text::ID)).and_then(text::read);
+            let text = observation
+                .content(u64::from(text::ID))
+                .and_then(text::read);
             *output = edge_output(prng, text.map_or(0, |text| text.len()));
         }
-        Call::PutText { text } => *text = edge_text(prng, sheet, n),
+        Call::PutText { text } => *text = edge_text(prng, observation, n),
     }
 }
 
@@ -146,7 +148,7 @@ fn vary_put(prng: &mut Prng, id: &mut u64, content: &mut Vec<u8>) {
     }
 }
 
-fn edge_text(prng: &mut Prng, sheet: &Sheet, n: usize) -> Vec<u8> {
+fn edge_text(prng: &mut Prng, observation: &Observation, n: usize) -> Vec<u8> {
     let text = match prng.below(5) {
         0 => text_of_length(prng, 252, 258),
         1 => {
@@ -157,15 +159,15 @@ fn edge_text(prng: &mut Prng, sheet: &Sheet, n: usize) -> Vec<u8> {
             let spaces = 18 * prng.pick(&[1, 2, 126, 127, 128]) + prng.below(4);
             [vec![b' '; spaces], vec![b'1']].concat()
         }
-        _ => filling_text(prng, sheet, n),
+        _ => filling_text(prng, observation, n),
     };
     let trailing = prng.pick(&[0, 0, 0, 1, 17, 18, 19, 40]);
     [text, vec![b' '; trailing]].concat()
 }
 
 /// A text whose nibbles just fill the buffer, or are one or two off.
-fn filling_text(prng: &mut Prng, sheet: &Sheet, n: usize) -> Vec<u8> {
-    let others = sheet
+fn filling_text(prng: &mut Prng, observation: &Observation, n: usize) -> Vec<u8> {
+    let others = observation
         .attachments
         .iter()
         .filter(|other| other.id != text::ID);

@@ -5,8 +5,8 @@ use reference::cases::material::{Draft, random_value, values_and_word};
 use reference::cases::outside::edge_values;
 use reference::cases::random::damage_tail;
 use reference::judge::judge;
+use reference::observation::Observation;
 use reference::prng::Prng;
-use reference::sheet::Sheet;
 use reference::table::{REQUIRED, fields};
 
 use crate::trial::Trial;
@@ -30,17 +30,17 @@ fn prng_of(seed: u64, case: u64) -> Prng {
     Prng::new(Prng::new(seed ^ number).next_u64())
 }
 
-/// A buffer, its report refused once in so many times, and the sheet that it was
+/// A buffer, its report refused once in so many times, and the observation that it was
 /// made from or that it holds.
-fn lent_report(prng: &mut Prng, refused: usize) -> (Sheet, Vec<u8>) {
-    let sheet = reports::sheet(prng);
+fn lent_report(prng: &mut Prng, refused: usize) -> (Observation, Vec<u8>) {
+    let observation = reports::observation(prng);
     if prng.one_in(refused) {
-        let buffer = reports::damaged(prng, &sheet);
-        let held = judge(&buffer).map_or(sheet, |report| report.sheet);
+        let buffer = reports::damaged(prng, &observation);
+        let held = judge(&buffer).map_or(observation, |report| report.observation);
         return (held, buffer);
     }
-    let buffer = reports::buffer(prng, &sheet);
-    (sheet, buffer)
+    let buffer = reports::buffer(prng, &observation);
+    (observation, buffer)
 }
 
 /// An output's length: most often enough.
@@ -67,8 +67,8 @@ fn judge_case(prng: &mut Prng) -> Case {
 }
 
 fn unpack_case(prng: &mut Prng) -> Case {
-    let (sheet, report) = lent_report(prng, 2);
-    let length = Draft::of(&sheet).tail.len();
+    let (observation, report) = lent_report(prng, 2);
+    let length = Draft::of(&observation).tail.len();
     let count = value_count(prng);
     let room = room(prng, length);
     Case::Unpack {
@@ -79,10 +79,10 @@ fn unpack_case(prng: &mut Prng) -> Case {
 }
 
 fn pack_case(prng: &mut Prng) -> Case {
-    let sheet = reports::sheet(prng);
+    let observation = reports::observation(prng);
     let missing = prng.pick(&[0, i64::MIN, i64::MAX, 1]);
-    let (mut values, mut word) = values_and_word(&sheet, missing);
-    let mut draft = Draft::of(&sheet);
+    let (mut values, mut word) = values_and_word(&observation, missing);
+    let mut draft = Draft::of(&observation);
     for _ in 0..prng.pick(&[0, 0, 0, 1, 1, 2]) {
         match prng.below(6) {
             0 => word ^= 1 << prng.below(64),
@@ -102,7 +102,7 @@ fn pack_case(prng: &mut Prng) -> Case {
     Case::Pack {
         values,
         word,
-        rptin: sheet.rptin,
+        rptin: observation.rptin,
         tail: draft.tail,
         output: prng.bytes(room),
     }
@@ -139,14 +139,14 @@ fn fresh_case(prng: &mut Prng) -> Case {
 }
 
 fn call_trial(prng: &mut Prng) -> Trial {
-    let (sheet, buffer) = lent_report(prng, 2);
-    let call = calls::call(prng, &sheet, buffer.len());
+    let (observation, buffer) = lent_report(prng, 2);
+    let call = calls::call(prng, &observation, buffer.len());
     Trial::Call { buffer, call }
 }
 
 fn list_trials(prng: &mut Prng) -> Vec<Trial> {
-    let (sheet, buffer) = lent_report(prng, 8);
-    let calls = calls::list(prng, &sheet, buffer.len());
+    let (observation, buffer) = lent_report(prng, 8);
+    let calls = calls::list(prng, &observation, buffer.len());
     let script = scripts::trial(prng, &buffer, &calls);
     vec![Trial::List { buffer, calls }, script]
 }

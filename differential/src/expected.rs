@@ -17,7 +17,7 @@ pub enum Said {
     Performed(Performed),
 }
 
-/// An answer, and every lent buffer after the call with the marked bytes before it.
+/// An answer, and every buffer after the call with the marked bytes before it.
 #[derive(Clone, Debug, PartialEq, Eq)]
 pub struct Outcome {
     pub said: Said,

@@ -1,4 +1,4 @@
-//! Lent buffers. Each ends at a page that cannot be touched and has marked
+//! Fenced buffers. Each ends at a page that cannot be touched and has marked
 //! bytes before it, which are compared with it.
 
 use std::ffi::{c_char, c_int, c_void};
@@ -33,36 +33,36 @@ unsafe extern "C" {
     fn munmap(at: *mut c_void, length: usize) -> c_int;
 }
 
-/// Memory seen twice: as the harness fills and compares it, and as it is lent.
-pub struct Lent {
+/// Memory seen twice: as the harness fills and compares it, and as the library gets it.
+pub struct Fenced {
     ours: *mut u8,
     theirs: *mut u8,
     capacity: usize,
     length: usize,
 }
 
-impl Lent {
+impl Fenced {
     /// A buffer that the library may write.
-    pub fn writable(capacity: usize) -> Lent {
-        Lent::new(capacity, PROT_READ | PROT_WRITE)
+    pub fn writable(capacity: usize) -> Fenced {
+        Fenced::new(capacity, PROT_READ | PROT_WRITE)
     }
 
     /// An input: a write to it is a fault.
-    pub fn read_only(capacity: usize) -> Lent {
-        Lent::new(capacity, PROT_READ)
+    pub fn read_only(capacity: usize) -> Fenced {
+        Fenced::new(capacity, PROT_READ)
     }
 
-    fn new(capacity: usize, protection: c_int) -> Lent {
+    fn new(capacity: usize, protection: c_int) -> Fenced {
         let capacity = (capacity + MARKED).next_multiple_of(PAGE);
         // SAFETY: the file and both views of it are this function's own.
         unsafe {
-            let file = memfd_create(c"lent".as_ptr(), 0);
-            assert!(file >= 0, "memory for a lent buffer");
+            let file = memfd_create(c"buffer".as_ptr(), 0);
+            assert!(file >= 0, "memory for a buffer");
             assert_eq!(ftruncate(file, capacity as i64), 0);
             let ours = view(file, capacity, PROT_READ | PROT_WRITE);
             let theirs = view(file, capacity, protection);
             close(file);
-            Lent {
+            Fenced {
                 ours,
                 theirs,
                 capacity,
@@ -71,8 +71,8 @@ impl Lent {
         }
     }
 
-    /// Fills the buffer and gives the pointer to lend.
-    pub fn lend(&mut self, bytes: &[u8]) -> *mut u8 {
+    /// Fills the buffer and gives the pointer to hold.
+    pub fn hold(&mut self, bytes: &[u8]) -> *mut u8 {
         assert!(MARKED + bytes.len() <= self.capacity, "a longer buffer");
         self.length = bytes.len();
         let start = self.capacity - bytes.len();
@@ -86,9 +86,9 @@ impl Lent {
         }
     }
 
-    /// As `lend`; an empty buffer's pointer is null.
-    pub fn lend_or_null(&mut self, bytes: &[u8]) -> *mut u8 {
-        let pointer = self.lend(bytes);
+    /// As `hold`; an empty buffer's pointer is null.
+    pub fn hold_or_null(&mut self, bytes: &[u8]) -> *mut u8 {
+        let pointer = self.hold(bytes);
         if bytes.is_empty() {
             null_mut()
         } else {
@@ -107,7 +107,7 @@ impl Lent {
     }
 }
 
-impl Drop for Lent {
+impl Drop for Fenced {
     fn drop(&mut self) {
         for view in [self.ours, self.theirs] {
             // SAFETY: `view` mapped this range, fences included.
@@ -123,7 +123,7 @@ unsafe fn view(file: c_int, length: usize, protection: c_int) -> *mut u8 {
         let around = length + 2 * PAGE;
         let unnamed = MAP_PRIVATE | MAP_ANONYMOUS;
         let fence = mmap(null_mut(), around, PROT_NONE, unnamed, -1, 0);
-        assert_ne!(fence as isize, -1, "room for a lent buffer");
+        assert_ne!(fence as isize, -1, "room for a buffer");
         let at = fence.cast::<u8>().add(PAGE);
         let mapped = mmap(
             at.cast(),
@@ -133,7 +133,7 @@ unsafe fn view(file: c_int, length: usize, protection: c_int) -> *mut u8 {
             file,
             0,
         );
-        assert_eq!(mapped.cast(), at, "a view of a lent buffer");
+        assert_eq!(mapped.cast(), at, "a view of a buffer");
         at
     }
 }

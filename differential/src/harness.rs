@@ -1,29 +1,29 @@
-//! The library's side: every buffer lent between fences, and what comes of a call.
+//! The library's side: every buffer between fences, and what comes of a call.
 
 use reference::call::Call;
 use reference::cases::Case;
 
 use crate::expected::{NUMBERS, Outcome, Said, bytes_of_numbers, bytes_of_values};
-use crate::fence::Lent;
+use crate::fence::Fenced;
 use crate::library::{Answer, Library};
 
 const SHORT: usize = 16_384;
 const LONG: usize = 131_072;
 
-/// A library and one lent buffer for each role.
+/// A library and one buffer for each role.
 pub struct Harness {
     library: Library,
     /// Lends an empty buffer as a null pointer.
     pub null: bool,
-    report: Lent,
-    edited: Lent,
-    content: Lent,
-    output: Lent,
-    packed: Lent,
-    values: Lent,
-    numbers: Lent,
-    script: Lent,
-    log: Lent,
+    report: Fenced,
+    edited: Fenced,
+    content: Fenced,
+    output: Fenced,
+    packed: Fenced,
+    values: Fenced,
+    numbers: Fenced,
+    script: Fenced,
+    log: Fenced,
 }
 
 impl Harness {
@@ -31,15 +31,15 @@ impl Harness {
         Harness {
             library,
             null: false,
-            report: Lent::read_only(SHORT),
-            edited: Lent::writable(SHORT),
-            content: Lent::read_only(SHORT),
-            output: Lent::writable(SHORT),
-            packed: Lent::read_only(SHORT),
-            values: Lent::writable(SHORT),
-            numbers: Lent::writable(SHORT),
-            script: Lent::read_only(LONG),
-            log: Lent::writable(LONG),
+            report: Fenced::read_only(SHORT),
+            edited: Fenced::writable(SHORT),
+            content: Fenced::read_only(SHORT),
+            output: Fenced::writable(SHORT),
+            packed: Fenced::read_only(SHORT),
+            values: Fenced::writable(SHORT),
+            numbers: Fenced::writable(SHORT),
+            script: Fenced::read_only(LONG),
+            log: Fenced::writable(LONG),
         }
     }
 
@@ -47,15 +47,15 @@ impl Harness {
     pub fn whole(&mut self, case: &Case) -> Outcome {
         match case {
             Case::Judge { report } => {
-                let at = lend(&mut self.report, report, self.null);
-                // SAFETY: here and below, pointers and lengths are of lent buffers.
+                let at = hold(&mut self.report, report, self.null);
+                // SAFETY: here and below, pointers and lengths are of these buffers.
                 let answer = unsafe { (self.library.judge)(at, report.len()) };
                 outcome(answer, &[("report", &self.report)])
             }
             Case::Fresh { required, output } => {
                 let [box10, year, month, x, y] = *required;
                 let n = output.len();
-                let at = lend(&mut self.output, output, self.null);
+                let at = hold(&mut self.output, output, self.null);
                 let answer = unsafe { (self.library.fresh)(box10, year, month, x, y, at, n) };
                 outcome(answer, &[("output", &self.output)])
             }
@@ -76,10 +76,10 @@ impl Harness {
     }
 
     fn unpack(&mut self, report: &[u8], values: &[i64], tail: &[u8]) -> Outcome {
-        let report_at = lend(&mut self.report, report, self.null);
-        let values_at = lend(&mut self.values, &bytes_of_values(values), self.null);
-        let tail_at = lend(&mut self.output, tail, self.null);
-        let numbers_at = self.numbers.lend(&bytes_of_numbers(&NUMBERS));
+        let report_at = hold(&mut self.report, report, self.null);
+        let values_at = hold(&mut self.values, &bytes_of_values(values), self.null);
+        let tail_at = hold(&mut self.output, tail, self.null);
+        let numbers_at = self.numbers.hold(&bytes_of_numbers(&NUMBERS));
         let answer = unsafe {
             (self.library.unpack)(
                 report_at,
@@ -108,9 +108,9 @@ impl Harness {
         tail: &[u8],
         output: &[u8],
     ) -> Outcome {
-        let values_at = lend(&mut self.packed, &bytes_of_values(values), self.null);
-        let tail_at = lend(&mut self.content, tail, self.null);
-        let output_at = lend(&mut self.output, output, self.null);
+        let values_at = hold(&mut self.packed, &bytes_of_values(values), self.null);
+        let tail_at = hold(&mut self.content, tail, self.null);
+        let output_at = hold(&mut self.output, output, self.null);
         let answer = unsafe {
             (self.library.pack)(
                 values_at.cast(),
@@ -134,11 +134,11 @@ impl Harness {
     /// One call on a buffer of its own; a call that only reads gets it as an input.
     pub fn call(&mut self, call: &Call, buffer: &[u8]) -> Outcome {
         if reads(call) {
-            let at = lend(&mut self.report, buffer, self.null);
+            let at = hold(&mut self.report, buffer, self.null);
             let answer = self.perform(call, at, buffer.len());
             self.after(call, answer, &self.report)
         } else {
-            let at = lend(&mut self.edited, buffer, self.null);
+            let at = hold(&mut self.edited, buffer, self.null);
             let answer = self.perform(call, at, buffer.len());
             self.after(call, answer, &self.edited)
         }
@@ -146,7 +146,7 @@ impl Harness {
 
     /// Lends the buffer of a list.
     pub fn begin(&mut self, buffer: &[u8]) -> *mut u8 {
-        lend(&mut self.edited, buffer, self.null)
+        hold(&mut self.edited, buffer, self.null)
     }
 
     /// The next call of a list, on the buffer as the call before left it.
@@ -155,7 +155,7 @@ impl Harness {
         self.after(call, answer, &self.edited)
     }
 
-    fn after(&self, call: &Call, answer: Answer, report: &Lent) -> Outcome {
+    fn after(&self, call: &Call, answer: Answer, report: &Fenced) -> Outcome {
         let mut buffers = vec![("report", report)];
         match call {
             Call::Put { .. } => buffers.push(("content", &self.content)),
@@ -181,15 +181,17 @@ impl Harness {
                     (library.set_flag)(at, n, *flag as usize, *value as usize)
                 }
                 Call::ClearFlag { flag } => (library.clear_flag)(at, n, *flag as usize),
-                Call::Put { id, content: lent } => {
-                    (library.put)(at, n, *id as usize, content, lent.len())
+                Call::Put { id, content: given } => {
+                    (library.put)(at, n, *id as usize, content, given.len())
                 }
-                Call::Fetch { id, output: lent } => {
-                    (library.fetch)(at, n, *id as usize, output, lent.len())
+                Call::Fetch { id, output: given } => {
+                    (library.fetch)(at, n, *id as usize, output, given.len())
                 }
                 Call::Drop { id } => (library.drop)(at, n, *id as usize),
                 Call::PutText { text } => (library.put_text)(at, n, content, text.len()),
-                Call::FetchText { output: lent } => (library.fetch_text)(at, n, output, lent.len()),
+                Call::FetchText { output: given } => {
+                    (library.fetch_text)(at, n, output, given.len())
+                }
             }
         }
     }
@@ -202,14 +204,14 @@ impl Harness {
             Call::Fetch { output, .. } | Call::FetchText { output } => (&[], output),
             _ => (&[], &[]),
         };
-        let content = lend(&mut self.content, content, self.null);
-        (content, lend(&mut self.output, output, self.null))
+        let content = hold(&mut self.content, content, self.null);
+        (content, hold(&mut self.output, output, self.null))
     }
 
     pub fn replay(&mut self, buffer: &[u8], script: &[u8], log: &[u8]) -> Outcome {
-        let buffer_at = lend(&mut self.edited, buffer, self.null);
-        let script_at = lend(&mut self.script, script, self.null);
-        let log_at = lend(&mut self.log, log, self.null);
+        let buffer_at = hold(&mut self.edited, buffer, self.null);
+        let script_at = hold(&mut self.script, script, self.null);
+        let log_at = hold(&mut self.log, log, self.null);
         let performed = unsafe {
             (self.library.replay)(
                 buffer_at,
@@ -242,22 +244,22 @@ fn reads(call: &Call) -> bool {
     )
 }
 
-fn lend(lent: &mut Lent, bytes: &[u8], null: bool) -> *mut u8 {
+fn hold(given: &mut Fenced, bytes: &[u8], null: bool) -> *mut u8 {
     if null {
-        lent.lend_or_null(bytes)
+        given.hold_or_null(bytes)
     } else {
-        lent.lend(bytes)
+        given.hold(bytes)
     }
 }
 
-fn outcome(answer: Answer, buffers: &[(&'static str, &Lent)]) -> Outcome {
+fn outcome(answer: Answer, buffers: &[(&'static str, &Fenced)]) -> Outcome {
     Outcome {
         said: Said::Answer(answer),
         buffers: states(buffers),
     }
 }
 
-fn states(buffers: &[(&'static str, &Lent)]) -> Vec<(&'static str, Vec<u8>)> {
-    let state = |(name, lent): &(&'static str, &Lent)| (*name, lent.state());
+fn states(buffers: &[(&'static str, &Fenced)]) -> Vec<(&'static str, Vec<u8>)> {
+    let state = |(name, given): &(&'static str, &Fenced)| (*name, given.state());
     buffers.iter().map(state).collect()
 }

@@ -1,5 +1,5 @@
 //! The unrelated implementation beside a library of the sixteen calls, on
-//! random cases, with every lent buffer between fences.
+//! random cases, with every buffer between fences.
 
 pub mod calls;
 pub mod compare;

@@ -1,49 +1,49 @@
-//! Sheets, reports and buffers drawn at random.
+//! Observations, reports and buffers drawn at random.
 
 use reference::attachment::Attachment;
 use reference::bits::{bits_of, bytes_of, store_number};
 use reference::card::{CARD_BYTES, Card, checksum};
 use reference::cases::material::{
-    Draft, bad_flag_bodies, bad_text_bodies, fresh_sheet, full_sheet, largest_sheet, random_body,
-    random_flags, random_sheet,
+    Draft, bad_flag_bodies, bad_text_bodies, fresh_observation, full_observation,
+    largest_observation, random_body, random_flags, random_observation,
 };
 use reference::cases::random::damage;
 use reference::flags;
-use reference::gate::sizes::{LONGEST_TAIL, sheet_of_tail};
+use reference::gate::sizes::{LONGEST_TAIL, observation_of_tail};
+use reference::observation::Observation;
 use reference::prng::Prng;
-use reference::sheet::Sheet;
 use reference::table::{CK, Coded, FIELDS, Field, Scaled, fields, place_on_card};
 use reference::text;
 
-/// A sheet, of any size from no attachment to fifteen of 255 nibbles.
-pub fn sheet(prng: &mut Prng) -> Sheet {
-    let mut sheet = match prng.below(40) {
-        0 => fresh_sheet(),
-        1 => full_sheet(prng.one_in(2)),
-        2 => largest_sheet(),
+/// An observation, of any size from no attachment to fifteen of 255 nibbles.
+pub fn observation(prng: &mut Prng) -> Observation {
+    let mut observation = match prng.below(40) {
+        0 => fresh_observation(),
+        1 => full_observation(prng.one_in(2)),
+        2 => largest_observation(),
         3 => {
             let length = 4 + prng.below(LONGEST_TAIL - 3);
-            sheet_of_tail(prng, length)
+            observation_of_tail(prng, length)
         }
         4..8 => {
             let length = 4 + prng.below(300);
-            sheet_of_tail(prng, length)
+            observation_of_tail(prng, length)
         }
-        _ => random_sheet(prng),
+        _ => random_observation(prng),
     };
-    sheet.rptin = prng.next_u64() as u16;
+    observation.rptin = prng.next_u64() as u16;
     for field in fields() {
         if prng.one_in(16) {
-            sheet.values[field.number - 1] = near_edge(prng, field).map(Scaled);
+            observation.values[field.number - 1] = near_edge(prng, field).map(Scaled);
         }
     }
     if prng.one_in(2) {
-        add(prng, &mut sheet, flags::ID);
+        add(prng, &mut observation, flags::ID);
     }
     if prng.one_in(3) {
-        add(prng, &mut sheet, text::ID);
+        add(prng, &mut observation, text::ID);
     }
-    sheet
+    observation
 }
 
 /// The value 0, 1 or -1, or a code by a power of two, if the field has it.
@@ -61,18 +61,18 @@ pub fn near_edge(prng: &mut Prng, field: Field) -> Option<i64> {
 }
 
 /// Adds an id at any position if it does not stand.
-fn add(prng: &mut Prng, sheet: &mut Sheet, id: u8) {
-    if sheet.content(u64::from(id)).is_none() {
+fn add(prng: &mut Prng, observation: &mut Observation, id: u8) {
+    if observation.content(u64::from(id)).is_none() {
         let body = random_body(prng, id);
-        let position = prng.below(sheet.attachments.len() + 1);
+        let position = prng.below(observation.attachments.len() + 1);
         let attachment = Attachment::new(id, body);
-        sheet.attachments.insert(position, attachment);
+        observation.attachments.insert(position, attachment);
     }
 }
 
-/// The packing of a sheet in a buffer that just fits or has bytes behind it.
-pub fn buffer(prng: &mut Prng, sheet: &Sheet) -> Vec<u8> {
-    let mut buffer = sheet.packing();
+/// The packing of an observation in a buffer that just fits or has bytes behind it.
+pub fn buffer(prng: &mut Prng, observation: &Observation) -> Vec<u8> {
+    let mut buffer = observation.packing();
     extend(prng, &mut buffer);
     buffer
 }
@@ -87,20 +87,20 @@ fn extend(prng: &mut Prng, buffer: &mut Vec<u8>) {
 }
 
 /// A buffer whose report is most likely refused.
-pub fn damaged(prng: &mut Prng, sheet: &Sheet) -> Vec<u8> {
+pub fn damaged(prng: &mut Prng, observation: &Observation) -> Vec<u8> {
     let mut buffer = match prng.below(13) {
         0 => return garbage(prng),
-        1..5 => drafted(prng, sheet),
-        5..7 => damaged_headers(prng, sheet),
-        7..9 => damaged_bodies(prng, sheet),
+        1..5 => drafted(prng, observation),
+        5..7 => damaged_headers(prng, observation),
+        7..9 => damaged_bodies(prng, observation),
         9 => {
-            let mut draft = Draft::of(sheet);
+            let mut draft = Draft::of(observation);
             draft.last = 1 + prng.below(15) as u8;
             draft.bytes()
         }
-        10 => cut(prng, sheet),
-        11 => wrong_checksum(prng, sheet),
-        _ => flipped(prng, sheet.packing()),
+        10 => cut(prng, observation),
+        11 => wrong_checksum(prng, observation),
+        _ => flipped(prng, observation.packing()),
     };
     if prng.one_in(3) {
         extend(prng, &mut buffer);
@@ -109,8 +109,8 @@ pub fn damaged(prng: &mut Prng, sheet: &Sheet) -> Vec<u8> {
 }
 
 /// Damaged in one or two of the ways that a refusal names, the checksum mended.
-fn drafted(prng: &mut Prng, sheet: &Sheet) -> Vec<u8> {
-    let mut draft = Draft::of(sheet);
+fn drafted(prng: &mut Prng, observation: &Observation) -> Vec<u8> {
+    let mut draft = Draft::of(observation);
     for _ in 0..prng.pick(&[1, 1, 1, 2, 3]) {
         damage(prng, &mut draft);
     }
@@ -118,8 +118,8 @@ fn drafted(prng: &mut Prng, sheet: &Sheet) -> Vec<u8> {
 }
 
 /// CK off by a little, the same in fewer bits or modulo 255, or of another sum.
-fn wrong_checksum(prng: &mut Prng, sheet: &Sheet) -> Vec<u8> {
-    let mut draft = Draft::of(sheet);
+fn wrong_checksum(prng: &mut Prng, observation: &Observation) -> Vec<u8> {
+    let mut draft = Draft::of(observation);
     let ck = draft.card.ck;
     draft.card.ck = match prng.below(5) {
         0 => ck + 255 * (1 + prng.below(63)) as u64,
@@ -132,14 +132,14 @@ fn wrong_checksum(prng: &mut Prng, sheet: &Sheet) -> Vec<u8> {
 }
 
 /// AL, AID or AC damaged.
-fn damaged_headers(prng: &mut Prng, sheet: &Sheet) -> Vec<u8> {
-    let mut draft = Draft::of(sheet);
-    if sheet.attachments.is_empty() || prng.one_in(5) {
+fn damaged_headers(prng: &mut Prng, observation: &Observation) -> Vec<u8> {
+    let mut draft = Draft::of(observation);
+    if observation.attachments.is_empty() || prng.one_in(5) {
         draft.card.ac = prng.below(16);
         return draft.bytes();
     }
-    let header = place_of(sheet, prng.below(sheet.attachments.len()));
-    let id = prng.pick(&sheet.attachments).id;
+    let header = place_of(observation, prng.below(observation.attachments.len()));
+    let id = prng.pick(&observation.attachments).id;
     match prng.below(6) {
         0 => draft.tail[header..header + 2].fill(0),
         1 => draft.tail[header + 2] = 0,
@@ -152,22 +152,25 @@ fn damaged_headers(prng: &mut Prng, sheet: &Sheet) -> Vec<u8> {
 }
 
 /// The place of an attachment in the tail.
-fn place_of(sheet: &Sheet, index: usize) -> usize {
-    sheet.attachments[..index]
+fn place_of(observation: &Observation, index: usize) -> usize {
+    observation.attachments[..index]
         .iter()
         .map(Attachment::size)
         .sum()
 }
 
 /// The body of id 1 or 4 changed in some nibbles or for one that is refused.
-fn damaged_bodies(prng: &mut Prng, sheet: &Sheet) -> Vec<u8> {
-    let mut sheet = sheet.clone();
+fn damaged_bodies(prng: &mut Prng, observation: &Observation) -> Vec<u8> {
+    let mut observation = observation.clone();
     let id = prng.pick(&[flags::ID, text::ID]);
-    add(prng, &mut sheet, id);
-    let found = sheet.attachments.iter_mut().find(|other| other.id == id);
+    add(prng, &mut observation, id);
+    let found = observation
+        .attachments
+        .iter_mut()
+        .find(|other| other.id == id);
     let body = &mut found.expect("the id was added").nibbles;
     *body = changed_body(prng, id, body);
-    Draft::of(&sheet).bytes()
+    Draft::of(&observation).bytes()
 }
 
 /// A body near a valid one.
@@ -212,8 +215,8 @@ fn changed_flags(prng: &mut Prng) -> Vec<u8> {
 }
 
 /// Cut anywhere, more often near the card's or the report's end.
-fn cut(prng: &mut Prng, sheet: &Sheet) -> Vec<u8> {
-    let mut report = sheet.packing();
+fn cut(prng: &mut Prng, observation: &Observation) -> Vec<u8> {
+    let mut report = observation.packing();
     let length = report.len();
     let kept = match prng.below(4) {
         0 => prng.pick(&[0, 1, 36, 37, 38, 39, 40]),

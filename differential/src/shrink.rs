@@ -54,9 +54,9 @@ fn smaller_reports(buffer: &[u8]) -> Vec<Vec<u8>> {
     let mut smaller = Vec::new();
     if let Ok(report) = judge(buffer) {
         for index in 0..report.ac {
-            let mut sheet = report.sheet.clone();
-            sheet.attachments.remove(index);
-            smaller.push([&sheet.packing(), &buffer[report.bytes..]].concat());
+            let mut observation = report.observation.clone();
+            observation.attachments.remove(index);
+            smaller.push([&observation.packing(), &buffer[report.bytes..]].concat());
         }
     }
     smaller.extend(shorter(buffer));

@@ -36,7 +36,7 @@ unsafe fn input<'a, T>(at: *const T, n: usize) -> &'a [T] {
     unsafe { from_raw_parts(at, n) }
 }
 
-unsafe fn lent<'a, T>(at: *mut T, n: usize) -> &'a mut [T] {
+unsafe fn output<'a, T>(at: *mut T, n: usize) -> &'a mut [T] {
     if n == 0 {
         return &mut [];
     }
@@ -78,7 +78,7 @@ pub unsafe extern "C" fn fresh(
     out: *mut u8,
     n: usize,
 ) -> Answer {
-    let written = outside::fresh([box10, year, month, x, y], unsafe { lent(out, n) });
+    let written = outside::fresh([box10, year, month, x, y], unsafe { output(out, n) });
     answer(written.map(|()| Given::Nothing))
 }
 
@@ -91,7 +91,7 @@ pub unsafe extern "C" fn unpack(
     tail_n: usize,
     numbers: *mut u64,
 ) -> Answer {
-    let (values, tail) = unsafe { (lent(values, values_n), lent(tail, tail_n)) };
+    let (values, tail) = unsafe { (output(values, values_n), output(tail, tail_n)) };
     let unpacked = outside::unpack(unsafe { input(report, n) }, values, tail);
     if let Ok(given) = unpacked {
         let counts = [
@@ -101,7 +101,7 @@ pub unsafe extern "C" fn unpack(
             given.bytes,
             given.tail,
         ];
-        let numbers = unsafe { lent(numbers, 6) };
+        let numbers = unsafe { output(numbers, 6) };
         numbers[0] = given.word;
         numbers[1..].copy_from_slice(&counts.map(|count| count as u64));
     }
@@ -119,7 +119,7 @@ pub unsafe extern "C" fn pack(
     n: usize,
 ) -> Answer {
     let (values, tail) = unsafe { (input(values, values_n), input(tail, tail_n)) };
-    let packed = outside::pack(values, word, rptin, tail, unsafe { lent(out, n) });
+    let packed = outside::pack(values, word, rptin, tail, unsafe { output(out, n) });
     answer(packed.map(Given::Count))
 }
 
@@ -129,10 +129,10 @@ unsafe fn perform(report: *const u8, n: usize, call: Call, out: *mut u8) -> Answ
     let before = buffer.clone();
     let done = call.run(&mut buffer);
     if buffer != before {
-        unsafe { lent(report.cast_mut(), n) }.copy_from_slice(&buffer);
+        unsafe { output(report.cast_mut(), n) }.copy_from_slice(&buffer);
     }
-    if let Some(output) = done.output {
-        unsafe { lent(out, output.len()) }.copy_from_slice(&output);
+    if let Some(written) = done.output {
+        unsafe { output(out, written.len()) }.copy_from_slice(&written);
     }
     answer(done.result)
 }
@@ -228,8 +228,13 @@ pub unsafe extern "C" fn replay(
     log: *mut u8,
     log_n: usize,
 ) -> Performed {
-    let (report, script, log) =
-        unsafe { (lent(report, n), input(script, script_n), lent(log, log_n)) };
+    let (report, script, log) = unsafe {
+        (
+            output(report, n),
+            input(script, script_n),
+            output(log, log_n),
+        )
+    };
     let ran = script::run(report, script, log.len());
     log[..ran.log.len()].copy_from_slice(&ran.log);
     Performed {

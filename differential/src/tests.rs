@@ -5,7 +5,7 @@ use std::process::{Command, Output};
 use crate::compare::{Difference, compare};
 use crate::draw::trials;
 use crate::fault;
-use crate::fence::{Lent, state_of};
+use crate::fence::{Fenced, state_of};
 use crate::harness::Harness;
 use crate::library::{Answer, Library, Performed};
 use crate::shrink::shrink;
@@ -162,11 +162,11 @@ fn a_byte_behind_the_log_s_end_is_found() {
 
 #[test]
 fn bytes_before_a_buffer_are_part_of_its_state() {
-    let mut lent = Lent::writable(100);
-    let at = lent.lend(&[1, 2, 3]);
-    assert_eq!(lent.state(), state_of(&[1, 2, 3]));
+    let mut given = Fenced::writable(100);
+    let at = given.hold(&[1, 2, 3]);
+    assert_eq!(given.state(), state_of(&[1, 2, 3]));
     unsafe { *at.sub(64) ^= 1 };
-    assert_ne!(lent.state(), state_of(&[1, 2, 3]));
+    assert_ne!(given.state(), state_of(&[1, 2, 3]));
 }
 
 /// Runs a test that is to die in a process of its own.
@@ -203,8 +203,8 @@ fn fences_stop_a_call() {
 #[ignore = "dies; run by fences_stop_a_call"]
 fn read_past_an_input() {
     watched();
-    let mut lent = Lent::read_only(100);
-    let at = lent.lend(&[1, 2, 3]);
+    let mut given = Fenced::read_only(100);
+    let at = given.hold(&[1, 2, 3]);
     std::hint::black_box(unsafe { at.add(3).read_volatile() });
 }
 
@@ -212,8 +212,8 @@ fn read_past_an_input() {
 #[ignore = "dies; run by fences_stop_a_call"]
 fn write_past_a_buffer() {
     watched();
-    let mut lent = Lent::writable(100);
-    let at = lent.lend(&[1, 2, 3]);
+    let mut given = Fenced::writable(100);
+    let at = given.hold(&[1, 2, 3]);
     unsafe { at.add(3).write_volatile(0) };
 }
 
@@ -221,8 +221,8 @@ fn write_past_a_buffer() {
 #[ignore = "dies; run by fences_stop_a_call"]
 fn write_to_an_input() {
     watched();
-    let mut lent = Lent::read_only(100);
-    let at = lent.lend(&[1, 2, 3]);
+    let mut given = Fenced::read_only(100);
+    let at = given.hold(&[1, 2, 3]);
     unsafe { at.write_volatile(0) };
 }
 
@@ -230,7 +230,7 @@ fn write_to_an_input() {
 #[ignore = "dies; run by fences_stop_a_call"]
 fn read_of_an_empty_buffer() {
     watched();
-    let mut lent = Lent::read_only(100);
-    let at = lent.lend(&[]);
+    let mut given = Fenced::read_only(100);
+    let at = given.hold(&[]);
     std::hint::black_box(unsafe { at.read_volatile() });
 }

@@ -1,4 +1,4 @@
-//! What is run on both sides, with every buffer as it is lent.
+//! What is run on both sides, with every buffer as it is given.
 
 use std::fmt;
 

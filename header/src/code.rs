@@ -28,12 +28,12 @@ fn number(name: &str) -> String {
 fn parameter(text: &str) -> Vec<String> {
     let (name, kind) = text.split_once(':').expect("a name and a type");
     let (name, kind) = (name.trim(), kind.trim());
-    let Some(lent) = kind.strip_prefix('&') else {
+    let Some(reference) = kind.strip_prefix('&') else {
         return vec![format!("{} {name}", number(kind))];
     };
-    let (mark, inner) = match lent.strip_prefix("mut ") {
+    let (mark, inner) = match reference.strip_prefix("mut ") {
         Some(inner) => ("", inner),
-        None => ("const ", lent),
+        None => ("const ", reference),
     };
     let inner = inner.trim_start_matches('[').trim_end_matches(']');
     match inner.split_once(';') {

@@ -102,7 +102,7 @@ mod tests {
 
     const CODE: &str = "#[repr(C)]\npub struct Answer {\n    pub refusal: u32,\n}\n\
         fn store() {\n    contents[0] = c.word;\n}\n\
-        #[no_mangle]\npub extern \"C\" fn lmr5_f(\n    report: &[u8], // lent\n    n: usize,\n    to: &mut [u64; 6],\n) -> Answer\n{}\n";
+        #[no_mangle]\npub extern \"C\" fn lmr5_f(\n    report: &[u8], // read\n    n: usize,\n    to: &mut [u64; 6],\n) -> Answer\n{}\n";
     const TABLE: &str = "    field 648 (pos 0) 10 ∷  -- 1 BOX10\n    []\n";
     const SCRIPT: &str = "entryOf (setField k v) = 2 ∷ (bytes8 k)\nentryOf (remove i) = 9 ∷ bytes8 i\n\
         headOf (refused r) = 0 ∷ r .number\nheadOf (accepted []) = 1 ∷ 0\n\

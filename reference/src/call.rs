@@ -1,4 +1,4 @@
-//! The eleven calls of a list as data, with contents and outputs as lent.
+//! The eleven calls of a list as data, with contents and outputs as given.
 
 use crate::edit;
 use crate::refusal::Refusal;
@@ -35,7 +35,7 @@ pub struct Answer {
 }
 
 impl Call {
-    /// The output as lent, if the call has one.
+    /// The output as given, if the call has one.
     pub fn output(&self) -> Option<Vec<u8>> {
         match self {
             Call::Fetch { output, .. } | Call::FetchText { output } => Some(output.clone()),
@@ -43,11 +43,11 @@ impl Call {
         }
     }
 
-    /// Runs the call on a lent buffer.
+    /// Runs the call on a buffer.
     pub fn run(&self, buffer: &mut [u8]) -> Answer {
         let nothing = |()| Given::Nothing;
         let mut output = self.output();
-        let lent = output.as_deref_mut().unwrap_or_default();
+        let out = output.as_deref_mut().unwrap_or_default();
         let result = match self {
             Call::ReadField { field } => edit::read_field(buffer, *field)
                 .map(|value| Given::Value(value.map(|value| value.0))),
@@ -61,10 +61,10 @@ impl Call {
             Call::SetFlag { flag, value } => edit::set_flag(buffer, *flag, *value).map(nothing),
             Call::ClearFlag { flag } => edit::clear_flag(buffer, *flag).map(nothing),
             Call::Put { id, content } => edit::put(buffer, *id, content).map(nothing),
-            Call::Fetch { id, .. } => edit::fetch(buffer, *id, lent).map(Given::Count),
+            Call::Fetch { id, .. } => edit::fetch(buffer, *id, out).map(Given::Count),
             Call::Drop { id } => edit::drop_attachment(buffer, *id).map(nothing),
             Call::PutText { text } => edit::put_text(buffer, text).map(nothing),
-            Call::FetchText { .. } => edit::fetch_text(buffer, lent).map(Given::Count),
+            Call::FetchText { .. } => edit::fetch_text(buffer, out).map(Given::Count),
         };
         Answer { result, output }
     }

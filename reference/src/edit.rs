@@ -1,4 +1,4 @@
-//! The eleven calls on a lent buffer. Each works on the report's bits and
+//! The eleven calls on a buffer. Each works on the report's bits and
 //! nibbles where they stand; a refused call changes nothing.
 
 use std::ops::Range;
@@ -82,7 +82,7 @@ pub fn fetch(buffer: &[u8], id: u64, output: &mut [u8]) -> Result<usize, Refusal
     let report = judge(buffer)?;
     let id = known_id(id)?;
     let data = standing(&report, u64::from(id))?;
-    lend(&nibbles_of(buffer)[data], output)
+    hold(&nibbles_of(buffer)[data], output)
 }
 
 pub fn drop_attachment(buffer: &mut [u8], id: u64) -> Result<(), Refusal> {
@@ -107,7 +107,7 @@ pub fn fetch_text(buffer: &[u8], output: &mut [u8]) -> Result<usize, Refusal> {
     let report = judge(buffer)?;
     let data = standing(&report, u64::from(text::ID))?;
     let text = text::read(&nibbles_of(buffer)[data]).expect("an accepted body has a text");
-    lend(&text, output)
+    hold(&text, output)
 }
 
 fn known_field(number: u64) -> Result<Field, Refusal> {
@@ -133,7 +133,7 @@ fn known_id(id: u64) -> Result<u8, Refusal> {
 /// The places of an id's data nibbles in the report.
 fn standing(report: &Report, id: u64) -> Result<Range<usize>, Refusal> {
     let mut place = CARD_NIBBLES;
-    for attachment in &report.sheet.attachments {
+    for attachment in &report.observation.attachments {
         let end = place + attachment.size();
         if u64::from(attachment.id) == id {
             return Ok(place + HEADER..end);
@@ -208,7 +208,7 @@ fn replace(
 }
 
 /// Writes what a fetch gives to the head of its output.
-fn lend(given: &[u8], output: &mut [u8]) -> Result<usize, Refusal> {
+fn hold(given: &[u8], output: &mut [u8]) -> Result<usize, Refusal> {
     if output.len() < given.len() {
         return Err(refusal(13, 0));
     }

@@ -3,14 +3,14 @@
 use crate::attachment::next_attachment;
 use crate::bits::{bits_of, nibbles_of};
 use crate::card::{CARD_BYTES, CARD_NIBBLES, Card, checksum};
+use crate::observation::Observation;
 use crate::refusal::{Refusal, refusal};
-use crate::sheet::Sheet;
 use crate::table::{FIELDS, fields};
 
 /// An accepted report.
 #[derive(Clone, Debug, PartialEq, Eq)]
 pub struct Report {
-    pub sheet: Sheet,
+    pub observation: Observation,
     pub ck: u64,
     pub ac: usize,
     /// Nibbles without an odd last one.
@@ -44,7 +44,7 @@ pub fn judge(buffer: &[u8]) -> Result<Report, Refusal> {
         values[field.number - 1] = field.scaled(card.codes[field.number - 1]);
     }
     Ok(Report {
-        sheet: Sheet {
+        observation: Observation {
             rptin: card.rptin,
             values,
             attachments,

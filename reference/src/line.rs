@@ -6,12 +6,12 @@ use crate::judge::Report;
 use crate::outside::Unpacked;
 use crate::refusal::Refusal;
 
-/// The line of a case: kind and what is lent, then ` -> ` and what comes of it.
+/// The line of a case: kind and what the call takes, then ` -> ` and what comes of it.
 pub fn line(case: &Case) -> String {
     format!("{} -> {}", inputs(case), outcome(&case.run()))
 }
 
-/// What is lent.
+/// What the call takes.
 pub fn inputs(case: &Case) -> String {
     match case {
         Case::Judge { report } => format!("judge {}", hex(report)),
@@ -98,20 +98,20 @@ fn accepted<T>(result: &Result<T, Refusal>, show: impl Fn(&T) -> String) -> Stri
 
 fn report(report: &Report) -> String {
     let values: Vec<String> = report
-        .sheet
+        .observation
         .values
         .iter()
         .map(|value| value.map_or("missing".into(), |value| value.0.to_string()))
         .collect();
     let attachments: Vec<String> = report
-        .sheet
+        .observation
         .attachments
         .iter()
         .map(|attachment| format!("{}:{}", attachment.id, hex(&attachment.nibbles)))
         .collect();
     format!(
         "ok {} {} {} {} {} {}",
-        report.sheet.rptin,
+        report.observation.rptin,
         report.ck,
         report.ac,
         report.bytes,

@@ -13,7 +13,7 @@ pub fn lines(input: &[u8]) -> Vec<String> {
         Err(refusal) => return vec![format!("R {} {}", refusal.number, refusal.place)],
     };
     let mut lines = Vec::new();
-    for (index, value) in report.sheet.values.iter().enumerate() {
+    for (index, value) in report.observation.values.iter().enumerate() {
         if let Some(value) = value {
             lines.push(format!("{} {}", index + 1, value.0));
         }

@@ -3,8 +3,8 @@
 use crate::attachment::{Attachment, next_attachment};
 use crate::card::{CARD_BYTES, CARD_NIBBLES};
 use crate::judge::judge;
+use crate::observation::Observation;
 use crate::refusal::{Refusal, refusal};
-use crate::sheet::Sheet;
 use crate::table::{FIELDS, REQUIRED, Scaled, field, fields};
 
 /// Writes a report of BOX10, YEAR, MONTH, X and Y to the first 38 bytes.
@@ -18,8 +18,8 @@ pub fn fresh(required: [i64; 5], output: &mut [u8]) -> Result<(), Refusal> {
     if output.len() < CARD_BYTES {
         return Err(refusal(13, 0));
     }
-    let sheet = Sheet::fresh(required.map(Scaled));
-    output[..CARD_BYTES].copy_from_slice(&sheet.packing());
+    let observation = Observation::fresh(required.map(Scaled));
+    output[..CARD_BYTES].copy_from_slice(&observation.packing());
     Ok(())
 }
 
@@ -38,13 +38,13 @@ pub struct Unpacked {
 /// Writes 46 values, 0 where missing, and the tail, one nibble a byte.
 pub fn unpack(buffer: &[u8], values: &mut [i64], tail: &mut [u8]) -> Result<Unpacked, Refusal> {
     let report = judge(buffer)?;
-    let nibbles = report.sheet.nibbles()[CARD_NIBBLES..].to_vec();
+    let nibbles = report.observation.nibbles()[CARD_NIBBLES..].to_vec();
     if values.len() < FIELDS || tail.len() < nibbles.len() {
         return Err(refusal(13, 0));
     }
     let mut word = 0;
     let mut present = 0;
-    for (index, value) in report.sheet.values.iter().enumerate() {
+    for (index, value) in report.observation.values.iter().enumerate() {
         values[index] = value.map_or(0, |value| value.0);
         if value.is_some() {
             word |= 1 << (index + 1);
@@ -55,7 +55,7 @@ pub fn unpack(buffer: &[u8], values: &mut [i64], tail: &mut [u8]) -> Result<Unpa
     Ok(Unpacked {
         word,
         present,
-        rptin: report.sheet.rptin,
+        rptin: report.observation.rptin,
         ac: report.ac,
         bytes: report.bytes,
         tail: nibbles.len(),
@@ -76,12 +76,12 @@ pub fn pack(
     if (0..64).any(|bit| has_bit(word, bit) && !(1..=FIELDS).contains(&bit)) {
         return Err(refusal(8, 0));
     }
-    let sheet = Sheet {
+    let observation = Observation {
         rptin,
         values: judge_values(values, word)?,
         attachments: judge_tail(tail)?,
     };
-    let report = sheet.packing();
+    let report = observation.packing();
     if output.len() < report.len() {
         return Err(refusal(13, 0));
     }

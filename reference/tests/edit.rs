@@ -41,7 +41,7 @@ fn fields_read_set_and_cleared() {
             assert_eq!(set_field(&mut buffer, number, value), Ok(()));
             assert_eq!(read_field(&buffer, number), Ok(Some(value)));
             let report = judge(&buffer).unwrap();
-            assert_eq!(report.sheet.values[field.number - 1], Some(value));
+            assert_eq!(report.observation.values[field.number - 1], Some(value));
         }
         let before = buffer.clone();
         for value in [
@@ -243,7 +243,12 @@ fn puts_keep_the_order_and_drops_close_it() {
     let mut buffer = fresh_buffer(80);
     let ids = |buffer: &[u8]| -> Vec<u8> {
         let report = judge(buffer).unwrap();
-        report.sheet.attachments.iter().map(|a| a.id).collect()
+        report
+            .observation
+            .attachments
+            .iter()
+            .map(|a| a.id)
+            .collect()
     };
     for id in [9, 2, 7] {
         assert_eq!(put(&mut buffer, id, &[1]), Ok(()));

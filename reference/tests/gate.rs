@@ -259,12 +259,12 @@ fn a_list_and_its_answer_by_hand() {
         room: 300,
     };
     let report = fresh_buffer(38);
-    let lent = [
+    let input = [
         &hex("0026")[..],
         &report,
         &hex("0000000A 010000000000000007 0C 0000012C"),
     ];
-    assert_eq!(list.lent(), lent.concat());
+    assert_eq!(list.input(), input.concat());
     let (after, ran) = list.run();
     let answer = [
         &hex("00000001 00000009 0000000A")[..],
@@ -276,7 +276,7 @@ fn a_list_and_its_answer_by_hand() {
 
 /// A record and its answer.
 fn both(case: &Case) -> (Vec<u8>, Vec<u8>) {
-    (record::lent(case), record::answer(&case.run()))
+    (record::input(case), record::answer(&case.run()))
 }
 
 #[test]
@@ -286,12 +286,12 @@ fn judge_and_lister_records_by_hand() {
     let judge = Case::Judge {
         report: report.clone(),
     };
-    let lent = [&[1][..], &counted].concat();
-    assert_eq!(both(&judge), (lent, hex("02 00 0000000000000026")));
+    let input = [&[1][..], &counted].concat();
+    assert_eq!(both(&judge), (input, hex("02 00 0000000000000026")));
     let lister = Case::Lister { input: report };
-    let lent = [&[2][..], &counted].concat();
+    let input = [&[2][..], &counted].concat();
     let lines = b"1 1\n2 1900\n3 1\n6 0\n7 0\nC 240\nA 0\n".to_vec();
-    assert_eq!(both(&lister), (lent, lines));
+    assert_eq!(both(&lister), (input, lines));
     let empty = Case::Judge { report: Vec::new() };
     let answer = hex("00 01 0000000000000000");
     assert_eq!(both(&empty), (hex("01 0000"), answer));
@@ -307,21 +307,21 @@ fn fresh_records_by_hand() {
         required: [1, 1900, 1, 0, y],
         output: vec![0xA5; room],
     };
-    let lent = [
+    let input = [
         &hex("03")[..],
         &hex(values),
         &hex("0000000000000000 0027"),
         &[0xA5; 39],
     ];
     let answer = [&hex("01 00 0000000000000000")[..], &fresh_buffer(39)];
-    assert_eq!(both(&fresh(0, 39)), (lent.concat(), answer.concat()));
-    let lent = [
+    assert_eq!(both(&fresh(0, 39)), (input.concat(), answer.concat()));
+    let input = [
         &hex("03")[..],
         &hex(values),
         &hex("FFFFFFFFFFFFFC7B 0001 A5"),
     ];
     let answer = hex("00 09 0000000000000007 A5");
-    assert_eq!(both(&fresh(-901, 1)), (lent.concat(), answer));
+    assert_eq!(both(&fresh(-901, 1)), (input.concat(), answer));
 }
 
 /// The fresh report's 46 values, 0 where missing.
@@ -343,7 +343,7 @@ fn unpack_records_by_hand() {
         values: vec![-1; values],
         tail: vec![0xEE; tail],
     };
-    let lent = [
+    let input = [
         &hex("04 0029")[..],
         &report,
         &hex("002F"),
@@ -357,14 +357,14 @@ fn unpack_records_by_hand() {
         &fresh_values(),
         &hex("FFFFFFFFFFFFFFFF 0003040C0101EE"),
     ];
-    assert_eq!(both(&unpack(47, 7)), (lent.concat(), answer.concat()));
-    let lent = [
+    assert_eq!(both(&unpack(47, 7)), (input.concat(), answer.concat()));
+    let input = [
         &hex("04 0029")[..],
         &report,
         &hex("0001 FFFFFFFFFFFFFFFF 0002 EEEE"),
     ];
     let answer = hex("00 0D 0000000000000000 FFFFFFFFFFFFFFFF EEEE");
-    assert_eq!(both(&unpack(1, 2)), (lent.concat(), answer));
+    assert_eq!(both(&unpack(1, 2)), (input.concat(), answer));
 }
 
 #[test]
@@ -381,7 +381,7 @@ fn pack_records_by_hand() {
         tail: vec![0, 3, 4, 12, 1, 1],
         output: vec![0xEE; room],
     };
-    let lent = |word: &str, output: &str| {
+    let input = |word: &str, output: &str| {
         [
             &hex("05 002E")[..],
             &fresh_values(),
@@ -394,24 +394,24 @@ fn pack_records_by_hand() {
     let output = format!("002A {}", "EE".repeat(42));
     let answer = [&hex("02 00 0000000000000029")[..], &report, &[0xEE]].concat();
     let record = both(&pack(0xCE, 42));
-    assert_eq!(record, (lent("00000000000000CE", &output), answer));
+    assert_eq!(record, (input("00000000000000CE", &output), answer));
     let record = both(&pack(0xC6, 1));
     let answer = hex("00 0A 0000000000000003 EE");
-    assert_eq!(record, (lent("00000000000000C6", "0001 EE"), answer));
+    assert_eq!(record, (input("00000000000000C6", "0001 EE"), answer));
 }
 
 #[test]
-fn sheets_have_the_wanted_size_and_sum() {
+fn observations_have_the_wanted_size_and_sum() {
     let mut prng = Prng::new(1);
     let tails = (4..400).chain((400..3600).step_by(7)).chain(3600..=3631);
     for tail in [0].into_iter().chain(tails) {
-        let sheet = sizes::sheet_of_tail(&mut prng, tail);
-        let report = judge(&sheet.packing()).unwrap();
+        let observation = sizes::observation_of_tail(&mut prng, tail);
+        let report = judge(&observation.packing()).unwrap();
         assert_eq!(report.nibbles, 75 + tail);
     }
     assert_eq!(sizes::LONGEST_TAIL, 3631);
     for sum in [5, 6, 255, 510, 19635, 19643] {
-        let codes = sizes::sheet_of_sum(sum).codes();
+        let codes = sizes::observation_of_sum(sum).codes();
         assert_eq!(codes.iter().map(|code| code.0).sum::<u64>(), sum);
     }
 }

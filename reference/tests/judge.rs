@@ -78,10 +78,10 @@ fn accepted_report_as_read() {
     report[..2].copy_from_slice(&[0x12, 0x34]);
     report.extend([0xFF; 3]);
     let judged = judge(&report).unwrap();
-    assert_eq!(judged.sheet.rptin, 0x1234);
+    assert_eq!(judged.observation.rptin, 0x1234);
     assert_eq!((judged.ck, judged.ac, judged.bytes), (240, 2, 42));
     let present: Vec<(usize, Scaled)> = judged
-        .sheet
+        .observation
         .values
         .iter()
         .enumerate()
@@ -90,7 +90,7 @@ fn accepted_report_as_read() {
     let expected = [(1, 1), (2, 1900), (3, 1), (6, 0), (7, 0)].map(|(k, v)| (k, Scaled(v)));
     assert_eq!(present, expected);
     let attachments: Vec<(u8, &[u8])> = judged
-        .sheet
+        .observation
         .attachments
         .iter()
         .map(|attachment| (attachment.id, &attachment.nibbles[..]))
@@ -145,7 +145,7 @@ fn r3_required_field_missing() {
     }
     for field in (1..=46).filter(|field| ![1, 2, 3, 6, 7].contains(field)) {
         let judged = judge(&with_code(field, 0)).unwrap();
-        assert_eq!(judged.sheet.values[field - 1], None);
+        assert_eq!(judged.observation.values[field - 1], None);
     }
 }
 

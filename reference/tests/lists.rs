@@ -1,22 +1,22 @@
-//! Lists of calls on a buffer against the plain machine.
+//! Lists of calls on a buffer beside the same on an observation.
 
 use std::collections::BTreeMap;
 
 use reference::call::Call;
-use reference::cases::material::random_sheet;
+use reference::cases::material::random_observation;
 use reference::cases::random::random_call;
 use reference::cases::{Case, fixed};
 use reference::gate::script::first_call;
 use reference::gate::{SEED, list_cases};
 use reference::judge::judge;
-use reference::machine::step;
+use reference::observation::Observation;
 use reference::prng::Prng;
-use reference::sheet::Sheet;
+use reference::step::step;
 
 /// The buffer that a list leaves: the packing, zeros up to the longest end
 /// reached, and the starting bytes behind that.
-fn expected_buffer(start: &[u8], sheet: &Sheet, longest: usize) -> Vec<u8> {
-    let mut buffer = sheet.packing();
+fn expected_buffer(start: &[u8], observation: &Observation, longest: usize) -> Vec<u8> {
+    let mut buffer = observation.packing();
     buffer.resize(longest, 0);
     buffer.extend(&start[longest..]);
     buffer
@@ -41,41 +41,41 @@ fn name(call: &Call) -> &'static str {
     }
 }
 
-/// Runs one list on the buffer and on the machine.
-fn compare(start: &[u8], sheet: Sheet, calls: &[Call], met: &mut Met) {
+/// Runs one list on the buffer and on the observation.
+fn compare(start: &[u8], observation: Observation, calls: &[Call], met: &mut Met) {
     let n = start.len();
     let mut buffer = start.to_vec();
-    let mut sheet = sheet;
-    let mut longest = sheet.size();
+    let mut observation = observation;
+    let mut longest = observation.size();
     for call in calls {
-        let (after, answer) = step(&sheet, n, call);
+        let (after, answer) = step(&observation, n, call);
         assert_eq!(call.run(&mut buffer), answer, "{call:?}");
         longest = longest.max(after.size());
         assert_eq!(buffer, expected_buffer(start, &after, longest), "{call:?}");
-        assert_eq!(judge(&buffer).unwrap().sheet, after);
+        assert_eq!(judge(&buffer).unwrap().observation, after);
         let number = answer.result.err().map_or(0, |refusal| refusal.number);
         *met.entry((name(call), number)).or_default() += 1;
-        sheet = after;
+        observation = after;
     }
 }
 
 #[test]
-fn random_lists_agree_with_the_machine() {
+fn random_lists_agree() {
     let mut prng = Prng::new(20);
     let mut met = Met::new();
     for _ in 0..600 {
-        let sheet = random_sheet(&mut prng);
-        let mut start = sheet.packing();
+        let observation = random_observation(&mut prng);
+        let mut start = observation.packing();
         let room = prng.pick(&[0, 1, 3, 10, 100, 400, 2000]);
         start.extend(prng.bytes(room));
         let mut calls = Vec::new();
-        let mut current = sheet.clone();
+        let mut current = observation.clone();
         for _ in 0..30 {
             let call = random_call(&mut prng, &current, start.len());
             current = step(&current, start.len(), &call).0;
             calls.push(call);
         }
-        compare(&start, sheet, &calls, &mut met);
+        compare(&start, observation, &calls, &mut met);
     }
     let reached: Vec<(&str, &[u8])> = vec![
         ("read field", &[0, 8]),
@@ -100,13 +100,13 @@ fn random_lists_agree_with_the_machine() {
 }
 
 #[test]
-fn fixed_lists_agree_with_the_machine() {
+fn fixed_lists_agree() {
     let mut met = Met::new();
     for case in fixed() {
         if let Case::Calls { buffer, calls } = case
             && let Ok(report) = judge(&buffer)
         {
-            compare(&buffer, report.sheet, &calls, &mut met);
+            compare(&buffer, report.observation, &calls, &mut met);
         }
     }
     assert!(met.len() >= 34, "{met:?}");
@@ -124,12 +124,12 @@ fn calls_of(script: &[u8]) -> Vec<Call> {
 }
 
 #[test]
-fn gate_lists_agree_with_the_machine() {
+fn gate_lists_agree() {
     let mut met = Met::new();
     for list in list_cases::lists(SEED) {
         if let Ok(report) = judge(&list.buffer) {
             let calls = calls_of(&list.script);
-            compare(&list.buffer, report.sheet, &calls, &mut met);
+            compare(&list.buffer, report.observation, &calls, &mut met);
         }
     }
     assert_eq!(met.len(), 36, "{met:?}");

@@ -1,7 +1,7 @@
-//! Random sheets, there and back.
+//! Random observations, there and back.
 
 use reference::cases::material::{
-    random_body, random_flags, random_sheet, random_text, tail_of, values_and_word,
+    random_body, random_flags, random_observation, random_text, tail_of, values_and_word,
 };
 use reference::edit::{fetch, fetch_text, put, put_text};
 use reference::flags::{is_valid, quality_code};
@@ -11,16 +11,16 @@ use reference::prng::Prng;
 use reference::text::{read, write};
 
 #[test]
-fn sheets_pack_and_are_read_back() {
+fn observations_pack_and_are_read_back() {
     let mut prng = Prng::new(1);
     for _ in 0..400 {
-        let sheet = random_sheet(&mut prng);
-        let report = sheet.packing();
-        assert_eq!(report.len(), sheet.size());
+        let observation = random_observation(&mut prng);
+        let report = observation.packing();
+        assert_eq!(report.len(), observation.size());
         let judged = judge(&report).unwrap();
-        assert_eq!(judged.sheet, sheet);
+        assert_eq!(judged.observation, observation);
         assert_eq!(judged.bytes, report.len());
-        let sum: u64 = sheet.codes().iter().map(|code| code.0).sum();
+        let sum: u64 = observation.codes().iter().map(|code| code.0).sum();
         assert_eq!(judged.ck, sum % 255);
         assert!(judge(&report[..report.len() - 1]).is_err());
     }
@@ -30,16 +30,19 @@ fn sheets_pack_and_are_read_back() {
 fn reports_unpack_and_pack_back() {
     let mut prng = Prng::new(2);
     for _ in 0..400 {
-        let sheet = random_sheet(&mut prng);
-        let report = sheet.packing();
+        let observation = random_observation(&mut prng);
+        let report = observation.packing();
         let mut values = [0x5555; 46];
         let mut tail = vec![0xEE; 4000];
         let given = unpack(&report, &mut values, &mut tail).unwrap();
-        assert_eq!((values.to_vec(), given.word), values_and_word(&sheet, 0));
+        assert_eq!(
+            (values.to_vec(), given.word),
+            values_and_word(&observation, 0)
+        );
         assert_eq!(given.present, given.word.count_ones() as usize);
-        assert_eq!(tail[..given.tail], tail_of(&sheet));
+        assert_eq!(tail[..given.tail], tail_of(&observation));
         assert!(tail[given.tail..].iter().all(|&byte| byte == 0xEE));
-        assert_eq!(given.ac, sheet.attachments.len());
+        assert_eq!(given.ac, observation.attachments.len());
         let mut output = vec![0xEE; given.bytes];
         let packed = pack(
             &values,
@@ -54,18 +57,18 @@ fn reports_unpack_and_pack_back() {
 }
 
 #[test]
-fn an_accepted_report_is_the_packing_of_its_sheet() {
+fn an_accepted_report_is_the_packing_of_its_observation() {
     let mut prng = Prng::new(3);
     let mut accepted = 0;
     for _ in 0..4000 {
-        let mut report = random_sheet(&mut prng).packing();
+        let mut report = random_observation(&mut prng).packing();
         for _ in 0..1 + prng.below(2) {
             let index = prng.below(report.len());
             report[index] ^= 1 << prng.below(8);
         }
         if let Ok(judged) = judge(&report) {
             accepted += 1;
-            assert_eq!(judged.sheet.packing(), report[..judged.bytes]);
+            assert_eq!(judged.observation.packing(), report[..judged.bytes]);
         }
     }
     assert!(accepted > 100 && accepted < 3900, "{accepted}");
@@ -83,7 +86,7 @@ fn texts_go_in_and_come_out_without_trailing_spaces() {
         assert_eq!(nibbles.is_empty(), kept.is_empty());
         assert_eq!(read(&nibbles).as_deref(), Some(kept));
         if (1..=255).contains(&nibbles.len()) {
-            let mut buffer = random_sheet(&mut prng).packing();
+            let mut buffer = random_observation(&mut prng).packing();
             buffer.resize(buffer.len() + 150, 0);
             assert_eq!(put_text(&mut buffer, &text), Ok(()));
             let mut output = vec![0xEE; kept.len() + 2];
@@ -99,7 +102,7 @@ fn contents_go_in_and_come_out() {
     for _ in 0..400 {
         let id = 1 + prng.below(15) as u8;
         let content = random_body(&mut prng, id);
-        let mut buffer = random_sheet(&mut prng).packing();
+        let mut buffer = random_observation(&mut prng).packing();
         buffer.resize(buffer.len() + 150, 0xA5);
         assert_eq!(put(&mut buffer, u64::from(id), &content), Ok(()));
         let mut output = vec![0xEE; 256];

@@ -59,10 +59,10 @@ fn lines_by_hand() {
         required: [1, 1900, 1, 0, 0],
         output: vec![0xA5; 39],
     };
-    let lent = "A5".repeat(39);
+    let input = "A5".repeat(39);
     assert_eq!(
         line(&case),
-        format!("fresh 1 1900 1 0 0 {lent} -> ok {report}A5")
+        format!("fresh 1 1900 1 0 0 {input} -> ok {report}A5")
     );
     let case = Case::Lister {
         input: fresh_buffer(38),

@@ -6,7 +6,7 @@ use super::outside::edge_values;
 use super::reports;
 use crate::call::Call;
 use crate::flags;
-use crate::sheet::Sheet;
+use crate::observation::Observation;
 use crate::table::{Scaled, fields};
 use crate::text;
 
@@ -39,9 +39,9 @@ pub fn cases() -> Vec<Case> {
     cases
 }
 
-/// A list on the packing of a sheet in a buffer of a length.
-fn list(sheet: &Sheet, length: usize, calls: Vec<Call>) -> Case {
-    let mut buffer = sheet.packing();
+/// A list on the packing of an observation in a buffer of a length.
+fn list(observation: &Observation, length: usize, calls: Vec<Call>) -> Case {
+    let mut buffer = observation.packing();
     buffer.resize(length, 0xA5);
     Case::Calls { buffer, calls }
 }
@@ -54,7 +54,7 @@ fn examples() -> Vec<Case> {
     let set = |field, value| Call::SetField { field, value };
     vec![
         list(
-            &fresh_sheet(),
+            &fresh_observation(),
             60,
             vec![
                 set(31, 286),
@@ -75,7 +75,7 @@ fn examples() -> Vec<Case> {
             ],
         ),
         list(
-            &sheet_with(&[(1, &[0; 16])]),
+            &observation_with(&[(1, &[0; 16])]),
             50,
             vec![
                 Call::SetFlag { flag: 1, value: 1 },
@@ -108,7 +108,7 @@ fn field_lists() -> Vec<Case> {
         }
         calls.push(Call::ClearField { field: number });
         calls.push(Call::ReadField { field: number });
-        cases.push(list(&full_sheet(true), 38, calls));
+        cases.push(list(&full_observation(true), 38, calls));
     }
     cases
 }
@@ -118,9 +118,9 @@ fn number_lists() -> Vec<Case> {
     let mut numbers = vec![1, 4, 5, 14, 15, 16, 46, 47, 48];
     numbers.extend(WIDE_NUMBERS);
     let mut cases = Vec::new();
-    for sheet in [
-        fresh_sheet(),
-        sheet_with(&[(4, &[1]), (1, &[0; 16]), (15, &[2, 3])]),
+    for observation in [
+        fresh_observation(),
+        observation_with(&[(4, &[1]), (1, &[0; 16]), (15, &[2, 3])]),
     ] {
         for &number in &numbers {
             let calls = vec![
@@ -146,7 +146,7 @@ fn number_lists() -> Vec<Case> {
                     content: vec![1],
                 },
             ];
-            cases.push(list(&sheet, 60, calls));
+            cases.push(list(&observation, 60, calls));
         }
     }
     cases
@@ -167,7 +167,7 @@ fn flag_lists() -> Vec<Case> {
         calls.push(Call::ReadFlag { flag });
         for body in [vec![0; 16], flags::body_of(&[10; 14])] {
             cases.push(list(
-                &sheet_with(&[(9, &[1]), (1, &body)]),
+                &observation_with(&[(9, &[1]), (1, &body)]),
                 50,
                 calls.clone(),
             ));
@@ -179,7 +179,7 @@ fn flag_lists() -> Vec<Case> {
 /// Ids and content lengths at their edges, and bytes that are no nibbles.
 fn put_lists() -> Vec<Case> {
     let mut cases = Vec::new();
-    let sheet = sheet_with(&[(2, &[1, 2, 3]), (5, &[9; 40])]);
+    let observation = observation_with(&[(2, &[1, 2, 3]), (5, &[9; 40])]);
     for id in [0, 1, 4, 5, 15, 16, 256 + 5, 0x1_0000_0005, u64::MAX] {
         let mut calls = Vec::new();
         for length in [1, 255, 16, 254, 0, 256, 1000] {
@@ -198,7 +198,7 @@ fn put_lists() -> Vec<Case> {
             content.reverse();
             calls.push(Call::Put { id, content });
         }
-        cases.push(list(&sheet, 200, calls));
+        cases.push(list(&observation, 200, calls));
     }
     for (id, bodies) in [
         (1, bad_flag_bodies()),
@@ -217,7 +217,7 @@ fn put_lists() -> Vec<Case> {
                     output: vec![0xEE; content.len()],
                 },
             ];
-            cases.push(list(&sheet, 200, calls));
+            cases.push(list(&observation, 200, calls));
         }
     }
     cases
@@ -232,9 +232,9 @@ fn fitting_buffers() -> Vec<Case> {
             id,
             content: content.clone(),
         };
-        let appended = sheet_with(&[(9, &[1, 1]), (8, &content)]);
-        let replaced = sheet_with(&[(9, &content)]);
-        let start = sheet_with(&[(9, &[1, 1])]);
+        let appended = observation_with(&[(9, &[1, 1]), (8, &content)]);
+        let replaced = observation_with(&[(9, &content)]);
+        let start = observation_with(&[(9, &[1, 1])]);
         for (after, id) in [(&appended, 8), (&replaced, 9)] {
             for n in [after.size() - 1, after.size(), after.size() + 1] {
                 if n >= start.size() {
@@ -243,7 +243,7 @@ fn fitting_buffers() -> Vec<Case> {
             }
         }
     }
-    let largest = largest_sheet();
+    let largest = largest_observation();
     let mut one_less = largest.clone();
     let last = one_less.attachments.pop().expect("fifteen stand");
     let put = Call::Put {
@@ -266,7 +266,7 @@ fn fitting_outputs() -> Vec<Case> {
         (4, text::write(&[b'a'; 85]), 85),
         (4, vec![11, 15, 11, 15, 1], 37),
     ] {
-        let sheet = sheet_with(&[(id, &nibbles)]);
+        let observation = observation_with(&[(id, &nibbles)]);
         let mut calls = Vec::new();
         for length in [0, nibbles.len() - 1, nibbles.len(), nibbles.len() + 3] {
             calls.push(Call::Fetch {
@@ -284,7 +284,7 @@ fn fitting_outputs() -> Vec<Case> {
                 output: vec![0xEE; length],
             });
         }
-        cases.push(list(&sheet, sheet.size(), calls));
+        cases.push(list(&observation, observation.size(), calls));
     }
     cases
 }
@@ -303,7 +303,7 @@ fn text_lists() -> Vec<Case> {
                 output: vec![0xEE; text.len() + 1],
             },
         ];
-        cases.push(list(&sheet_with(&[(6, &[1])]), 180, calls));
+        cases.push(list(&observation_with(&[(6, &[1])]), 180, calls));
     }
     cases
 }
@@ -337,7 +337,7 @@ pub fn texts() -> Vec<Vec<u8>> {
 
 /// Attachments dropped and shortened in each position.
 fn drop_lists() -> Vec<Case> {
-    let start = sheet_with(&[(3, &[1; 5]), (1, &[0; 16]), (12, &[2; 8]), (4, &[1, 10, 2])]);
+    let start = observation_with(&[(3, &[1; 5]), (1, &[0; 16]), (12, &[2; 8]), (4, &[1, 10, 2])]);
     let mut cases = Vec::new();
     for id in [3, 1, 12, 4, 2] {
         let calls = vec![

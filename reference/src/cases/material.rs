@@ -1,11 +1,11 @@
-//! Sheets, reports, contents and texts from which cases are made.
+//! Observations, reports, contents and texts from which cases are made.
 
 use crate::attachment::{Attachment, with_header};
 use crate::bits::bytes_of_nibbles;
 use crate::card::{Card, checksum};
 use crate::flags;
+use crate::observation::Observation;
 use crate::prng::Prng;
-use crate::sheet::Sheet;
 use crate::table::{Coded, FIELDS, Scaled, fields};
 use crate::text;
 
@@ -20,16 +20,16 @@ pub struct Draft {
 }
 
 impl Draft {
-    pub fn of(sheet: &Sheet) -> Draft {
-        let codes = sheet.codes();
+    pub fn of(observation: &Observation) -> Draft {
+        let codes = observation.codes();
         Draft {
             card: Card {
-                rptin: sheet.rptin,
+                rptin: observation.rptin,
                 codes,
                 ck: checksum(&codes),
-                ac: sheet.attachments.len(),
+                ac: observation.attachments.len(),
             },
-            tail: tail_of(sheet),
+            tail: tail_of(observation),
             last: 0,
         }
     }
@@ -56,8 +56,8 @@ impl Draft {
     }
 }
 
-pub fn tail_of(sheet: &Sheet) -> Vec<u8> {
-    sheet
+pub fn tail_of(observation: &Observation) -> Vec<u8> {
+    observation
         .attachments
         .iter()
         .flat_map(Attachment::with_header)
@@ -65,56 +65,56 @@ pub fn tail_of(sheet: &Sheet) -> Vec<u8> {
 }
 
 /// Values 1, 1900, 1, 0, 0.
-pub fn fresh_sheet() -> Sheet {
-    Sheet::fresh([1, 1900, 1, 0, 0].map(Scaled))
+pub fn fresh_observation() -> Observation {
+    Observation::fresh([1, 1900, 1, 0, 0].map(Scaled))
 }
 
-/// A fresh sheet with attachments.
-pub fn sheet_with(attachments: &[(u8, &[u8])]) -> Sheet {
-    let mut sheet = fresh_sheet();
+/// A fresh observation with attachments.
+pub fn observation_with(attachments: &[(u8, &[u8])]) -> Observation {
+    let mut observation = fresh_observation();
     for (id, nibbles) in attachments {
-        sheet
+        observation
             .attachments
             .push(Attachment::new(*id, nibbles.to_vec()));
     }
-    sheet
+    observation
 }
 
-/// A sheet with every field at its lowest or its highest value.
-pub fn full_sheet(highest: bool) -> Sheet {
-    let mut sheet = fresh_sheet();
+/// An observation with every field at its lowest or its highest value.
+pub fn full_observation(highest: bool) -> Observation {
+    let mut observation = fresh_observation();
     for field in fields() {
         let value = if highest {
             field.highest_value()
         } else {
             field.lowest_value()
         };
-        sheet.values[field.number - 1] = Some(value);
+        observation.values[field.number - 1] = Some(value);
     }
-    sheet
+    observation
 }
 
-/// The sheet of 1853 bytes.
-pub fn largest_sheet() -> Sheet {
-    let mut sheet = full_sheet(true);
-    sheet.rptin = 0xFFFF;
+/// The observation of 1853 bytes.
+pub fn largest_observation() -> Observation {
+    let mut observation = full_observation(true);
+    observation.rptin = 0xFFFF;
     for id in 1..=15 {
         let nibbles = match id {
             flags::ID => flags::body_of(&[10; 14]),
             text::ID => text::write(&[b'a'; 85]),
             _ => vec![id; 255],
         };
-        sheet.attachments.push(Attachment::new(id, nibbles));
+        observation.attachments.push(Attachment::new(id, nibbles));
     }
-    sheet
+    observation
 }
 
-/// A sheet whose coded values add up to a multiple of 255, so that CK is 0.
-pub fn sheet_with_ck_0() -> Sheet {
-    let mut sheet = fresh_sheet();
+/// An observation whose coded values add up to a multiple of 255, so that CK is 0.
+pub fn observation_with_ck_0() -> Observation {
+    let mut observation = fresh_observation();
     // The fresh codes add up to 1005; 15 more make 1020, 4 times 255.
-    sheet.values[3] = Some(Scaled(15));
-    sheet
+    observation.values[3] = Some(Scaled(15));
+    observation
 }
 
 /// Bodies that id 1 refuses.
@@ -271,14 +271,14 @@ pub fn random_value(prng: &mut Prng, field: usize) -> Scaled {
     }
 }
 
-/// A sheet with random RPTIN, values and attachments.
-pub fn random_sheet(prng: &mut Prng) -> Sheet {
-    let mut sheet = fresh_sheet();
-    sheet.rptin = prng.pick(&[0, 1, 0x8000, 0xFFFF, 0x1234]);
+/// An observation with random RPTIN, values and attachments.
+pub fn random_observation(prng: &mut Prng) -> Observation {
+    let mut observation = fresh_observation();
+    observation.rptin = prng.pick(&[0, 1, 0x8000, 0xFFFF, 0x1234]);
     let missing = prng.pick(&[1, 2, 4, 100]);
     for field in fields() {
         if field.is_required() || !prng.one_in(missing) {
-            sheet.values[field.number - 1] = Some(random_value(prng, field.number));
+            observation.values[field.number - 1] = Some(random_value(prng, field.number));
         }
     }
     let mut ids: Vec<u8> = (1..=15).collect();
@@ -287,9 +287,9 @@ pub fn random_sheet(prng: &mut Prng) -> Sheet {
     ids.truncate(most);
     for id in ids {
         let body = random_body(prng, id);
-        sheet.attachments.push(Attachment::new(id, body));
+        observation.attachments.push(Attachment::new(id, body));
     }
-    sheet
+    observation
 }
 
 /// A report and some bytes of the buffer after it.
@@ -298,11 +298,11 @@ pub fn with_bytes_after(mut report: Vec<u8>, after: &[u8]) -> Vec<u8> {
     report
 }
 
-/// The values and the presence word of a sheet; missing values as given.
-pub fn values_and_word(sheet: &Sheet, missing: i64) -> (Vec<i64>, u64) {
+/// The values and the presence word of an observation; missing values as given.
+pub fn values_and_word(observation: &Observation, missing: i64) -> (Vec<i64>, u64) {
     let mut values = vec![missing; FIELDS];
     let mut word = 0;
-    for (index, value) in sheet.values.iter().enumerate() {
+    for (index, value) in observation.values.iter().enumerate() {
         if let Some(value) = value {
             values[index] = value.0;
             word |= 1 << (index + 1);

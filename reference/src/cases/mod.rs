@@ -1,4 +1,4 @@
-//! Cases for comparison: what is lent to a call, and what comes of it.
+//! Cases for comparison: what a call takes, and what comes of it.
 
 pub mod calls;
 pub mod material;
@@ -13,7 +13,7 @@ use crate::lister;
 use crate::outside::{Unpacked, fresh, pack, unpack};
 use crate::refusal::Refusal;
 
-/// One case, with every buffer as it is lent.
+/// One case, with every buffer as the call gets it.
 #[derive(Clone, Debug, PartialEq, Eq)]
 pub enum Case {
     Judge {
@@ -45,7 +45,7 @@ pub enum Case {
     },
 }
 
-/// What comes of a case, with every lent output as the call leaves it.
+/// What comes of a case, with every output as the call leaves it.
 #[derive(Clone, Debug, PartialEq, Eq)]
 pub enum Outcome {
     Judge(Box<Result<Report, Refusal>>),

@@ -2,7 +2,7 @@
 
 use super::Case;
 use super::material::*;
-use crate::sheet::Sheet;
+use crate::observation::Observation;
 use crate::table::{REQUIRED, Scaled, fields};
 
 pub fn cases() -> Vec<Case> {
@@ -52,17 +52,17 @@ fn fresh_cases() -> Vec<Case> {
 
 fn unpack_cases() -> Vec<Case> {
     let mut cases = Vec::new();
-    for sheet in [
-        fresh_sheet(),
-        sheet_with(&[(5, &[1, 2, 3]), (6, &[4])]),
-        sheet_with(&[(5, &[1, 2])]),
-        largest_sheet(),
+    for observation in [
+        fresh_observation(),
+        observation_with(&[(5, &[1, 2, 3]), (6, &[4])]),
+        observation_with(&[(5, &[1, 2])]),
+        largest_observation(),
     ] {
-        let tail = tail_of(&sheet).len();
+        let tail = tail_of(&observation).len();
         for values in [0, 45, 46, 47] {
             for tail in [tail.saturating_sub(1), tail, tail + 1] {
                 cases.push(Case::Unpack {
-                    report: sheet.packing(),
+                    report: observation.packing(),
                     values: vec![-9; values],
                     tail: vec![0xEE; tail],
                 });
@@ -72,26 +72,30 @@ fn unpack_cases() -> Vec<Case> {
     cases
 }
 
-/// A sheet as pack takes it, missing values absurd, with an output of a length.
-pub fn pack_case(sheet: &Sheet, length: usize) -> Case {
-    let (values, word) = values_and_word(sheet, i64::MIN);
+/// An observation as pack takes it, missing values absurd, with an output of a length.
+pub fn pack_case(observation: &Observation, length: usize) -> Case {
+    let (values, word) = values_and_word(observation, i64::MIN);
     Case::Pack {
         values,
         word,
-        rptin: sheet.rptin,
-        tail: tail_of(sheet),
+        rptin: observation.rptin,
+        tail: tail_of(observation),
         output: vec![0xEE; length],
     }
 }
 
 fn pack_values() -> Vec<Case> {
     let mut cases = Vec::new();
-    for sheet in [full_sheet(false), full_sheet(true), largest_sheet()] {
-        cases.push(pack_case(&sheet, sheet.size()));
+    for observation in [
+        full_observation(false),
+        full_observation(true),
+        largest_observation(),
+    ] {
+        cases.push(pack_case(&observation, observation.size()));
     }
     for field in fields() {
         for value in edge_values(field.lowest_value(), field.highest_value()) {
-            let (mut values, word) = values_and_word(&full_sheet(false), 0);
+            let (mut values, word) = values_and_word(&full_observation(false), 0);
             values[field.number - 1] = value;
             for word in [word, word & !(1 << field.number)] {
                 cases.push(Case::Pack {
@@ -105,7 +109,7 @@ fn pack_values() -> Vec<Case> {
         }
     }
     for count in [0, 45, 46, 47, 60] {
-        let (mut values, word) = values_and_word(&full_sheet(true), 0);
+        let (mut values, word) = values_and_word(&full_observation(true), 0);
         values.resize(count, i64::MAX);
         cases.push(Case::Pack {
             values,
@@ -119,7 +123,7 @@ fn pack_values() -> Vec<Case> {
 }
 
 fn pack_words() -> Vec<Case> {
-    let (values, sound) = values_and_word(&fresh_sheet(), 0);
+    let (values, sound) = values_and_word(&fresh_observation(), 0);
     let mut words: Vec<u64> = (0..64).map(|bit| sound ^ (1 << bit)).collect();
     words.extend([0, u64::MAX, sound]);
     let case = |word| Case::Pack {
@@ -150,7 +154,7 @@ pub fn tails() -> Vec<Vec<u8>> {
         vec![0, 1, 16, 9],
         vec![15, 15, 5, 1],
     ];
-    let mut sixteen = tail_of(&largest_sheet());
+    let mut sixteen = tail_of(&largest_observation());
     tails.push(sixteen.clone());
     sixteen.extend([0, 1, 15, 0]);
     tails.push(sixteen);
@@ -161,14 +165,18 @@ pub fn tails() -> Vec<Vec<u8>> {
         (5, vec![vec![3; 254], vec![3; 255]]),
     ] {
         for body in bodies {
-            tails.push(tail_of(&sheet_with(&[(2, &[1]), (id, &body), (3, &[2])])));
+            tails.push(tail_of(&observation_with(&[
+                (2, &[1]),
+                (id, &body),
+                (3, &[2]),
+            ])));
         }
     }
     tails
 }
 
 fn pack_tails() -> Vec<Case> {
-    let (values, word) = values_and_word(&fresh_sheet(), 5);
+    let (values, word) = values_and_word(&fresh_observation(), 5);
     let case = |tail| Case::Pack {
         values: values.clone(),
         word,
@@ -181,15 +189,15 @@ fn pack_tails() -> Vec<Case> {
 
 fn pack_outputs() -> Vec<Case> {
     let mut cases = Vec::new();
-    for sheet in [
-        fresh_sheet(),
-        sheet_with(&[(5, &[1, 2, 3])]),
-        sheet_with(&[(5, &[1, 2])]),
-        largest_sheet(),
+    for observation in [
+        fresh_observation(),
+        observation_with(&[(5, &[1, 2, 3])]),
+        observation_with(&[(5, &[1, 2])]),
+        largest_observation(),
     ] {
-        let size = sheet.size();
+        let size = observation.size();
         for length in [0, size - 1, size, size + 1] {
-            cases.push(pack_case(&sheet, length));
+            cases.push(pack_case(&observation, length));
         }
     }
     cases

@@ -180,7 +180,7 @@ fn report_faults() -> Vec<ReportFault> {
 
 /// A fresh report with attachment 2 and some faults, in the order of checking.
 fn report_with(faults: &[ReportFault]) -> Vec<u8> {
-    let mut draft = Draft::of(&sheet_with(&[(2, &[7])]));
+    let mut draft = Draft::of(&observation_with(&[(2, &[7])]));
     let mut length = None;
     for fault in faults {
         match *fault {
@@ -250,7 +250,7 @@ fn report_pairs() -> Vec<Pair> {
     }
     for pair in within_one_attachment() {
         let judge = |tail: &[u8]| {
-            let mut draft = Draft::of(&fresh_sheet());
+            let mut draft = Draft::of(&fresh_observation());
             draft.card.ac = 2;
             draft.tail = tail.to_vec();
             Case::Judge {
@@ -430,7 +430,7 @@ fn caller_pairs() -> Vec<Pair> {
     judged
 }
 
-/// A fault of what pack is lent.
+/// A fault of what pack is given.
 #[derive(Clone, Copy, Debug, PartialEq, Eq)]
 enum PackFault {
     FewValues,
@@ -476,9 +476,9 @@ fn pack_faults() -> Vec<PackFault> {
 
 /// A fresh report's values with attachment 2 and some faults.
 fn pack_with(faults: &[PackFault]) -> Case {
-    let sheet = sheet_with(&[(2, &[7])]);
-    let (mut values, mut word) = values_and_word(&sheet, 0);
-    let mut tail = tail_of(&sheet);
+    let observation = observation_with(&[(2, &[7])]);
+    let (mut values, mut word) = values_and_word(&observation, 0);
+    let mut tail = tail_of(&observation);
     let mut room = 100;
     for fault in faults {
         match *fault {
@@ -491,7 +491,7 @@ fn pack_with(faults: &[PackFault]) -> Case {
             }
             PackFault::Byte => tail[3] = 16,
             PackFault::Tail(fault) => tail.extend(fault.nibbles()),
-            PackFault::Output => room = sheet.size() - 1,
+            PackFault::Output => room = observation.size() - 1,
         }
     }
     Case::Pack {
@@ -529,7 +529,7 @@ fn pack_pairs() -> Vec<Pair> {
         })
         .collect();
     for pair in within_one_attachment() {
-        let (values, word) = values_and_word(&fresh_sheet(), 0);
+        let (values, word) = values_and_word(&fresh_observation(), 0);
         let pack = |tail: &[u8]| Case::Pack {
             values: values.clone(),
             word,

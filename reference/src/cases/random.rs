@@ -5,9 +5,9 @@ use super::material::*;
 use super::outside::edge_values;
 use crate::call::Call;
 use crate::flags;
-use crate::machine;
+use crate::observation::Observation;
 use crate::prng::Prng;
-use crate::sheet::Sheet;
+use crate::step;
 use crate::table::{FIELDS, REQUIRED, Scaled, fields};
 use crate::text;
 
@@ -34,7 +34,7 @@ fn case(prng: &mut Prng) -> Case {
 
 /// A report, sound or damaged, with bytes after it or cut.
 fn report(prng: &mut Prng) -> Vec<u8> {
-    let mut draft = Draft::of(&random_sheet(prng));
+    let mut draft = Draft::of(&random_observation(prng));
     for _ in 0..prng.pick(&[0, 0, 1, 1, 1, 2]) {
         damage(prng, &mut draft);
     }
@@ -94,7 +94,7 @@ pub fn damage_tail(prng: &mut Prng, draft: &mut Draft) {
 
 fn unpack_case(prng: &mut Prng) -> Case {
     let report = report(prng);
-    let room = crate::judge::judge(&report).map_or(5, |report| tail_of(&report.sheet).len());
+    let room = crate::judge::judge(&report).map_or(5, |report| tail_of(&report.observation).len());
     let tail = prng.pick(&[room, room, room + 7, room.saturating_sub(1)]);
     Case::Unpack {
         report,
@@ -104,9 +104,9 @@ fn unpack_case(prng: &mut Prng) -> Case {
 }
 
 fn pack_case(prng: &mut Prng) -> Case {
-    let sheet = random_sheet(prng);
-    let (mut values, mut word) = values_and_word(&sheet, 0);
-    let mut draft = Draft::of(&sheet);
+    let observation = random_observation(prng);
+    let (mut values, mut word) = values_and_word(&observation, 0);
+    let mut draft = Draft::of(&observation);
     for _ in 0..prng.pick(&[0, 0, 1, 1, 2]) {
         match prng.below(7) {
             0 => word ^= 1 << prng.below(64),
@@ -130,7 +130,7 @@ fn pack_case(prng: &mut Prng) -> Case {
     Case::Pack {
         values,
         word,
-        rptin: sheet.rptin,
+        rptin: observation.rptin,
         tail: draft.tail,
         output: prng.bytes(room),
     }
@@ -152,24 +152,24 @@ fn fresh_case(prng: &mut Prng) -> Case {
     }
 }
 
-/// A list of calls; the sheet is stepped along so that arguments can be fitted.
+/// A list of calls; the observation is stepped along so that arguments can be fitted.
 fn calls_case(prng: &mut Prng) -> Case {
-    let start = random_sheet(prng);
+    let start = random_observation(prng);
     let room = prng.pick(&[0, 0, 1, 2, 8, 30, 200, 1000]);
     let mut buffer = start.packing();
     buffer.extend(prng.bytes(room));
-    let mut sheet = start;
+    let mut observation = start;
     let mut calls = Vec::new();
     for _ in 0..1 + prng.below(16) {
-        let call = random_call(prng, &sheet, buffer.len());
-        sheet = machine::step(&sheet, buffer.len(), &call).0;
+        let call = random_call(prng, &observation, buffer.len());
+        observation = step::step(&observation, buffer.len(), &call).0;
         calls.push(call);
     }
     Case::Calls { buffer, calls }
 }
 
-/// A call whose arguments often stand at an edge of what the sheet allows.
-pub fn random_call(prng: &mut Prng, sheet: &Sheet, n: usize) -> Call {
+/// A call whose arguments often stand at an edge of what the observation allows.
+pub fn random_call(prng: &mut Prng, observation: &Observation, n: usize) -> Call {
     match prng.below(14) {
         0 => Call::ReadField {
             field: random_number(prng, FIELDS as u64),
@@ -188,17 +188,17 @@ pub fn random_call(prng: &mut Prng, sheet: &Sheet, n: usize) -> Call {
         6 => Call::ClearFlag {
             flag: random_number(prng, 14),
         },
-        7..10 => random_put(prng, sheet, n),
+        7..10 => random_put(prng, observation, n),
         10 => {
-            let id = random_standing(prng, sheet);
-            let length = sheet.content(id).map_or(0, <[u8]>::len);
+            let id = random_standing(prng, observation);
+            let length = observation.content(id).map_or(0, <[u8]>::len);
             Call::Fetch {
                 id,
                 output: random_output(prng, length),
             }
         }
         11 => Call::Drop {
-            id: random_standing(prng, sheet),
+            id: random_standing(prng, observation),
         },
         12 => {
             let pieces = prng.pick(&[0, 1, 3, 10, 40, 120]);
@@ -207,7 +207,9 @@ pub fn random_call(prng: &mut Prng, sheet: &Sheet, n: usize) -> Call {
             }
         }
         _ => {
-            let text = sheet.content(u64::from(text::ID)).and_then(text::read);
+            let text = observation
+                .content(u64::from(text::ID))
+                .and_then(text::read);
             Call::FetchText {
                 output: random_output(prng, text.map_or(0, |text| text.len())),
             }
@@ -252,11 +254,11 @@ fn random_flag_value(prng: &mut Prng) -> i64 {
 }
 
 /// Often an id that stands.
-fn random_standing(prng: &mut Prng, sheet: &Sheet) -> u64 {
-    if sheet.attachments.is_empty() || prng.one_in(3) {
+fn random_standing(prng: &mut Prng, observation: &Observation) -> u64 {
+    if observation.attachments.is_empty() || prng.one_in(3) {
         random_number(prng, 15)
     } else {
-        u64::from(prng.pick(&sheet.attachments).id)
+        u64::from(prng.pick(&observation.attachments).id)
     }
 }
 
@@ -290,11 +292,11 @@ fn random_content(prng: &mut Prng, id: u64) -> Vec<u8> {
 }
 
 /// A put, at times with a content that just fills the buffer or just does not.
-fn random_put(prng: &mut Prng, sheet: &Sheet, n: usize) -> Call {
-    let id = random_standing(prng, sheet);
+fn random_put(prng: &mut Prng, observation: &Observation, n: usize) -> Call {
+    let id = random_standing(prng, observation);
     let free = prng.one_in(3) && id != u64::from(flags::ID) && id != u64::from(text::ID);
     let content = if free {
-        let others: usize = sheet
+        let others: usize = observation
             .attachments
             .iter()
             .filter(|attachment| u64::from(attachment.id) != id)

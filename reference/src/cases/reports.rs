@@ -3,7 +3,7 @@
 use super::Case;
 use super::material::*;
 use crate::flags;
-use crate::sheet::Sheet;
+use crate::observation::Observation;
 use crate::table::{REQUIRED, Scaled, fields};
 use crate::text;
 
@@ -27,55 +27,61 @@ pub fn cases() -> Vec<Case> {
 }
 
 pub fn sound() -> Vec<Vec<u8>> {
-    let mut reports: Vec<Vec<u8>> = sound_sheets().iter().map(Sheet::packing).collect();
-    for sheet in [
-        fresh_sheet(),
-        sheet_with(&[(5, &[1, 2, 3])]),
-        sheet_with(&[(5, &[1, 2])]),
+    let mut reports: Vec<Vec<u8>> = sound_observations()
+        .iter()
+        .map(Observation::packing)
+        .collect();
+    for observation in [
+        fresh_observation(),
+        observation_with(&[(5, &[1, 2, 3])]),
+        observation_with(&[(5, &[1, 2])]),
     ] {
         for after in [&[0xFF][..], &[0; 5], &[0xA5; 9]] {
-            reports.push(with_bytes_after(sheet.packing(), after));
+            reports.push(with_bytes_after(observation.packing(), after));
         }
     }
-    reports.push(with_bytes_after(largest_sheet().packing(), &[0xFF; 200]));
+    reports.push(with_bytes_after(
+        largest_observation().packing(),
+        &[0xFF; 200],
+    ));
     reports
 }
 
-fn sound_sheets() -> Vec<Sheet> {
-    let mut with_s = fresh_sheet();
+fn sound_observations() -> Vec<Observation> {
+    let mut with_s = fresh_observation();
     with_s.values[30] = Some(Scaled(286));
-    let mut with_zero_air = fresh_sheet();
+    let mut with_zero_air = fresh_observation();
     with_zero_air.values[27] = Some(Scaled(0));
-    let mut sheets = vec![
-        fresh_sheet(),
+    let mut observations = vec![
+        fresh_observation(),
         with_s,
         with_zero_air,
-        full_sheet(false),
-        full_sheet(true),
-        sheet_with_ck_0(),
-        largest_sheet(),
-        sheet_with(&[(4, &text::write(b"A1"))]),
-        sheet_with(&[(1, &[0; 16])]),
-        sheet_with(&[(1, &flags::body_of(&[1; 14]))]),
-        sheet_with(&[(1, &flags::body_of(&[10; 14]))]),
-        sheet_with(&[(
+        full_observation(false),
+        full_observation(true),
+        observation_with_ck_0(),
+        largest_observation(),
+        observation_with(&[(4, &text::write(b"A1"))]),
+        observation_with(&[(1, &[0; 16])]),
+        observation_with(&[(1, &flags::body_of(&[1; 14]))]),
+        observation_with(&[(1, &flags::body_of(&[10; 14]))]),
+        observation_with(&[(
             1,
             &flags::body_of(&[0, 1, 2, 3, 4, 5, 6, 7, 8, 9, 10, 0, 0, 1]),
         )]),
-        sheet_with(&[(15, &[15]), (1, &[0; 16]), (4, &[9]), (2, &[0, 0])]),
+        observation_with(&[(15, &[15]), (1, &[0; 16]), (4, &[9]), (2, &[0, 0])]),
     ];
     for rptin in [1, 0x8000, 0xABCD, 0xFFFF] {
-        let mut sheet = fresh_sheet();
-        sheet.rptin = rptin;
-        sheets.push(sheet);
+        let mut observation = fresh_observation();
+        observation.rptin = rptin;
+        observations.push(observation);
     }
     for length in [1, 2, 16, 254, 255] {
-        sheets.push(sheet_with(&[(5, &vec![13; length])]));
+        observations.push(observation_with(&[(5, &vec![13; length])]));
     }
     for body in good_text_bodies() {
-        sheets.push(sheet_with(&[(4, &body)]));
+        observations.push(observation_with(&[(4, &body)]));
     }
-    sheets
+    observations
 }
 
 pub fn damaged() -> Vec<Vec<u8>> {
@@ -90,7 +96,7 @@ pub fn damaged() -> Vec<Vec<u8>> {
 }
 
 fn short() -> Vec<Vec<u8>> {
-    let fresh = fresh_sheet().packing();
+    let fresh = fresh_observation().packing();
     [0, 1, 36, 37]
         .iter()
         .map(|&length| fresh[..length].to_vec())
@@ -105,14 +111,14 @@ fn bad_codes() -> Vec<Vec<u8>> {
         for code in [field.highest + 1, largest] {
             // Some fields use every code that their bits hold.
             if code > field.highest && code <= largest {
-                let mut draft = Draft::of(&full_sheet(true));
+                let mut draft = Draft::of(&full_observation(true));
                 draft.set_code(field.number, code);
                 reports.push(draft.bytes());
             }
         }
     }
     for number in REQUIRED {
-        let mut draft = Draft::of(&full_sheet(false));
+        let mut draft = Draft::of(&full_observation(false));
         draft.set_code(number, 0);
         reports.push(draft.bytes());
     }
@@ -123,15 +129,15 @@ fn bad_codes() -> Vec<Vec<u8>> {
 
 /// Refusal 4: a neighbour, each of the upper six bits, 255 for 0, AC added.
 fn bad_checksums() -> Vec<Vec<u8>> {
-    let sheets = [
-        fresh_sheet(),
-        full_sheet(true),
-        sheet_with_ck_0(),
-        sheet_with(&[(5, &[1]), (6, &[2])]),
+    let observations = [
+        fresh_observation(),
+        full_observation(true),
+        observation_with_ck_0(),
+        observation_with(&[(5, &[1]), (6, &[2])]),
     ];
     let mut reports = Vec::new();
-    for sheet in sheets {
-        let sound = Draft::of(&sheet);
+    for observation in observations {
+        let sound = Draft::of(&observation);
         let ck = sound.card.ck;
         let mut stored = vec![ck + 1, (ck + 254) % 255, ck + 255, ck | 0x3F00, ck + 2];
         stored.extend((8..14).map(|bit| ck | (1 << bit)));
@@ -148,22 +154,22 @@ fn bad_checksums() -> Vec<Vec<u8>> {
 fn bad_attachments() -> Vec<Vec<u8>> {
     let mut reports = Vec::new();
     for ac in [1, 2, 15] {
-        let mut draft = Draft::of(&fresh_sheet());
+        let mut draft = Draft::of(&fresh_observation());
         draft.card.ac = ac;
         reports.push(draft.bytes());
         reports.push(with_bytes_after(draft.bytes(), &[0; 20]));
         reports.push(with_bytes_after(draft.bytes(), &[0xFF; 20]));
     }
     for (id, nibbles) in [(0, &[1, 2][..]), (5, &[]), (0, &[])] {
-        let mut draft = Draft::of(&sheet_with(&[(2, &[7, 7])]));
+        let mut draft = Draft::of(&observation_with(&[(2, &[7, 7])]));
         draft.attach(id, nibbles);
         reports.push(draft.bytes());
     }
-    let mut repeated = Draft::of(&sheet_with(&[(2, &[7]), (3, &[8]), (2, &[9])]));
+    let mut repeated = Draft::of(&observation_with(&[(2, &[7]), (3, &[8]), (2, &[9])]));
     reports.push(repeated.bytes());
     repeated.attach(5, &[1; 30]);
     reports.push(repeated.bytes());
-    let whole = sheet_with(&[(7, &[1; 20]), (9, &[2; 30])]).packing();
+    let whole = observation_with(&[(7, &[1; 20]), (9, &[2; 30])]).packing();
     for length in 38..whole.len() {
         reports.push(whole[..length].to_vec());
     }
@@ -175,7 +181,7 @@ fn bad_bodies() -> Vec<Vec<u8>> {
     let mut reports = Vec::new();
     for (id, bodies) in [(1, bad_flag_bodies()), (4, bad_text_bodies())] {
         for body in bodies {
-            let mut draft = Draft::of(&sheet_with(&[(8, &[1])]));
+            let mut draft = Draft::of(&observation_with(&[(8, &[1])]));
             draft.attach(id, &body);
             draft.attach(9, &[2, 2]);
             reports.push(draft.bytes());
@@ -187,13 +193,13 @@ fn bad_bodies() -> Vec<Vec<u8>> {
 /// Refusal 7.
 fn bad_last_nibbles() -> Vec<Vec<u8>> {
     let mut reports = Vec::new();
-    for sheet in [
-        fresh_sheet(),
-        sheet_with(&[(5, &[1, 2, 3, 4, 5])]),
-        sheet_with(&[(5, &[6; 255])]),
+    for observation in [
+        fresh_observation(),
+        observation_with(&[(5, &[1, 2, 3, 4, 5])]),
+        observation_with(&[(5, &[6; 255])]),
     ] {
         for last in [1, 8, 15] {
-            let mut draft = Draft::of(&sheet);
+            let mut draft = Draft::of(&observation);
             draft.last = last;
             reports.push(draft.bytes());
         }
@@ -204,7 +210,7 @@ fn bad_last_nibbles() -> Vec<Vec<u8>> {
 /// Id 1 last of fifteen, the others of 255 nibbles. Its data end at byte 1856
 /// if they are 22 nibbles, and behind it if they are more.
 pub fn beyond_the_lister(length: usize) -> Vec<u8> {
-    let mut draft = Draft::of(&fresh_sheet());
+    let mut draft = Draft::of(&fresh_observation());
     for id in 2..=15 {
         let nibble = if id == text::ID { 1 } else { id };
         draft.attach(id, &[nibble; 255]);

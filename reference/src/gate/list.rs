@@ -32,8 +32,8 @@ impl List {
             && self.room <= MOST_LOG
     }
 
-    /// Buffer, script and room as lent.
-    pub fn lent(&self) -> Vec<u8> {
+    /// Buffer, script and room as given.
+    pub fn input(&self) -> Vec<u8> {
         let length = u16::try_from(self.buffer.len()).expect("a list keeps its limits");
         let mut bytes = length.to_be_bytes().to_vec();
         bytes.extend(&self.buffer);

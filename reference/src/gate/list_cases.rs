@@ -10,10 +10,10 @@ use crate::cases::random::random_call;
 use crate::cases::{pairs, reports};
 use crate::gate::list::List;
 use crate::gate::script::{entry, record_size, script};
-use crate::gate::sizes::{LONGEST_TAIL, sheet_of_tail};
+use crate::gate::sizes::{LONGEST_TAIL, observation_of_tail};
 use crate::judge::judge;
+use crate::observation::Observation;
 use crate::prng::Prng;
-use crate::sheet::Sheet;
 use crate::table::{FIELDS, Scaled, fields};
 use crate::text;
 
@@ -41,8 +41,8 @@ pub fn lists(seed: u64) -> Vec<List> {
 }
 
 /// A report in a buffer with some bytes after it.
-fn buffer_of(prng: &mut Prng, sheet: &Sheet, room: usize) -> Vec<u8> {
-    with_bytes_after(sheet.packing(), &prng.bytes(room))
+fn buffer_of(prng: &mut Prng, observation: &Observation, room: usize) -> Vec<u8> {
+    with_bytes_after(observation.packing(), &prng.bytes(room))
 }
 
 /// Calls in lists, each on a buffer of its own.
@@ -70,16 +70,16 @@ fn whole_list(prng: &mut Prng, buffer: Vec<u8>, given: &[Call]) -> List {
     List::of(buffer, &calls)
 }
 
-/// The sheet of a sound report.
-fn sheet_of(buffer: &[u8]) -> Sheet {
-    judge(buffer).expect("the report is sound").sheet
+/// The observation of a sound report.
+fn observation_of(buffer: &[u8]) -> Observation {
+    judge(buffer).expect("the report is sound").observation
 }
 
 /// A drawn call, seldom with long contents or outputs.
 fn drawn_call(prng: &mut Prng, buffer: &[u8]) -> Call {
-    let sheet = sheet_of(buffer);
+    let observation = observation_of(buffer);
     loop {
-        let call = random_call(prng, &sheet, buffer.len());
+        let call = random_call(prng, &observation, buffer.len());
         if entry(&call).len() < 80 || prng.one_in(12) {
             return call;
         }
@@ -104,8 +104,8 @@ fn field_lists(prng: &mut Prng) -> Vec<List> {
     in_lists(prng, &calls, |prng| {
         let tail = prng.pick(&[0, 4, 5, 30]);
         let room = prng.pick(&[0, 0, 1, 6]);
-        let sheet = sheet_of_tail(prng, tail);
-        buffer_of(prng, &sheet, room)
+        let observation = observation_of_tail(prng, tail);
+        buffer_of(prng, &observation, room)
     })
 }
 
@@ -116,11 +116,13 @@ fn number_lists(prng: &mut Prng) -> Vec<List> {
     numbers.extend(WIDE_NUMBERS);
     numbers.extend([(1 << 63) + 1, (1 << 63) - 1]);
     let calls: Vec<Call> = numbers.into_iter().flat_map(numbered_calls).collect();
-    let bare = fresh_sheet();
-    let held = sheet_with(&[(4, &[1]), (1, &[0; 16]), (15, &[2, 3])]);
+    let bare = fresh_observation();
+    let held = observation_with(&[(4, &[1]), (1, &[0; 16]), (15, &[2, 3])]);
     let mut lists = Vec::new();
-    for sheet in [bare, held] {
-        lists.extend(in_lists(prng, &calls, |prng| buffer_of(prng, &sheet, 30)));
+    for observation in [bare, held] {
+        lists.extend(in_lists(prng, &calls, |prng| {
+            buffer_of(prng, &observation, 30)
+        }));
     }
     lists
 }
@@ -191,8 +193,8 @@ fn flag_lists(prng: &mut Prng) -> Vec<List> {
         let before = prng.nibbles(length);
         let flags = random_flags(prng);
         let room = prng.pick(&[0, 1, 4]);
-        let sheet = sheet_with(&[(9, &before), (1, &flags), (4, &[7])]);
-        buffer_of(prng, &sheet, room)
+        let observation = observation_with(&[(9, &before), (1, &flags), (4, &[7])]);
+        buffer_of(prng, &observation, room)
     })
 }
 
@@ -214,8 +216,8 @@ fn put_lists(prng: &mut Prng) -> Vec<List> {
     }
     in_lists(prng, &calls, |prng| {
         let room = prng.pick(&[140, 300, 420]);
-        let sheet = sheet_with(&[(2, &[1, 2, 3]), (5, &[9; 20])]);
-        buffer_of(prng, &sheet, room)
+        let observation = observation_with(&[(2, &[1, 2, 3]), (5, &[9; 20])]);
+        buffer_of(prng, &observation, room)
     })
 }
 
@@ -234,7 +236,7 @@ fn body_lists(prng: &mut Prng) -> Vec<List> {
         }
     }
     in_lists(prng, &calls, |prng| {
-        buffer_of(prng, &sheet_with(&[(6, &[1]), (4, &[2])]), 30)
+        buffer_of(prng, &observation_with(&[(6, &[1]), (4, &[2])]), 30)
     })
 }
 
@@ -263,7 +265,7 @@ fn text_lists(prng: &mut Prng) -> Vec<List> {
         calls.push(fetch_text(text_room[index % 4]));
     }
     in_lists(prng, &calls, |prng| {
-        buffer_of(prng, &sheet_with(&[(6, &[1])]), 150)
+        buffer_of(prng, &observation_with(&[(6, &[1])]), 150)
     })
 }
 
@@ -274,13 +276,13 @@ fn pair_lists(prng: &mut Prng) -> Vec<List> {
     for pair in pairs::pairs() {
         for case in [pair.both, pair.mended] {
             if let Case::Calls {
-                buffer: lent,
+                buffer: given,
                 calls: one,
             } = case
-                && judge(&lent).is_ok()
+                && judge(&given).is_ok()
                 && !calls.contains(&one[0])
             {
-                buffer = lent;
+                buffer = given;
                 calls.extend(one);
             }
         }
@@ -293,15 +295,15 @@ fn pair_lists(prng: &mut Prng) -> Vec<List> {
 fn growing_lists(prng: &mut Prng) -> Vec<List> {
     let mut lists = Vec::new();
     for length in [2000, 1853, 1852] {
-        let largest = largest_sheet();
+        let largest = largest_observation();
         let mut calls: Vec<Call> = largest.attachments.iter().map(put_again).collect();
         calls.push(put(15, &[1; 254]));
         calls.push(put(15, &[2; 255]));
         calls.extend([5, 1, 9, 15].map(|id| fetch(id, 16)));
         calls.extend((1..=15).rev().map(|id| Call::Drop { id }));
         calls.push(Call::ReadField { field: 1 });
-        let room = length - fresh_sheet().size();
-        let buffer = buffer_of(prng, &fresh_sheet(), room);
+        let room = length - fresh_observation().size();
+        let buffer = buffer_of(prng, &fresh_observation(), room);
         lists.push(whole_list(prng, buffer, &calls));
     }
     lists
@@ -316,9 +318,9 @@ fn fitting_lists(prng: &mut Prng) -> Vec<List> {
     let mut lists = Vec::new();
     for index in 0..24 {
         let tail = prng.pick(&[0, 4, 5, 19, 40, 41, 90]);
-        let sheet = sheet_of_tail(prng, tail);
+        let observation = observation_of_tail(prng, tail);
         let room = [0, 1, 2, 3, 5, 10, 20, 40][index % 8];
-        let buffer = buffer_of(prng, &sheet, room);
+        let buffer = buffer_of(prng, &observation, room);
         let mut state = buffer.clone();
         let mut calls = Vec::new();
         for _ in 0..GIVEN {
@@ -332,26 +334,26 @@ fn fitting_lists(prng: &mut Prng) -> Vec<List> {
 }
 
 fn fitting_call(prng: &mut Prng, buffer: &[u8]) -> Call {
-    let sheet = sheet_of(buffer);
+    let observation = observation_of(buffer);
     let id = match prng.pick(&[0, 1]) {
-        0 if !sheet.attachments.is_empty() => prng.pick(&sheet.attachments).id,
+        0 if !observation.attachments.is_empty() => prng.pick(&observation.attachments).id,
         _ => prng.pick(&[2, 3, 5, 8, 15]),
     };
     let id = u64::from(id);
-    let standing = sheet.content(id).map_or(0, <[u8]>::len);
+    let standing = observation.content(id).map_or(0, <[u8]>::len);
     match prng.below(10) {
         0 | 1 => Call::Drop { id },
         2 | 3 => fetch(id, one_beside(prng, standing)),
         4 => {
-            let text = sheet.content(4).and_then(text::read);
+            let text = observation.content(4).and_then(text::read);
             fetch_text(one_beside(prng, text.map_or(0, |text| text.len())))
         }
         5 => {
-            let length = fitting_length(prng, &sheet, buffer.len(), 4);
+            let length = fitting_length(prng, &observation, buffer.len(), 4);
             put_text(&vec![b'5'; length])
         }
         _ => {
-            let length = fitting_length(prng, &sheet, buffer.len(), id);
+            let length = fitting_length(prng, &observation, buffer.len(), id);
             put(id, &prng.nibbles(length))
         }
     }
@@ -363,8 +365,8 @@ fn one_beside(prng: &mut Prng, length: usize) -> usize {
 }
 
 /// The most nibbles that an id can have in a buffer, up to two more, or less.
-fn fitting_length(prng: &mut Prng, sheet: &Sheet, n: usize, id: u64) -> usize {
-    let others: usize = sheet
+fn fitting_length(prng: &mut Prng, observation: &Observation, n: usize, id: u64) -> usize {
+    let others: usize = observation
         .attachments
         .iter()
         .filter(|attachment| u64::from(attachment.id) != id)
@@ -382,9 +384,9 @@ fn drawn_lists(prng: &mut Prng) -> Vec<List> {
     let mut lists = Vec::new();
     for index in 0..140 {
         let tail = drawn_tail(prng, index);
-        let sheet = sheet_of_tail(prng, tail);
+        let observation = observation_of_tail(prng, tail);
         let room = prng.pick(&[0, 0, 1, 2, 8, 30, 120]);
-        let buffer = buffer_of(prng, &sheet, room);
+        let buffer = buffer_of(prng, &observation, room);
         lists.push(whole_list(prng, buffer, &[]));
     }
     lists
@@ -411,12 +413,12 @@ fn ended_lists() -> Vec<List> {
     lists
 }
 
-fn held_sheet() -> Sheet {
-    sheet_with(&[(4, &[1, 10, 12, 1]), (1, &[0; 16]), (5, &[3, 2, 1])])
+fn held_observation() -> Observation {
+    observation_with(&[(4, &[1, 10, 12, 1]), (1, &[0; 16]), (5, &[3, 2, 1])])
 }
 
 fn held_buffer() -> Vec<u8> {
-    with_bytes_after(held_sheet().packing(), &[0xA5; 12])
+    with_bytes_after(held_observation().packing(), &[0xA5; 12])
 }
 
 /// One call of each kind, all of them accepted on the held report.

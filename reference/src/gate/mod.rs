@@ -33,7 +33,7 @@ pub fn whole(cases: &[Case]) -> Files {
     let mut files = Files::empty();
     for case in cases {
         let outcome = case.run();
-        files.stdin.extend(record::lent(case));
+        files.stdin.extend(record::input(case));
         files.stdout.extend(record::answer(&outcome));
         files.tally.add_record(&outcome);
     }
@@ -44,7 +44,7 @@ pub fn lists(lists: &[List]) -> Files {
     let mut files = Files::empty();
     for list in lists {
         let (after, ran) = list.run();
-        files.stdin.extend(list.lent());
+        files.stdin.extend(list.input());
         files.stdout.extend(list::answer(&after, &ran));
         files.tally.add_list(list, &ran);
     }

@@ -46,8 +46,8 @@ pub fn fits(case: &Case) -> bool {
     }
 }
 
-/// The kind and what is lent.
-pub fn lent(case: &Case) -> Vec<u8> {
+/// The kind and what the call takes.
+pub fn input(case: &Case) -> Vec<u8> {
     match case {
         Case::Judge { report } => [vec![JUDGE], counted(report)].concat(),
         Case::Lister { input } => [vec![LISTER], counted(input)].concat(),

@@ -1,10 +1,10 @@
-//! Sheets of a wanted size or sum.
+//! Observations of a wanted size or sum.
 
 use crate::attachment::{Attachment, HEADER, LONGEST};
-use crate::cases::material::{fresh_sheet, random_flags, random_sheet, random_text};
+use crate::cases::material::{fresh_observation, random_flags, random_observation, random_text};
 use crate::flags;
+use crate::observation::Observation;
 use crate::prng::Prng;
-use crate::sheet::Sheet;
 use crate::table::{FIELDS, Scaled, fields};
 use crate::text;
 
@@ -14,10 +14,10 @@ pub const LONGEST_TAIL: usize = 14 * (HEADER + LONGEST) + FLAGS_SIZE;
 const FLAGS_SIZE: usize = HEADER + flags::LENGTH;
 const SHORTEST: usize = HEADER + 1;
 
-/// A sheet whose attachments take so many nibbles: none, or 4 and more.
-pub fn sheet_of_tail(prng: &mut Prng, tail: usize) -> Sheet {
-    let mut sheet = random_sheet(prng);
-    sheet.attachments.clear();
+/// An observation whose attachments take so many nibbles: none, or 4 and more.
+pub fn observation_of_tail(prng: &mut Prng, tail: usize) -> Observation {
+    let mut observation = random_observation(prng);
+    observation.attachments.clear();
     let with_flags = has_flags(prng, tail);
     let rest = if with_flags { tail - FLAGS_SIZE } else { tail };
     let sizes = split(prng, rest);
@@ -25,15 +25,15 @@ pub fn sheet_of_tail(prng: &mut Prng, tail: usize) -> Sheet {
     prng.shuffle(&mut ids);
     for (id, size) in ids.into_iter().zip(sizes) {
         let body = body_of_length(prng, id, size - HEADER);
-        sheet.attachments.push(Attachment::new(id, body));
+        observation.attachments.push(Attachment::new(id, body));
     }
     if with_flags {
-        let position = prng.below(sheet.attachments.len() + 1);
+        let position = prng.below(observation.attachments.len() + 1);
         let body = random_flags(prng);
         let flags = Attachment::new(flags::ID, body);
-        sheet.attachments.insert(position, flags);
+        observation.attachments.insert(position, flags);
     }
-    sheet
+    observation
 }
 
 /// Whether id 1 is to stand: where it must, and else at times where it can.
@@ -81,11 +81,11 @@ fn text_body(prng: &mut Prng, length: usize) -> Vec<u8> {
     body
 }
 
-/// A sheet whose coded values add up to a sum of 5 and more: the fields
+/// An observation whose coded values add up to a sum of 5 and more: the fields
 /// ascending, each as high as it can be.
-pub fn sheet_of_sum(sum: u64) -> Sheet {
-    let mut sheet = fresh_sheet();
-    sheet.values = [None; FIELDS];
+pub fn observation_of_sum(sum: u64) -> Observation {
+    let mut observation = fresh_observation();
+    observation.values = [None; FIELDS];
     let required = fields().iter().filter(|field| field.is_required()).count();
     let mut left = sum - required as u64;
     for field in fields() {
@@ -93,8 +93,8 @@ pub fn sheet_of_sum(sum: u64) -> Sheet {
         let code = (least + left).min(field.highest);
         left -= code - least;
         if code > 0 {
-            sheet.values[field.number - 1] = Some(Scaled(field.base + code as i64));
+            observation.values[field.number - 1] = Some(Scaled(field.base + code as i64));
         }
     }
-    sheet
+    observation
 }

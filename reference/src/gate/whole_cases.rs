@@ -7,9 +7,9 @@ use crate::cases::material::*;
 use crate::cases::outside::{edge_values, tails};
 use crate::cases::{self, Case, pairs, random, reports};
 use crate::gate::record;
-use crate::gate::sizes::{LONGEST_TAIL, sheet_of_sum, sheet_of_tail};
+use crate::gate::sizes::{LONGEST_TAIL, observation_of_sum, observation_of_tail};
+use crate::observation::Observation;
 use crate::prng::Prng;
-use crate::sheet::Sheet;
 use crate::table::{FIELDS, fields};
 
 /// Cases from a seed, none of them twice.
@@ -30,11 +30,11 @@ pub fn cases(seed: u64) -> Vec<Case> {
     cases.extend(sizes(&mut prng));
     cases.extend(drawn(&mut prng));
     let mut seen = BTreeSet::new();
-    cases.retain(|case| record::fits(case) && seen.insert(record::lent(case)));
+    cases.retain(|case| record::fits(case) && seen.insert(record::input(case)));
     cases
 }
 
-/// Values as lent to unpack, each its own.
+/// Values as given to unpack, each its own.
 fn lent_values(count: usize) -> Vec<i64> {
     (0..count as i64)
         .map(|index| -7_000_000_000 - index)
@@ -49,14 +49,14 @@ fn unpack(report: &[u8], values: usize, tail: usize) -> Case {
     }
 }
 
-/// A sheet as pack takes it, values of missing fields absurd.
-fn pack(sheet: &Sheet, room: usize) -> Case {
-    let (values, word) = values_and_word(sheet, i64::MIN);
+/// An observation as pack takes it, values of missing fields absurd.
+fn pack(observation: &Observation, room: usize) -> Case {
+    let (values, word) = values_and_word(observation, i64::MIN);
     Case::Pack {
         values,
         word,
-        rptin: sheet.rptin,
-        tail: tail_of(sheet),
+        rptin: observation.rptin,
+        tail: tail_of(observation),
         output: vec![0xEE; room],
     }
 }
@@ -73,31 +73,45 @@ fn lister(report: &[u8]) -> Case {
     }
 }
 
-/// A sheet with random values and no attachments.
-fn plain_sheet(prng: &mut Prng) -> Sheet {
-    let mut sheet = random_sheet(prng);
-    sheet.attachments.clear();
-    sheet
+/// An observation with random values and no attachments.
+fn plain_observation(prng: &mut Prng) -> Observation {
+    let mut observation = random_observation(prng);
+    observation.attachments.clear();
+    observation
 }
 
 /// Each field at its lowest, its highest and missing, and out of range in pack.
 fn field_cases(prng: &mut Prng) -> Vec<Case> {
     let mut cases = Vec::new();
-    for sheet in [fresh_sheet(), full_sheet(false), full_sheet(true)] {
-        cases.extend([judge(&sheet.packing()), lister(&sheet.packing())]);
-        cases.extend([unpack(&sheet.packing(), 46, 0), pack(&sheet, 38)]);
+    for observation in [
+        fresh_observation(),
+        full_observation(false),
+        full_observation(true),
+    ] {
+        cases.extend([
+            judge(&observation.packing()),
+            lister(&observation.packing()),
+        ]);
+        cases.extend([
+            unpack(&observation.packing(), 46, 0),
+            pack(&observation, 38),
+        ]);
     }
     for field in fields() {
         let (lowest, highest) = (field.lowest_value(), field.highest_value());
         for value in [Some(lowest), Some(highest), None] {
-            let mut sheet = plain_sheet(prng);
-            sheet.values[field.number - 1] = value;
-            let report = sheet.packing();
-            cases.extend([pack(&sheet, 38), lister(&report), unpack(&report, 46, 0)]);
+            let mut observation = plain_observation(prng);
+            observation.values[field.number - 1] = value;
+            let report = observation.packing();
+            cases.extend([
+                pack(&observation, 38),
+                lister(&report),
+                unpack(&report, 46, 0),
+            ]);
         }
         let edges = edge_values(lowest, highest);
         for value in [lowest.0 - 1, highest.0 + 1, prng.pick(&edges)] {
-            let (mut values, word) = values_and_word(&plain_sheet(prng), 0);
+            let (mut values, word) = values_and_word(&plain_observation(prng), 0);
             values[field.number - 1] = value;
             cases.push(Case::Pack {
                 values,
@@ -120,7 +134,7 @@ fn sound_reports() -> Vec<Case> {
             cases.push(unpack(&report, 46, 2 * report.len() - 74));
         }
     }
-    let largest = largest_sheet().packing();
+    let largest = largest_observation().packing();
     let whole_buffer = with_bytes_after(largest, &[0xFF; 147]);
     cases.extend([judge(&whole_buffer), lister(&whole_buffer)]);
     cases
@@ -145,10 +159,10 @@ fn damaged_reports() -> Vec<Case> {
 fn checksums() -> Vec<Case> {
     let mut cases = Vec::new();
     for sum in [5, 254, 255, 256, 509, 510, 511, 4080, 19635, 19643] {
-        let sheet = sheet_of_sum(sum);
-        let sound = Draft::of(&sheet);
+        let observation = observation_of_sum(sum);
+        let sound = Draft::of(&observation);
         cases.extend([judge(&sound.bytes()), lister(&sound.bytes())]);
-        cases.extend([unpack(&sound.bytes(), 46, 0), pack(&sheet, 38)]);
+        cases.extend([unpack(&sound.bytes(), 46, 0), pack(&observation, 38)]);
         let ck = sound.card.ck;
         let mut stored: Vec<u64> = (8..14).map(|bit| ck | (1 << bit)).collect();
         stored.extend([ck + 255, ck ^ 1, ck ^ 255, sum & 0x3FFF, 0x3FFF]);
@@ -202,19 +216,19 @@ fn fresh_cases() -> Vec<Case> {
         .collect()
 }
 
-/// Sheets with an odd and an even number of nibbles.
-fn odd_and_even(prng: &mut Prng) -> Vec<Sheet> {
+/// Observations with an odd and an even number of nibbles.
+fn odd_and_even(prng: &mut Prng) -> Vec<Observation> {
     [0, 4, 5, 22, 23, 60]
-        .map(|tail| sheet_of_tail(prng, tail))
+        .map(|tail| observation_of_tail(prng, tail))
         .to_vec()
 }
 
 /// Outputs of unpack that just fit, are one short, and are longer.
 fn unpack_outputs(prng: &mut Prng) -> Vec<Case> {
     let mut cases = Vec::new();
-    for sheet in odd_and_even(prng) {
-        let report = sheet.packing();
-        let tail = tail_of(&sheet).len();
+    for observation in odd_and_even(prng) {
+        let report = observation.packing();
+        let tail = tail_of(&observation).len();
         for (values, tail) in [
             (45, tail),
             (46, tail.saturating_sub(1)),
@@ -227,7 +241,7 @@ fn unpack_outputs(prng: &mut Prng) -> Vec<Case> {
             cases.push(unpack(&report, values, tail));
         }
     }
-    let largest = largest_sheet().packing();
+    let largest = largest_observation().packing();
     cases.push(unpack(&largest, 46, LONGEST_TAIL - 1));
     cases.push(unpack(&largest, 46, LONGEST_TAIL));
     cases.push(unpack(&largest, 46, 4000));
@@ -237,19 +251,24 @@ fn unpack_outputs(prng: &mut Prng) -> Vec<Case> {
 /// Outputs of pack that just fit, are one short, and are longer.
 fn pack_outputs(prng: &mut Prng) -> Vec<Case> {
     let mut cases = Vec::new();
-    for sheet in odd_and_even(prng) {
-        for room in [0, sheet.size() - 1, sheet.size(), sheet.size() + 1] {
-            cases.push(pack(&sheet, room));
+    for observation in odd_and_even(prng) {
+        for room in [
+            0,
+            observation.size() - 1,
+            observation.size(),
+            observation.size() + 1,
+        ] {
+            cases.push(pack(&observation, room));
         }
     }
-    let largest = largest_sheet();
+    let largest = largest_observation();
     cases.extend([1852, 1853, 2000].map(|room| pack(&largest, room)));
     cases
 }
 
 /// Each bit of the word flipped.
 fn pack_words() -> Vec<Case> {
-    let (values, sound) = values_and_word(&fresh_sheet(), 0);
+    let (values, sound) = values_and_word(&fresh_observation(), 0);
     let mut words: Vec<u64> = (0..64).map(|bit| sound ^ (1 << bit)).collect();
     words.extend([0, u64::MAX]);
     let case = |word| Case::Pack {
@@ -264,7 +283,7 @@ fn pack_words() -> Vec<Case> {
 
 /// Tails sound and refused, with an output that would do.
 fn pack_tails() -> Vec<Case> {
-    let (values, word) = values_and_word(&fresh_sheet(), 5);
+    let (values, word) = values_and_word(&fresh_observation(), 5);
     let case = |tail: Vec<u8>| Case::Pack {
         values: values.clone(),
         word,
@@ -277,7 +296,7 @@ fn pack_tails() -> Vec<Case> {
 
 /// Too few values, and more than are read.
 fn pack_value_counts() -> Vec<Case> {
-    let (values, word) = values_and_word(&full_sheet(true), 0);
+    let (values, word) = values_and_word(&full_observation(true), 0);
     let case = |count| {
         let mut values = values.clone();
         values.resize(count, i64::MAX);
@@ -309,9 +328,9 @@ fn tail_lengths() -> Vec<usize> {
 fn sizes(prng: &mut Prng) -> Vec<Case> {
     let mut cases = Vec::new();
     for (index, length) in tail_lengths().into_iter().enumerate() {
-        let sheet = sheet_of_tail(prng, length);
+        let observation = observation_of_tail(prng, length);
         let after = prng.pick(&[0, 0, 1, 7]);
-        let report = with_bytes_after(sheet.packing(), &prng.bytes(after));
+        let report = with_bytes_after(observation.packing(), &prng.bytes(after));
         let small = report.len() <= 400;
         cases.push(judge(&report));
         if small || index % 2 == 0 {
@@ -319,7 +338,7 @@ fn sizes(prng: &mut Prng) -> Vec<Case> {
             cases.push(unpack_with_room(prng, &report, length));
         }
         if small || index % 2 == 1 {
-            cases.push(pack_with_room(prng, &sheet));
+            cases.push(pack_with_room(prng, &observation));
         }
     }
     cases
@@ -344,9 +363,9 @@ fn unpack_with_room(prng: &mut Prng, report: &[u8], tail: usize) -> Case {
     }
 }
 
-fn pack_with_room(prng: &mut Prng, sheet: &Sheet) -> Case {
-    let room = room(prng, sheet.size());
-    let mut case = pack(sheet, room);
+fn pack_with_room(prng: &mut Prng, observation: &Observation) -> Case {
+    let room = room(prng, observation.size());
+    let mut case = pack(observation, room);
     if let Case::Pack { output, .. } = &mut case {
         *output = prng.bytes(room);
     }
@@ -358,7 +377,7 @@ fn drawn(prng: &mut Prng) -> Vec<Case> {
     let seed = prng.next_u64();
     random::cases(seed, 1000)
         .filter(record::fits)
-        .filter(|case| record::lent(case).len() < 900)
+        .filter(|case| record::input(case).len() < 900)
         .take(100)
         .collect()
 }

@@ -1,10 +1,10 @@
-//! The plain machine: the list's calls over a sheet and a buffer length.
+//! The calls of a list over an observation and a buffer length: the plain machine.
 
 use crate::attachment::{Attachment, is_valid_body};
 use crate::call::{Answer, Call, Given};
 use crate::flags::{self, FLAGS};
+use crate::observation::Observation;
 use crate::refusal::Refusal;
-use crate::sheet::Sheet;
 use crate::table::{FIELDS, REQUIRED, ROWS, Scaled};
 use crate::text;
 
@@ -14,10 +14,10 @@ const TEXT_ID: u64 = text::ID as u64;
 /// The caller's refusals in the order in which they are judged.
 const ORDER: [u8; 7] = [8, 9, 10, 11, 12, 14, 13];
 
-/// One step: the answer, and the sheet after it. n is the buffer's length.
-pub fn step(sheet: &Sheet, n: usize, call: &Call) -> (Sheet, Answer) {
+/// One step: the answer, and the observation after it. n is the buffer's length.
+pub fn step(observation: &Observation, n: usize, call: &Call) -> (Observation, Answer) {
     for number in ORDER {
-        if fits(number, sheet, n, call) {
+        if fits(number, observation, n, call) {
             let answer = Answer {
                 result: Err(Refusal {
                     number,
@@ -25,11 +25,11 @@ pub fn step(sheet: &Sheet, n: usize, call: &Call) -> (Sheet, Answer) {
                 }),
                 output: call.output(),
             };
-            return (sheet.clone(), answer);
+            return (observation.clone(), answer);
         }
     }
-    let after = moved(sheet, call);
-    let (given, written) = gives(sheet, call);
+    let after = moved(observation, call);
+    let (given, written) = gives(observation, call);
     let mut output = call.output();
     if let Some(output) = &mut output {
         output.splice(..written.len(), written);
@@ -52,17 +52,17 @@ fn place(number: u8, call: &Call) -> usize {
 }
 
 /// Whether a refusal fits, given that none before it in the order does.
-fn fits(number: u8, sheet: &Sheet, n: usize, call: &Call) -> bool {
+fn fits(number: u8, observation: &Observation, n: usize, call: &Call) -> bool {
     match number {
         8 => has_unknown_number(call),
         9 => has_value_out_of_range(call),
         10 => matches!(call, Call::ClearField { field } if REQUIRED.contains(&(*field as usize))),
-        11 => names_absent_attachment(sheet, call),
+        11 => names_absent_attachment(observation, call),
         12 => content_of(call).is_some_and(|(_, content)| !(1..=255).contains(&content.len())),
         14 => content_of(call).is_some_and(|(id, content)| {
             content.iter().any(|&byte| byte > 15) || !is_valid_body(id, &content)
         }),
-        _ => lends_too_little(sheet, n, call),
+        _ => lends_too_little(observation, n, call),
     }
 }
 
@@ -90,21 +90,21 @@ fn has_value_out_of_range(call: &Call) -> bool {
     }
 }
 
-fn names_absent_attachment(sheet: &Sheet, call: &Call) -> bool {
+fn names_absent_attachment(observation: &Observation, call: &Call) -> bool {
     let id = match call {
         Call::ReadFlag { .. } | Call::SetFlag { .. } | Call::ClearFlag { .. } => FLAGS_ID,
         Call::Fetch { id, .. } | Call::Drop { id } => *id,
         Call::FetchText { .. } => TEXT_ID,
         _ => return false,
     };
-    sheet.content(id).is_none()
+    observation.content(id).is_none()
 }
 
-fn lends_too_little(sheet: &Sheet, n: usize, call: &Call) -> bool {
+fn lends_too_little(observation: &Observation, n: usize, call: &Call) -> bool {
     let output_too_short = call
         .output()
-        .is_some_and(|output| output.len() < gives(sheet, call).1.len());
-    output_too_short || moved(sheet, call).size() > n
+        .is_some_and(|output| output.len() < gives(observation, call).1.len());
+    output_too_short || moved(observation, call).size() > n
 }
 
 /// The id and the nibbles that a call puts.
@@ -116,9 +116,9 @@ fn content_of(call: &Call) -> Option<(u8, Vec<u8>)> {
     }
 }
 
-/// The sheet that an accepted call leaves.
-fn moved(sheet: &Sheet, call: &Call) -> Sheet {
-    let mut after = sheet.clone();
+/// The observation that an accepted call leaves.
+fn moved(observation: &Observation, call: &Call) -> Observation {
+    let mut after = observation.clone();
     match call {
         Call::SetField { field, value } => {
             after.values[*field as usize - 1] = Some(Scaled(*value));
@@ -141,37 +141,44 @@ fn moved(sheet: &Sheet, call: &Call) -> Sheet {
     after
 }
 
-fn place_flag(sheet: &mut Sheet, flag: u64, value: u8) {
-    let mut flags = sheet.content(FLAGS_ID).expect("id 1 stands")[..FLAGS].to_vec();
+fn place_flag(observation: &mut Observation, flag: u64, value: u8) {
+    let mut flags = observation.content(FLAGS_ID).expect("id 1 stands")[..FLAGS].to_vec();
     flags[flag as usize - 1] = value;
-    place_content(sheet, Attachment::new(flags::ID, flags::body_of(&flags)));
+    place_content(
+        observation,
+        Attachment::new(flags::ID, flags::body_of(&flags)),
+    );
 }
 
-fn place_content(sheet: &mut Sheet, new: Attachment) {
-    match sheet.attachments.iter_mut().find(|old| old.id == new.id) {
+fn place_content(observation: &mut Observation, new: Attachment) {
+    match observation
+        .attachments
+        .iter_mut()
+        .find(|old| old.id == new.id)
+    {
         Some(old) => *old = new,
-        None => sheet.attachments.push(new),
+        None => observation.attachments.push(new),
     }
 }
 
 /// What an accepted call gives and what it writes to its output.
-fn gives(sheet: &Sheet, call: &Call) -> (Given, Vec<u8>) {
+fn gives(observation: &Observation, call: &Call) -> (Given, Vec<u8>) {
     match call {
         Call::ReadField { field } => {
-            let value = sheet.values[*field as usize - 1];
+            let value = observation.values[*field as usize - 1];
             (Given::Value(value.map(|value| value.0)), Vec::new())
         }
         Call::ReadFlag { flag } => {
-            let content = sheet.content(FLAGS_ID).expect("id 1 stands");
+            let content = observation.content(FLAGS_ID).expect("id 1 stands");
             let value = i64::from(content[*flag as usize - 1]);
             (Given::Value((value != 0).then_some(value)), Vec::new())
         }
         Call::Fetch { id, .. } => {
-            let nibbles = sheet.content(*id).expect("the id stands").to_vec();
+            let nibbles = observation.content(*id).expect("the id stands").to_vec();
             (Given::Count(nibbles.len()), nibbles)
         }
         Call::FetchText { .. } => {
-            let nibbles = sheet.content(TEXT_ID).expect("id 4 stands");
+            let nibbles = observation.content(TEXT_ID).expect("id 4 stands");
             let text = text::read(nibbles).expect("id 4 holds a text");
             (Given::Count(text.len()), text)
         }

@@ -1,4 +1,4 @@
-//! The sheet: what a report says, free of bytes.
+//! The observation: what a report says, free of bytes.
 
 use crate::attachment::Attachment;
 use crate::bits::bytes_of_nibbles;
@@ -6,20 +6,20 @@ use crate::card::{CARD_NIBBLES, Card, checksum};
 use crate::table::{Coded, FIELDS, REQUIRED, Scaled, fields};
 
 #[derive(Clone, Debug, PartialEq, Eq)]
-pub struct Sheet {
+pub struct Observation {
     pub rptin: u16,
     pub values: [Option<Scaled>; FIELDS],
     pub attachments: Vec<Attachment>,
 }
 
-impl Sheet {
-    /// A sheet of the required fields alone: BOX10, YEAR, MONTH, X and Y.
-    pub fn fresh(required: [Scaled; 5]) -> Sheet {
+impl Observation {
+    /// An observation of the required fields alone: BOX10, YEAR, MONTH, X and Y.
+    pub fn fresh(required: [Scaled; 5]) -> Observation {
         let mut values = [None; FIELDS];
         for (number, value) in REQUIRED.into_iter().zip(required) {
             values[number - 1] = Some(value);
         }
-        Sheet {
+        Observation {
             rptin: 0,
             values,
             attachments: Vec::new(),
@@ -32,7 +32,9 @@ impl Sheet {
         for field in fields() {
             let index = field.number - 1;
             if let Some(value) = self.values[index] {
-                codes[index] = field.coded(value).expect("a sheet's value is in range");
+                codes[index] = field
+                    .coded(value)
+                    .expect("an observation's value is in range");
             }
         }
         codes
