@@ -1,6 +1,6 @@
 // Nibbles of a packed buffer moved, cleared and written in place. Places are counted in nibbles.
 ghost use mathlib.Core.Path.{_≡_};
-ghost use Prim.Native.Nat.{ℕ, _+_, _*_, _%_, _≤_, _<_, _^_};
+ghost use Prim.Native.Nat.{ℕ, _+_, _*_, _/_, _%_, _≤_, _<_, _^_};
 ghost use mathlib.Core.List.{_++_};
 ghost use lib.ListN.{length, getD, take, drop, set, replicate};
 ghost use lib.Seq.{paste};
@@ -142,6 +142,15 @@ pub fn clear(s: &mut [u8], at: usize, count: usize)
 
 // ---- lay
 
+// Two nibbles of ns as one number, the first one low.
+// It is a function of its own so that the compiler makes one read of it, and lays many bytes at once.
+fn two(ns: &[u8], p: usize) -> u16
+    requires { ⌜ (p + 1 < length (now ns)) × Nibbles (now ns) ⌝ }
+    ensures { λ r. ⌜ (r % 256 ≡ getD (now (ns .entry)) p 0) × (r / 256 ≡ getD (now (ns .entry)) (p + 1) 0) × (r % 256 < 16) × (r / 256 < 16) ⌝ }
+{
+    ns[p] as u16 + ns[p + 1] as u16 * 256
+}
+
 // Lays n bytes of the nibbles of ns from j on.
 fn lay_bytes(s: &mut [u8], at: usize, ns: &[u8], j: usize, n: usize)
     requires { ⌜ (at % 2 ≡ 0) × (at + 2 * n ≤ 2 * length (now s)) × (j + 2 * n ≤ length (now ns)) × Nibbles (now ns) ⌝ }
@@ -150,8 +159,8 @@ fn lay_bytes(s: &mut [u8], at: usize, ns: &[u8], j: usize, n: usize)
     let i = at / 2;
     let mut k = 0;
     while k < n {
-        let p = j + 2 * k;
-        s[i + k] = ns[p] * 16 + ns[p + 1];
+        let x = two(ns, j + 2 * k);
+        s[i + k] = (x % 256 * 16 + x / 256) as u8;
         k += 1;
     }
 }

@@ -1,9 +1,9 @@
-use Prim.Native.Nat.{ℕ, _+_, _*_, _-_, _≤_, _<_}
+use Prim.Native.Nat.{ℕ, _+_, _*_, _-_, _≤_}
 use native.Mathlib.Omega.{arith}
 use mathlib.Core.List.{List}
 use mathlib.Core.Path.{_≡_, refl, ap, _∙_}
 use denote.Ref.{now}
-use lib.ListN.{length, getD, drop}
+use lib.ListN.{length, drop}
 use lib.Seq.{paste}
 use borrow.Author.Needs.{needs}
 use Rattle.format.specs.Nibbles.{nibbles}
@@ -20,33 +20,30 @@ abbrev μ-loop : tie.MeasureT-loop
 
 loop-holds : tie.Need-loop-holds Inv-loop μ-loop
 loop-holds c =
-    let a = c .args in
+    let a = c .before .before .args in
     let n₀ : List ℕ = nibbles (now (a .s)) in
     (search needs, refl, paste-none n₀ (a .at) (drop (a .j) (now (a .ns))) (2 * 0) refl)
 
-mul-p : tie.Need-mul-p Inv-loop μ-loop
-mul-p c = search needs
+mul-two : tie.Need-mul-two Inv-loop μ-loop
+mul-two c = search needs
 
-add-p : tie.Need-add-p Inv-loop μ-loop
-add-p c = search needs
+add-two : tie.Need-add-two Inv-loop μ-loop
+add-two c = search needs
 
-shared-slice-read-s : tie.Need-shared-slice-read-s Inv-loop μ-loop
-shared-slice-read-s c = search needs
+two-requires : tie.Need-two-requires Inv-loop μ-loop
+two-requires c κs = search needs
 
 mul-s : tie.Need-mul-s Inv-loop μ-loop
-mul-s c = omega (arith, c .before .before .before .pre .3 (c .before .before .before .args .j + 2 * c .before .before .loop .k))
+mul-s c = search needs
 
 add-s : tie.Need-add-s Inv-loop μ-loop
 add-s c = search needs
 
-shared-slice-read-s-2 : tie.Need-shared-slice-read-s-2 Inv-loop μ-loop
-shared-slice-read-s-2 c = search needs
+cast-s : tie.Need-cast-s Inv-loop μ-loop
+cast-s c = search needs
 
 add-s-2 : tie.Need-add-s-2 Inv-loop μ-loop
-add-s-2 c = omega (arith, c .before .before .before .before .pre .3 (c .before .before .before .before .args .j + 2 * c .before .before .before .loop .k), c .before .before .before .before .pre .3 (c .before .before .before .before .args .j + 2 * c .before .before .before .loop .k + 1))
-
-add-s-3 : tie.Need-add-s-3 Inv-loop μ-loop
-add-s-3 c = search needs
+add-s-2 c = search needs
 
 slice-write-s : tie.Need-slice-write-s Inv-loop μ-loop
 slice-write-s c = search needs
@@ -59,15 +56,11 @@ loop-less c = search needs
 
 loop-again : tie.Need-loop-again Inv-loop μ-loop
 loop-again c =
-    let a = c .before .before .before .before .args in
-    let w = c .before .before .before .loop in
-    let p : ℕ = a .j + 2 * w .k in
-    let x : ℕ = getD (now (a .ns)) p 0 in
-    let y : ℕ = getD (now (a .ns)) (p + 1) 0 in
-    let small : y < 16 = c .before .before .before .before .pre .3 (p + 1) in (
+    let a = c .before .before .before .before .before .args in
+    let w = c .before .before .loop in (
       search needs,
       search needs,
-      byte-turn (now (a .s)) (w .s) (now (a .ns)) (a .at) (a .j) (w .k) (x * 16 + y) (omega arith) (omega arith) (omega arith) (omega arith)
+      byte-turn (now (a .s)) (w .s) (now (a .ns)) (a .at) (a .j) (w .k) _ (omega arith) (omega arith) (omega arith) (omega arith)
           (omega arith) (omega arith) (w .inv .2),
     )
 
@@ -76,7 +69,7 @@ same-length c = search needs
 
 returns : tie.Need-returns Inv-loop μ-loop
 returns c =
-    let a = c .before .before .args in
+    let a = c .before .before .before .before .args in
     let n₀ : List ℕ = nibbles (now (a .s)) in
     let e : 2 * c .before .loop .k ≡ 2 * a .n = omega arith in
     c .before .loop .inv .2 ∙ ap (paste n₀ (a .at) (drop (a .j) (now (a .ns)))) e
@@ -88,14 +81,13 @@ lay-bytes-spec =
     Inv-loop
     μ-loop
     loop-holds
-    mul-p
-    add-p
-    shared-slice-read-s
+    mul-two
+    add-two
+    two-requires
     mul-s
     add-s
-    shared-slice-read-s-2
+    cast-s
     add-s-2
-    add-s-3
     slice-write-s
     add-k
     loop-less
