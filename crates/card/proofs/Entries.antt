@@ -4,14 +4,14 @@ use Prim.Native.Nat.{ℕ, _+_, _-_, _<_}
 use native.Mathlib.Omega.{arith}
 use mathlib.Core.Path.{_≡_, sym, ap, _∙_}
 use mathlib.Core.List.{List}
-use mathlib.Core.Option.{Option, none, some}
+use mathlib.Core.Option.{none, some}
 use lib.ListN.{length, getD}
 use borrow.Author.Tests.{eq-eqb, ne-eqb}
-use Rattle.format.specs.Field.{Field, table, fieldAt, coded, scaledOf, entryOf, entries}
+use Rattle.format.specs.Field.{Field, table, fieldAt, coded, scaledOf, entryOf}
 use Rattle.format.specs.Report.{codesOf}
 use Rattle.format.specs.declared.Coded.{Coded}
-use Rattle.format.specs.declared.Scaled.{Scaled}
 use Rattle.laws.proofs.Fields.{noField, field-at, table-length, length-entries, entries-at}
+use Rattle.card.specs.Answers.{entriesOf}
 use Rattle.card.proofs.Walk.{codes-length}
 
 -- ---- a field's entry
@@ -26,9 +26,6 @@ unfolding entryOf
 entry-there f c n = rw (ne-eqb (c .0) 0 n)
 
 -- the card's entries
-abbrev pub entriesOf : List ℕ → List (Option Scaled)
-entriesOf b = entries table (codesOf b)
-
 pub entries-length : (b : List ℕ) → length (entriesOf b) ≡ 46
 entries-length b = length-entries table (codesOf b) (codes-length b ∙ sym table-length) ∙ table-length
 

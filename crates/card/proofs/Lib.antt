@@ -1,4 +1,5 @@
 pub mod Rows
+pub mod Runs
 pub mod Scale
 pub mod Numbers
 pub mod Walk

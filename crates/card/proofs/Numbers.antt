@@ -74,13 +74,13 @@ tail-same s t bs bt h l e =
     ∙ uniform-back 4 n (tailOf s) [] refl (drop-below 16 75 (nibbles s) (nibbles-lt s bs))
 
 -- a coded number up to the highest has room in its field
-pub code-lt : (k v : ℕ) → 1 ≤ k → k ≤ 46 → v ≤ fieldAt k .highest → v < 2 ^ getD widths k 0
+code-lt : (k v : ℕ) → 1 ≤ k → k ≤ 46 → v ≤ fieldAt k .highest → v < 2 ^ getD widths k 0
 code-lt k v l h hv =
     let e : getD widths k 0 ≡ getD table (k - 1) noField .bits = width-at k l h ∙ ap (λ (f : Field). f .bits) (field-at k) in
     rw e (omega (arith, table-fits (k - 1), ap (λ (f : Field). f .highest) (field-at k)))
 
 -- a write to the bits of number k sets it
-pub carded : (s t : List ℕ) (k v : ℕ) → Bytes s → Bytes t → 38 ≤ length s → k < 49 → v < 2 ^ getD widths k 0
+carded : (s t : List ℕ) (k v : ℕ) → Bytes s → Bytes t → 38 ≤ length s → k < 49 → v < 2 ^ getD widths k 0
     → bitsOf t ≡ splice (bitsOf s) (offset widths k) (bits (getD widths k 0) v) → length t ≡ length s
     → Carded s t (set (numbersOf s) k v)
 carded s t k v bs bt h hk hv written l =

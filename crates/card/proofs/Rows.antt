@@ -3,7 +3,7 @@
 use Prim.Native.Nat.{ℕ, zero, suc, _+_, _/_, _%_, _≤_, _<_}
 use native.Mathlib.Omega.{arith}
 use native.Mathlib.Decide.{ℕ-discrete}
-use mathlib.Core.Path.{_≡_, sym, ap, subst, _∙_}
+use mathlib.Core.Path.{_≡_, refl, sym, ap, subst, _∙_}
 use mathlib.Core.Bool.{Bool, true, _&&_}
 use lib.ListN.{getD}
 use lib.Dec.{T, leb, eqb, eqb→eq, leb→le}
@@ -15,10 +15,10 @@ use Rattle.format.proofs.Test.{left, right}
 use Rattle.format.proofs.Table.{eqZ}
 use Rattle.laws.proofs.Fields.{width-at}
 use Rattle.bits.specs.Window.{TwoBytes}
-use Rattle.card.specs.Rows.{rows, baseOf, fieldIn, Row}
+use Rattle.card.specs.Rows.{rows, baseOf, fieldIn, Row, RowAt}
 
 -- k is none of the numbers 1 to n, as a `match` on k hands it to its last arm
-abbrev pub None : ℕ → ℕ → Type 0
+abbrev None : ℕ → ℕ → Type 0
 None zero k = Unit {0}
 None (suc n) k = None n k × (k ≡ suc n → ⊥)
 
@@ -86,6 +86,16 @@ field-row k r w l h =
     let b : r / 268435456 % 16 ≡ fieldAt k .bits = w .bits ∙ width-at k l h in
     λ i. record { highest = w .highest i; base = w .base i; bits = b i }
 
--- and the two bytes that it lies within
+-- the row of the field at place i
+pub row-listed : (i : ℕ) → i < 46 → RowAt i (getD rows (i + 1) 0)
+row-listed i h = record { place = h; row = refl }
+
+pub row-here : (i r : ℕ) → RowAt i r → Row (i + 1) r
+row-here i r w = subst (λ (x : ℕ). Row (i + 1) x) (sym (w .row)) (row-is (i + 1) (omega arith) (omega (arith, w .place)))
+
+pub field-here : (i r : ℕ) → RowAt i r → fieldIn r ≡ fieldAt (i + 1)
+field-here i r w = field-row (i + 1) r (row-here i r w) (omega arith) (omega (arith, w .place))
+
+-- the two bytes that a row lies within
 pub row-window : (k r n : ℕ) → Row k r → 38 ≤ n → TwoBytes n (r / 4294967296) (r / 268435456 % 16)
 row-window k r n w h = rw (w .place, w .bits) (record { room = omega (arith, w .room); within = w .within })

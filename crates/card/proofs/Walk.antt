@@ -18,9 +18,9 @@ use Rattle.format.specs.Report.{numbersOf, codesOf, fieldChecks}
 use Rattle.laws.proofs.Bits.{total-step, total-end}
 use Rattle.laws.proofs.Card.{numbers-length}
 use Rattle.laws.proofs.Fields.{noField, field-at, table-length, fieldRefusal, checks-at}
-use Rattle.card.specs.Answers.{checkedOf, cardCheck}
+use Rattle.card.specs.Answers.{fieldsCheckOf, fieldsCheck}
 use Rattle.card.specs.Walk.{refusalOf}
-use Rattle.card.specs.declared.CardCheck.the-variants.{Refused, Sum}
+use Rattle.card.specs.declared.FieldsCheck.the-variants.{Refused, Sum}
 
 -- ---- the coded fields from place i on
 
@@ -41,7 +41,7 @@ left-end b = ap (λ (fs : List Field). first (fieldChecks 47 fs (drop 46 (codesO
 pub rest-end : (b : List ℕ) → rest b 46 ≡ 0
 rest-end b = total-end (codesOf b) 46 (rw codes-length (omega arith))
 
-pub left-step : (b : List ℕ) (i : ℕ) → i < 46 → left b i ≡ fieldRefusal (suc i) (getD table i noField) (getD (codesOf b) i 0) (left b (suc i))
+left-step : (b : List ℕ) (i : ℕ) → i < 46 → left b i ≡ fieldRefusal (suc i) (getD table i noField) (getD (codesOf b) i 0) (left b (suc i))
 left-step b i h = checks-at (suc i) table (codesOf b) i (rw table-length h) (rw codes-length h)
 
 pub rest-step : (b : List ℕ) (i : ℕ) → i < 46 → rest b i ≡ getD (codesOf b) i 0 + rest b (suc i)
@@ -96,22 +96,22 @@ module _ (b : List ℕ) (i n : ℕ) (h : i < 46) (e : n ≡ refusalOf (suc i) (g
       (field-at (suc i) ∙ ap (λ (m : ℕ). getD table m noField) q)
 
   -- it is the first
-  pub walk-refused : (n ≡ 0 → ⊥) → left b i ≡ left b 0 → Refused n (i + 1) ≡ cardCheck b
-  unfolding cardCheck above missing
+  pub walk-refused : (n ≡ 0 → ⊥) → left b i ≡ left b 0 → Refused n (i + 1) ≡ fieldsCheck b
+  unfolding fieldsCheck above missing
   walk-refused z all =
       let f : left b 0 ≡ some (record { number = n; place = suc i }) =
       sym all ∙ left-step b i h ∙ refused above missing (suc i) (left b (suc i)) (λ x. z (turn-is ∙ x))
       ∙ ap (λ (m : ℕ). some (record { number = m; place = suc i })) (sym turn-is) in
-      rw add-one (sym (ap (λ (r : Option Refusal). checkedOf r (total (codesOf b))) f))
+      rw add-one (sym (ap (λ (r : Option Refusal). fieldsCheckOf r (total (codesOf b))) f))
 
   -- or there is none
   pub walk-passed : n ≡ 0 → left b i ≡ left b (suc i)
   unfolding above missing
   walk-passed z = left-step b i h ∙ passed above missing (suc i) (left b (suc i)) (sym turn-is ∙ z)
 
-pub walk-end : (b : List ℕ) (i sum : ℕ) → i ≡ 46 → left b i ≡ left b 0 → sum + rest b i ≡ rest b 0 → Sum sum ≡ cardCheck b
-unfolding cardCheck
+pub walk-end : (b : List ℕ) (i sum : ℕ) → i ≡ 46 → left b i ≡ left b 0 → sum + rest b i ≡ rest b 0 → Sum sum ≡ fieldsCheck b
+unfolding fieldsCheck
 walk-end b i sum e all whole =
     let f : left b 0 ≡ none = sym all ∙ ap (left b) e ∙ left-end b in
     let t : sum ≡ total (codesOf b) = omega (arith, ap (rest b) e, rest-end b) in
-    ap₂ (λ (n : ℕ) (r : Option Refusal). checkedOf r n) t (sym f)
+    ap₂ (λ (n : ℕ) (r : Option Refusal). fieldsCheckOf r n) t (sym f)

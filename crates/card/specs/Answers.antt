@@ -5,24 +5,27 @@ use mathlib.Core.Bool.{cond}
 use mathlib.Core.List.{List}
 use mathlib.Core.Option.{Option, none, some}
 use lib.ListN.{length}
-use lib.Seq.{paste}
 use Rattle.format.specs.Order.{Refusal, first}
-use Rattle.format.specs.Field.{Field, table, inRange, codedOf}
+use Rattle.format.specs.Field.{Field, table, entries, inRange, codedOf}
 use Rattle.format.specs.Bits.{total}
 use Rattle.format.specs.Report.{numbersOf, codesOf, tailOf, fieldChecks}
 use Rattle.format.specs.declared.Scaled.{Scaled}
-use Rattle.card.specs.declared.CardCheck.{CardCheck}
-use Rattle.card.specs.declared.CardCheck.the-variants.{Refused, Sum}
+use Rattle.card.specs.declared.FieldsCheck.{FieldsCheck}
+use Rattle.card.specs.declared.FieldsCheck.the-variants.{Refused, Sum}
 use Rattle.card.specs.declared.Coding.{Coding}
 use Rattle.card.specs.declared.Coding.the-variants.{Outside, Code}
 
--- the first refusal of a field, 2 or 3, or the sum of the coded fields
-abbrev pub checkedOf : Option Refusal → ℕ → CardCheck
-checkedOf (some r) sum = Refused (r .number) (r .place)
-checkedOf none sum = Sum sum
+-- the entries that a card shows
+abbrev pub entriesOf : List ℕ → List (Option Scaled)
+entriesOf b = entries table (codesOf b)
 
-unfoldable pub cardCheck : List ℕ → CardCheck
-cardCheck b = checkedOf (first (fieldChecks 1 table (codesOf b))) (total (codesOf b))
+-- the first refusal of a field, 2 or 3, or the sum of the coded fields
+abbrev pub fieldsCheckOf : Option Refusal → ℕ → FieldsCheck
+fieldsCheckOf (some r) sum = Refused (r .number) (r .place)
+fieldsCheckOf none sum = Sum sum
+
+unfoldable pub fieldsCheck : List ℕ → FieldsCheck
+fieldsCheck b = fieldsCheckOf (first (fieldChecks 1 table (codesOf b))) (total (codesOf b))
 
 -- the coded number of a value, or that it is out of range
 unfoldable pub codingOf : Field → Scaled → Coding
@@ -33,7 +36,3 @@ pub record Carded (before after numbers : List ℕ) : Type 0 where
   pub card : numbersOf after ≡ numbers
   pub behind : tailOf after ≡ tailOf before
   pub long : length after ≡ length before
-
--- the card's numbers with the first n of these coded fields
-abbrev pub fielded : List ℕ → List ℕ → ℕ → List ℕ
-fielded numbers cs n = paste numbers 1 cs n

@@ -1,5 +1,5 @@
 -- The rows: what the code knows of a field, as one number.
-use Prim.Native.Nat.{ℕ, _+_, _/_, _%_, _≤_}
+use Prim.Native.Nat.{ℕ, _+_, _/_, _%_, _≤_, _<_}
 use mathlib.Core.Path.{_≡_}
 use mathlib.Core.List.{List, [], _∷_}
 use lib.ListN.{getD}
@@ -76,3 +76,14 @@ pub record Row (k r : ℕ) : Type 0 where
   pub base : baseOf r ≡ fieldAt k .base
   pub room : offset widths k / 8 + 2 ≤ 38
   pub within : offset widths k % 8 + getD widths k 0 ≤ 16
+
+-- r is the row of the field at place i
+pub record RowAt (i r : ℕ) : Type 0 where
+  pub place : i < 46
+  pub row : r ≡ getD rows (i + 1) 0
+
+-- and of the two fields behind it
+pub record RowsAt (i r1 r2 r3 : ℕ) : Type 0 where
+  pub first : RowAt i r1
+  pub second : RowAt (i + 1) r2
+  pub third : RowAt (i + 2) r3

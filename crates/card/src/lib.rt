@@ -3,18 +3,19 @@ ghost use mathlib.Core.Path.{_≡_};
 ghost use mathlib.Core.Bool.{true, false};
 ghost use Prim.Native.Nat.{_+_, _-_, _*_, _/_, _%_, _≤_, _<_, _^_};
 ghost use lib.ListN.{length, getD, set};
+ghost use lib.Dec.{eqb};
 ghost use Rattle.format.specs.Bits.{bits, bitsOf, bitField, splice};
 ghost use Rattle.format.specs.Field.{fieldAt, required, scaledOf};
 ghost use Rattle.format.specs.Report.{numbersOf, rptinOf, codesOf, checksumOf, countOf};
 ghost use Rattle.bits.specs.Window.{TwoBytes};
-ghost use Rattle.card.specs.Answers.{cardCheck, codingOf, Carded};
+ghost use Rattle.card.specs.Answers.{fieldsCheck, codingOf, Carded};
 ghost use Rattle.card.specs.Rows.{rows, baseOf, fieldIn, Row};
 ghost use Rattle.card.specs.Walk.{refusalOf};
 use format::Coded;
 use format::Scaled;
 
 // What checking the fields answers: the first refusal's number and field, or the sum of the coded fields.
-pub enum CardCheck {
+pub enum FieldsCheck {
     Refused(u8, usize),
     Sum(u64),
 }
@@ -200,6 +201,14 @@ pub fn code(s: &[u8], k: usize) -> Coded
     code_in(s, row(k))
 }
 
+// Whether a coded number is that of a missing field.
+pub fn is_missing(c: Coded) -> bool
+    ensures { λ r. ⌜ r ≡ eqb (c .0) 0 ⌝ }
+{
+    let x = c.0;
+    x == 0
+}
+
 pub fn rptin(s: &[u8]) -> u16
     requires { ⌜ 38 ≤ length (now s) ⌝ }
     ensures { λ r. ⌜ r ≡ rptinOf (now (s .entry)) ⌝ }
@@ -301,19 +310,12 @@ pub fn store(s: &mut [u8], k: usize, c: Coded)
     store_in(s, row(k), c);
 }
 
-// The checksum of a sum of coded fields.
-pub fn checksum_of(sum: u64) -> u64
-    ensures { λ r. ⌜ (r ≡ sum % 255) × (r < 255) ⌝ }
-{
-    sum % 255
-}
-
 // Writes the checksum of a sum of coded fields.
 pub fn seal(s: &mut [u8], sum: u64)
     requires { ⌜ 38 ≤ length (now s) ⌝ }
     ensures { λ _. ⌜ Carded (now (s .entry)) (now (s .exit)) (set (numbersOf (now (s .entry))) 47 (sum % 255)) ⌝ }
 {
-    bits::write(s, 282, 14, checksum_of(sum));
+    bits::write(s, 282, 14, sum % 255);
 }
 
 pub fn set_count(s: &mut [u8], n: usize)
@@ -349,9 +351,9 @@ fn refusal(k: usize, c: Coded) -> u8
 }
 
 // Checks field after field.
-pub fn check(s: &[u8]) -> CardCheck
+pub fn check(s: &[u8]) -> FieldsCheck
     requires { ⌜ 38 ≤ length (now s) ⌝ }
-    ensures { λ r. ⌜ r ≡ cardCheck (now (s .entry)) ⌝ }
+    ensures { λ r. ⌜ r ≡ fieldsCheck (now (s .entry)) ⌝ }
 {
     let mut sum = 0;
     let mut i = 0;
@@ -360,11 +362,11 @@ pub fn check(s: &[u8]) -> CardCheck
         let c = code(s, k);
         let n = refusal(k, c);
         if n != 0 {
-            return CardCheck::Refused(n, k);
+            return FieldsCheck::Refused(n, k);
         }
         let x = c.0;
         sum += x as u64;
         i = k;
     }
-    CardCheck::Sum(sum)
+    FieldsCheck::Sum(sum)
 }

@@ -21,8 +21,8 @@ use Rattle.laws.proofs.Lists.{test-case}
 use Rattle.card.proofs.Numbers.{number-at, code-at}
 use Rattle.card.proofs.Walk as turns
 use Rattle.card.specs.Walk.{refusalOf}
-use Rattle.card.specs.Answers as walk
-use Rattle.card.specs.declared.CardCheck as walked
+use Rattle.card.specs.Answers.{fieldsCheckOf, fieldsCheck}
+use Rattle.card.specs.declared.FieldsCheck.{FieldsCheck}
 use Rattle.checks.specs.Answers.{checkedOf, cardCheck}
 use Rattle.checks.specs.Parts.{Part, Run, runA, runB, runC, runD, runE, partAt, picked, laid, even, tops, needed, Passed, AllPassed, placed, kept, atPlace, summed}
 use Rattle.checks.specs.declared.CardCheck.{CardCheck}
@@ -226,14 +226,14 @@ module _ (s : List ℕ) (h : 38 ≤ length s) (a b c d e : ℕ)
 
 -- ---- what the walk answers
 
-abbrev pub answered : walked.CardCheck → CardCheck
-answered (walked.the-variants.Refused n k) = Refused n k
-answered (walked.the-variants.Sum n) = Checksum (n % 255)
+abbrev pub answered : FieldsCheck → CardCheck
+answered (FieldsCheck.Refused n k) = Refused n k
+answered (FieldsCheck.Sum n) = Checksum (n % 255)
 
-pub walk-answered : (s : List ℕ) (f : walked.CardCheck) → f ≡ walk.cardCheck s → answered f ≡ cardCheck s
-unfolding walk.cardCheck cardCheck checksum
+pub walk-answered : (s : List ℕ) (f : FieldsCheck) → f ≡ fieldsCheck s → answered f ≡ cardCheck s
+unfolding fieldsCheck cardCheck checksum
 walk-answered s f e = ap answered e ∙ go (first (fieldChecks 1 table (codesOf s)))
   where
-    go : (r : Option Refusal) → answered (walk.checkedOf r (total (codesOf s))) ≡ checkedOf r (total (codesOf s) % 255)
+    go : (r : Option Refusal) → answered (fieldsCheckOf r (total (codesOf s))) ≡ checkedOf r (total (codesOf s) % 255)
     go (some r) = refl
     go none = refl

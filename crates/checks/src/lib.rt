@@ -174,7 +174,7 @@ pub fn check(s: &[u8]) -> CardCheck
     }
     let f = card::check(s);
     match f {
-        card::CardCheck::Refused(n, k) => CardCheck::Refused(n, k),
-        card::CardCheck::Sum(sum) => CardCheck::Checksum(sum % 255),
+        card::FieldsCheck::Refused(n, k) => CardCheck::Refused(n, k),
+        card::FieldsCheck::Sum(sum) => CardCheck::Checksum(sum % 255),
     }
 }

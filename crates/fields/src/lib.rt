@@ -3,7 +3,6 @@ ghost use mathlib.Core.Path.{_≡_};
 ghost use mathlib.Core.List.{[]};
 ghost use Prim.Native.Nat.{_+_, _-_, _*_, _≤_, _<_, _^_};
 ghost use lib.ListN.{length, getD};
-ghost use lib.Dec.{eqb};
 ghost use Rattle.format.specs.Order.{between};
 ghost use Rattle.format.specs.Field.{fieldAt};
 ghost use Rattle.format.specs.Report.{codesOf};
@@ -33,14 +32,6 @@ fn within(low: usize, high: usize, x: usize) -> bool
 
 // ---- fields
 
-// Whether a coded number is that of a missing field.
-fn is_missing(c: Coded) -> bool
-    ensures { λ r. ⌜ r ≡ eqb (c .0) 0 ⌝ }
-{
-    let x = c.0;
-    x == 0
-}
-
 // The value of field k of an accepted report.
 fn field_of(s: &[u8], k: usize) -> Reply
     requires { ⌜ Accepted (now s) ⌝ }
@@ -51,7 +42,7 @@ fn field_of(s: &[u8], k: usize) -> Reply
     }
     let row = card::row(k);
     let c = card::code_in(&*s, row);
-    if is_missing(c) {
+    if card::is_missing(c) {
         return Reply::Missing;
     }
     Reply::Value(card::scaled_in(row, c))

@@ -8,7 +8,7 @@ use mathlib.Core.List.{List, [], _∷_, _++_}
 use lib.ListN.{length, set, length-append, length-set}
 use lib.Seq.{sets, length-sets}
 use Rattle.format.specs.Machine.{over}
-use Rattle.text.proofs.Stores.{stores, stores-over}
+use Rattle.laws.proofs.Stores.{stores, stores-over}
 use Rattle.listing.specs.Lines.{Room, Puts}
 
 module _ (d o : List ℕ) (at : ℕ) (xs : List ℕ) (e : ℕ) (p : Puts d o at xs e) where

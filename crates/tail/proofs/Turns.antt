@@ -32,7 +32,7 @@ use Rattle.tail.proofs.Mask.{Marks, marks-none, marks-more, mask-grows,
 use Rattle.tail.proofs.Checks.{look-checks, passes, passed-small}
 
 -- where attachments that begin at a place end; the place and AL of an id: those found, or else those to come
-abbrev pub tailBehind : Bool → ℕ → ℕ → ℕ → ℕ → List Attachment → Tail
+abbrev tailBehind : Bool → ℕ → ℕ → ℕ → ℕ → List Attachment → Tail
 tailBehind found place al at want list = record {
   end = at + length (tailNibbles list);
   place = cond found place (placeOf at want list);

@@ -19,7 +19,7 @@ use Rattle.text.specs.declared.Code.{Code}
 use Rattle.text.specs.Rows.{place, next}
 use Rattle.text.specs.Codes.{codeAt, Begins}
 use Rattle.text.proofs.Rows.{place-step, place-bound, place-end}
-use Rattle.text.proofs.Stores.{stores, stores-length, stores-over}
+use Rattle.laws.proofs.Stores.{stores, stores-length, stores-over}
 use Rattle.text.proofs.Reading.{Taken, taken, held, end-held, held-given, held-credit}
 
 -- ---- i nibbles from a place on

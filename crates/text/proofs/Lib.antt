@@ -1,7 +1,6 @@
 pub mod Codes
 pub mod Steps
 pub mod Rows
-pub mod Stores
 pub mod Reading
 pub mod Bodies
 pub mod Texts

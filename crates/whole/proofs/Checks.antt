@@ -13,10 +13,10 @@ use Rattle.format.specs.Order.{Refusal, first}
 use Rattle.format.specs.Field.{Field, table, required, scaled, inRange}
 use Rattle.format.specs.Whole.{bitAt, packChecks}
 use Rattle.laws.proofs.Fields.{noField, table-length}
+use Rattle.card.specs.Runs.{sumRun}
 use Rattle.card.proofs.Entries.{field-is}
-use Rattle.values.specs.Runs.{sumRun}
-use Rattle.values.specs.Given.{refusalOf, refusalAt}
-use Rattle.values.proofs.Runs.{sum-zero}
+use Rattle.card.proofs.Runs.{sum-zero}
+use Rattle.write_values.specs.Given.{refusalOf, refusalAt}
 use Rattle.whole.specs.Steps.{checkedBy, fieldsChecked}
 use Rattle.whole.specs.declared.Checked.{Checked}
 

@@ -29,8 +29,7 @@ use Rattle.laws.proofs.Laid.{layout-is}
 use Rattle.laws.proofs.Whole.{fresh-size}
 use Rattle.card.specs.Answers.{Carded, codingOf}
 use Rattle.card.specs.declared.Coding.the-variants.{Outside, Code}
-use Rattle.card.proofs.Given.{coding-outside, coding-code}
-use Rattle.values.proofs.Tests.{coding-inside}
+use Rattle.card.proofs.Given.{coding-outside, coding-inside, coding-code}
 use Rattle.whole.specs.Answers.{refusal}
 use Rattle.whole.specs.Steps.{CodeOrZero, FiveFit, fiveCodes, fiveNumbers, cleared}
 use Rattle.whole.proofs.Outcomes.{over-layout}

@@ -25,7 +25,7 @@ use Rattle.tail.specs.declared.Walked.{Walked}
 use Rattle.tail.proofs.Turns.{walked-refused, walked-ended}
 use Rattle.nibble.specs.declared.Cursor.{Cursor}
 use Rattle.card.specs.Answers.{Carded}
-use Rattle.values.specs.Given.{given}
+use Rattle.write_values.specs.Given.{given}
 use Rattle.laws.proofs.Order.{first-skip, first-fits, first-append-skip, first-append-some}
 use Rattle.format.specs.Bits.{Bytes}
 use Rattle.laws.proofs.Nibbles.{length-nibbles}

@@ -68,7 +68,7 @@ fn give(s: &[u8], r: Report, values: &mut [i64], tail: &mut [u8]) -> Unpacked
     if tail.len() < n {
         return Unpacked::Refused(13, 0);
     }
-    let presence = values::show(s, values);
+    let presence = read_values::show(s, values);
     shift::fetch(s, 75, n, tail);
     Unpacked::Given(Contents {
         word: presence,
@@ -101,7 +101,7 @@ fn walk_fields(values: &[i64], word: u64) -> Checked
     let mut i = 0;
     while i < 46 {
         let k = i + 1;
-        let n = values::refusal(k, card::row(k), word, values[i]);
+        let n = write_values::refusal(k, card::row(k), word, values[i]);
         if n != 0 {
             return Checked::Refused(n, k);
         }
@@ -115,7 +115,7 @@ fn check_fields(values: &[i64], word: u64) -> Checked
     requires { ⌜ 46 ≤ length (now values) ⌝ }
     ensures { λ r. ⌜ r ≡ fieldsChecked (now (values .entry)) word ⌝ }
 {
-    if values::refusals(values, word) == 0 {
+    if write_values::refusals(values, word) == 0 {
         return Checked::Passed;
     }
     walk_fields(values, word)
@@ -144,7 +144,7 @@ fn write(values: &[i64], word: u64, rptin: u16, tail: &[u8], count: usize, out: 
     }
     shift::lay(out, 75, tail);
     pad(out, n);
-    values::write(out, rptin, values, word, count);
+    write_values::write(out, rptin, values, word, count);
     Packed::Written(size)
 }
 

@@ -14,7 +14,7 @@ use Rattle.laws.proofs.Lists.{cond-case}
 use Rattle.laws.proofs.ShipText.{piece, waiting, write-byte}
 use Rattle.writer.specs.Answers.{writtenOf, Writes}
 use Rattle.writer.specs.declared.Written.the-variants.{Fits, TooLong}
-use Rattle.text.proofs.Stores.{stores, stores-length, stores-over}
+use Rattle.laws.proofs.Stores.{stores, stores-length, stores-over}
 
 -- ---- one byte
 

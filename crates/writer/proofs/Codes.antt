@@ -12,7 +12,7 @@ use lib.Dec.{ltb}
 use borrow.Author.Tests.{lt-ltb, le-ltb, ltb-true, ltb-false}
 use Rattle.format.specs.ShipText.{charCode, codeNibbles}
 use Rattle.laws.proofs.Lists.{test-case}
-use Rattle.text.proofs.Stores.{store-one, store-two, code-one, code-two}
+use Rattle.laws.proofs.Stores.{store-one, store-two, code-one, code-two}
 use Rattle.writer.specs.Codes.{spelled, Short}
 
 pub short-none : (b : ℕ) → Short b 0xff00

@@ -160,10 +160,10 @@ fn put_char(out: &mut [u8], at: usize, b: u8) -> usize
     put_code(out, at, text::char_code(b))
 }
 
-pub struct Placed {
-    pub at: usize,
+struct Placed {
+    at: usize,
     // The spaces that wait.
-    pub waiting: usize,
+    waiting: usize,
 }
 
 // Takes a byte of the text behind s spaces.

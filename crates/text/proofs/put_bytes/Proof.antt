@@ -5,7 +5,7 @@ use native.Mathlib.Omega.{arith}
 use mathlib.Core.Path.{_≡_, refl}
 use lib.Seq.{sets}
 use lib.ListN.{replicate, length-set}
-use Rattle.text.proofs.Stores.{stores-length, byte-one, bytes-more, bytes-end}
+use Rattle.laws.proofs.Stores.{stores-length, byte-one, bytes-more, bytes-end}
 use Rattle.text.proofs.put_bytes.Statement.{statement}
 use Rattle.text.proofs.put_bytes.Tie as tie
 

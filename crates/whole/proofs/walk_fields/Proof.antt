@@ -9,7 +9,7 @@ use lib.IntN.{ℤ, pos}
 use denote.Ref.{now}
 use mir.Syntax.{w64}
 use mir.ValLaws.{toZ-ofZ}
-use Rattle.values.specs.Given.{refusalOf}
+use Rattle.write_values.specs.Given.{refusalOf}
 use Rattle.whole.proofs.Checks.{left, field-refused, field-passed, fields-passed}
 use borrow.Author.Needs.{needs}
 use Rattle.whole.proofs.walk_fields.Statement.{statement}

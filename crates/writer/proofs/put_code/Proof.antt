@@ -3,7 +3,7 @@
 use Prim.{tt}
 use native.Mathlib.Omega.{arith}
 use borrow.Author.Needs.{needs}
-use Rattle.text.proofs.Stores.{store-one, store-two, store-three, code-one, code-two, code-three}
+use Rattle.laws.proofs.Stores.{store-one, store-two, store-three, code-one, code-two, code-three}
 use Rattle.writer.proofs.put_code.Statement.{statement}
 use Rattle.writer.proofs.put_code.Tie as tie
 

@@ -7,7 +7,7 @@ use mathlib.Core.Path.{_≡_}
 use lib.Seq.{sets}
 use borrow.Author.Needs.{needs}
 use Rattle.format.specs.ShipText.{fulls}
-use Rattle.text.proofs.Stores.{stores-length, fulls-none, fulls-turn, fulls-end}
+use Rattle.laws.proofs.Stores.{stores-length, fulls-none, fulls-turn, fulls-end}
 use Rattle.writer.proofs.put_fulls.Statement.{statement}
 use Rattle.writer.proofs.put_fulls.Tie as tie
 

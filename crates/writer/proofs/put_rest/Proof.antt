@@ -5,7 +5,7 @@ use native.Mathlib.Omega.{arith}
 use mathlib.Core.Path.{ap}
 use borrow.Author.Needs.{needs}
 use Rattle.format.specs.ShipText.{rest}
-use Rattle.text.proofs.Stores.{store-none, store-one, store-two, rest-is}
+use Rattle.laws.proofs.Stores.{store-none, store-one, store-two, rest-is}
 use Rattle.writer.proofs.put_rest.Statement.{statement}
 use Rattle.writer.proofs.put_rest.Tie as tie
 

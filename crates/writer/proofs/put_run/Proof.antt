@@ -3,7 +3,7 @@
 use mathlib.Core.Path.{ap}
 use borrow.Author.Needs.{needs}
 use Rattle.format.specs.ShipText.{fulls, rest, spaceRun}
-use Rattle.text.proofs.Stores.{store-none, run-stored}
+use Rattle.laws.proofs.Stores.{store-none, run-stored}
 use Rattle.writer.proofs.put_run.Statement.{statement}
 use Rattle.writer.proofs.put_run.Tie as tie
 

@@ -1,4 +1,0 @@
-pub mod Runs
-pub mod Shown
-pub mod Given
-pub mod Tests

@@ -1,0 +1,46 @@
+-- `write_values::write_1_to_10` meets its contract: one run after the other.
+-- Assumes nothing.
+use native.Mathlib.Omega.{arith}
+use Rattle.card.proofs.Rows.{row-listed}
+use Rattle.write_values.proofs.Given.{wrote-then}
+use borrow.Author.Needs.{needs}
+use Rattle.write_values.proofs.write_1_to_10.Statement.{statement}
+use Rattle.write_values.proofs.write_1_to_10.Tie as tie
+
+write-two-requires : tie.Need-write-two-requires
+write-two-requires c κs = (search needs, search needs, search needs, row-listed 0 (omega arith), row-listed 1 (omega arith))
+
+write-two-requires-2 : tie.Need-write-two-requires-2
+write-two-requires-2 c κs = (search needs, search needs, search needs, row-listed 2 (omega arith), row-listed 3 (omega arith))
+
+write-two-requires-3 : tie.Need-write-two-requires-3
+write-two-requires-3 c κs = (search needs, search needs, search needs, row-listed 4 (omega arith), row-listed 5 (omega arith))
+
+write-two-requires-4 : tie.Need-write-two-requires-4
+write-two-requires-4 c κs = (search needs, search needs, search needs, row-listed 6 (omega arith), row-listed 7 (omega arith))
+
+write-two-requires-5 : tie.Need-write-two-requires-5
+write-two-requires-5 c κs = (search needs, search needs, search needs, row-listed 8 (omega arith), row-listed 9 (omega arith))
+
+returns : tie.Need-returns
+returns c =
+    let r1 = c .before .before .before .before .before .before .before .before .before .before .before .before .before .before .before .before .before .before .write-two .ensures in
+    let r2 = wrote-then r1 (c .before .before .before .before .before .before .before .before .before .before .before .before .before .before .write-two2 .ensures) in
+    let r3 = wrote-then r2 (c .before .before .before .before .before .before .before .before .before .before .write-two3 .ensures) in
+    let r4 = wrote-then r3 (c .before .before .before .before .before .before .write-two4 .ensures) in
+    wrote-then r4 (c .before .before .write-two5 .ensures)
+
+same-length : tie.Need-same-length
+same-length c = returns c .long
+
+pub write-1-to-10-spec : {M : Type 1} → statement M
+write-1-to-10-spec =
+    tie.close
+    (tie.spec
+    write-two-requires
+    write-two-requires-2
+    write-two-requires-3
+    write-two-requires-4
+    write-two-requires-5
+    same-length
+    returns)
