@@ -27,6 +27,14 @@ module _ (f : Field) (v : Scaled) where
       go true e = let z : _≡_ {A = ℕ} 0 1 = cc in absurd (omega arith)
       go false e = refl
 
+  pub coding-inside : (c : Coded) → Code c ≡ codingOf f v → inRange f v ≡ true
+  unfolding codingOf
+  coding-inside c = go (inRange f v)
+    where
+      go : (t : Bool) → Code c ≡ cond t (Code (codedOf f v)) Outside → t ≡ true
+      go true e = refl
+      go false e = let z : _≡_ {A = ℕ} 0 1 = cc in absurd (omega arith)
+
   pub coding-code : (c : Coded) → Code c ≡ codingOf f v → (c ≡ codedOf f v) × (c .0 ≤ f .highest)
   unfolding codingOf
   coding-code c = go (inRange f v) refl

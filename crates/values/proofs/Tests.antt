@@ -5,22 +5,9 @@ use native.Mathlib.Omega.{arith}
 use mathlib.Core.Path.{_≡_, refl}
 use mathlib.Core.Bool.{Bool, true, false, cond, not, _&&_}
 use lib.IntN.{ℤ}
-use Rattle.format.specs.Field.{Field, fieldAt, required, scaled, inRange, codedOf}
+use Rattle.format.specs.Field.{fieldAt, required, scaled, inRange}
 use Rattle.format.specs.Whole.{bitAt}
-use Rattle.format.specs.declared.Coded.{Coded}
-use Rattle.format.specs.declared.Scaled.{Scaled}
-use Rattle.card.specs.Answers.{codingOf}
-use Rattle.card.specs.declared.Coding.{Coding}
 use Rattle.values.specs.Given.{refusalOf}
-
--- a value that has a coded number is in range
-pub coding-inside : (f : Field) (v : Scaled) (c : Coded) → Coding.Code c ≡ codingOf f v → inRange f v ≡ true
-unfolding codingOf
-coding-inside f v c = go (inRange f v)
-  where
-    go : (t : Bool) → Coding.Code c ≡ cond t (Coding.Code (codedOf f v)) Coding.Outside → t ≡ true
-    go true e = refl
-    go false e = let z : _≡_ {A = ℕ} 0 1 = cc in absurd (omega arith)
 
 and-false : (t : Bool) → t && false ≡ false
 and-false true = refl

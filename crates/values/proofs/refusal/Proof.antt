@@ -12,8 +12,8 @@ use Rattle.format.specs.Field.{Field, fieldAt, scaled}
 use Rattle.format.specs.Whole.{bitAt}
 use Rattle.card.specs.Answers.{codingOf}
 use Rattle.card.proofs.Rows.{field-row}
-use Rattle.card.proofs.Given.{coding-outside}
-use Rattle.values.proofs.Tests.{coding-inside, refusal-missing, refusal-absent, refusal-outside, refusal-fine}
+use Rattle.card.proofs.Given.{coding-outside, coding-inside}
+use Rattle.values.proofs.Tests.{refusal-missing, refusal-absent, refusal-outside, refusal-fine}
 use borrow.Author.Needs.{needs}
 use Rattle.values.proofs.refusal.Statement.{statement}
 use Rattle.values.proofs.refusal.Tie as tie
