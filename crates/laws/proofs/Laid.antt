@@ -14,7 +14,7 @@ use Rattle.format.specs.Bits.{readFields, writeFields, total, Bytes}
 use Rattle.format.specs.Nibbles.{Attachment, nibbles, odd, tailNibbles, Nibbles}
 use Rattle.format.specs.Sheet.{Sheet, widths, checksum, cardNumbers, cardNibbles, packing, size}
 use Rattle.format.specs.Report.{numbersOf, tailOf, Verdict, judge}
-use Rattle.format.specs.Machine.{withValue, withAttachments}
+use Rattle.format.specs.Machine.{withValue, withAttachments, over}
 use Rattle.format.specs.Buffer.{zeros, layout}
 use Rattle.format.specs.declared.Scaled.{Scaled}
 use Rattle.laws.proofs.Bits.{append-below}
@@ -85,6 +85,14 @@ module _ (b : List ℕ) (e : ℕ) (s : Sheet) (lt : Nibbles (tailNibbles (s .att
       ≡ tailNibbles (s .attachments) ++ (zeros (2 * max e (size s) - (75 + length (tailNibbles (s .attachments)))) ++ drop (2 * max e (size s)) (nibbles b))
   unfolding cardNibbles
   tail-laid = ap (drop 75) nibbles-layout ∙ drop-at (cardNibbles s) _ 75 (card-length (cardNumbers s))
+
+-- a layout with nothing to clear
+pub over-layout : (b : List ℕ) (s : Sheet) → layout b 0 s ≡ over (packing s) b
+unfolding layout
+over-layout b s =
+    let a : 0 - size s ≡ 0 = omega arith in
+    let m : max 0 (size s) ≡ size s = omega arith in
+    ap₂ (λ (x y : ℕ). packing s ++ (zeros x ++ drop y b)) a m
 
 -- an accepted report, behind its card
 pub tail-taken : (b : List ℕ) (s : Sheet) → Bytes b → judge b ≡ Verdict.accepted s

@@ -21,7 +21,7 @@ use Rattle.format.specs.ShipText.{textStep, stateAfter, endFrom, atEnd, textVal
 use Rattle.format.specs.Sheet.{Sheet, packing, size}
 use Rattle.format.specs.Report.{bodyValid, attachmentChecks, Verdict, judge}
 use Rattle.format.specs.Machine.{Answer, valueCheck, withAttachments, allNibbles, over}
-use Rattle.format.specs.Whole.{masked, contents, freshSheet, valueOrZero, isPresent, presence, countPresent, tail, unpacked, unpackGives, unpackChecks, unpackedBy, unpack, bitAt, bitOutside, packChecks, entriesGiven, countIn, packSheet, packOrder, pack}
+use Rattle.format.specs.Whole.{wroteBy, masked, contents, freshSheet, valueOrZero, isPresent, presence, countPresent, tail, unpacked, unpackGives, unpackChecks, unpackedBy, unpack, bitAt, bitOutside, packChecks, entriesGiven, countIn, packSheet, packOrder, pack}
 use Rattle.format.specs.declared.Scaled.{Scaled}
 use Rattle.laws.proofs.Lists.{true-false, cond-case}
 use Rattle.laws.proofs.Order.{first-nil, no-check, no-checks, first-none, first-append-none}
@@ -88,6 +88,13 @@ module _ (box10 year month x y : Scaled) where
   fresh-size = size-is (freshSheet box10 year month x y)
 
 -- ---- what pack has passed
+
+-- the first refusal of its checks, or that there is none, decides what it leaves
+pub pack-outcome : (values : List ℤ) (word rptin : ℕ) (ns out : List ℕ) (o : Option Refusal) → first (packOrder (length out) values word rptin ns) ≡ o
+    → wroteBy o (some (pos (size (packSheet values word rptin ns))) ∷ []) (packing (packSheet values word rptin ns)) out ≡ pack values word rptin ns out
+unfolding pack
+pack-outcome values word rptin ns out o e =
+    ap (λ (x : Option Refusal). wroteBy x (some (pos (size (packSheet values word rptin ns))) ∷ []) (packing (packSheet values word rptin ns)) out) (sym e)
 
 -- that none of its checks refuses, part by part; `packs-none` below is the way back
 pub record Packs (n : ℕ) (values : List ℤ) (word rptin : ℕ) (ns : List ℕ) : Type 0 where

@@ -23,8 +23,8 @@ use Rattle.format.specs.Machine.{Call, readField, setField, clearField, readFla
 use Rattle.format.specs.Buffer.{After, after, effectOn, effect}
 use Rattle.format.specs.Whole.{Wrote, packSheet, packOrder, pack}
 use Rattle.format.specs.declared.Scaled.{Scaled}
-use Rattle.whole.specs.Answers.{packAnswer}
-use Rattle.whole.specs.declared.Packed.{Packed}
+use Rattle.pack.specs.Answers.{packAnswer}
+use Rattle.pack.specs.declared.Packed.{Packed}
 use Rattle.laws.proofs.Lists.{and-true, true-false, cond-case}
 use Rattle.format.specs.Bits.{Bytes}
 use Rattle.laws.proofs.Fields.{Fair, FairAll, nil, cons, fair-range}

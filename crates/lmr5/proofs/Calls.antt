@@ -20,8 +20,8 @@ use Rattle.report.specs.Answers.{judgedOf}
 use Rattle.report.specs.declared.Judged.{Judged}
 use Rattle.report.specs.declared.Judged.the-variants.{Refused, Accepted}
 use Rattle.format.specs.Whole.{Wrote, Unpacked, unpacked}
-use Rattle.whole.specs.Answers.{contentsNumbers}
-use Rattle.whole.specs.declared.Contents.{Contents}
+use Rattle.unpack.specs.Answers.{contentsNumbers}
+use Rattle.unpack.specs.declared.Contents.{Contents}
 use Rattle.lmr5.specs.declared.Answer.{Answer}
 use Rattle.lmr5.specs.Numbered.{numbers, numbered, left, numberedAfter, judging, numberedWrote, Opened, opening, openedBy, numberedUnpacked, word}
 

@@ -11,16 +11,16 @@ ghost use Rattle.format.specs.Machine as machine;
 ghost use Rattle.format.specs.Buffer.{effect};
 ghost use Rattle.format.specs.Whole as spec;
 ghost use Rattle.format.specs.Reply.{refusal, answerOf};
-ghost use Rattle.whole.specs.Answers.{contentsNumbers};
+ghost use Rattle.unpack.specs.Answers.{contentsNumbers};
 ghost use Rattle.script.specs.Script.{Performs};
 ghost use Rattle.lmr5.specs.Numbered.{numbered, Counts, left, numberedAfter, judging, numberedWrote, word, opening, numberedUnpacked};
 use format::Reply;
 use format::Scaled;
+use fresh::Started;
+use pack::Packed;
 use report::Judged;
-use whole::Contents;
-use whole::Packed;
-use whole::Started;
-use whole::Unpacked;
+use unpack::Contents;
+use unpack::Unpacked;
 
 // What a call answers: the refusal's number and place, both 0 where it is accepted; then 0, or 1 and the value that it
 // gives, or 2 where a field or a flag is missing.
@@ -132,7 +132,7 @@ pub extern "C" fn lmr5_fresh(
 ) -> Answer
     ensures { λ r. ⌜ record { answer = r; out = now (out .exit) } ≡ numberedWrote (spec.fresh (scaled box10) (scaled year) (scaled month) (scaled x) (scaled y) (now (out .entry))) ⌝ }
 {
-    let f = whole::fresh(
+    let f = fresh::fresh(
         Scaled(box10),
         Scaled(year),
         Scaled(month),
@@ -169,7 +169,7 @@ pub extern "C" fn lmr5_unpack(
 ) -> Answer
     ensures { λ r. ⌜ opening r (now (values .exit)) (now (tail .exit)) (now (contents .exit)) ≡ numberedUnpacked (spec.unpack (now (report .entry)) (now (values .entry)) (now (tail .entry))) (now (contents .entry)) ⌝ }
 {
-    let u = whole::unpack(&*report, values, tail);
+    let u = unpack::unpack(&*report, values, tail);
     match u {
         Unpacked::Refused(n, p) => refused(n, p),
         Unpacked::Given(c) => {
@@ -189,7 +189,7 @@ pub extern "C" fn lmr5_pack(
 ) -> Answer
     ensures { λ r. ⌜ record { answer = r; out = now (out .exit) } ≡ numberedWrote (spec.pack (now (values .entry)) word rptin (now (tail .entry)) (now (out .entry))) ⌝ }
 {
-    let p = whole::pack(values, word, rptin, tail, out);
+    let p = pack::pack(values, word, rptin, tail, out);
     match p {
         Packed::Refused(n, k) => refused(n, k),
         Packed::Written(size) => counted(size),

@@ -1,10 +1,10 @@
 // Runs the calls on whole reports over vectors of the unrelated implementation.
 use format::Scaled;
+use fresh::Started;
+use pack::Packed;
 use report::Judged;
+use unpack::Unpacked;
 use vector_io::Kind;
-use whole::Packed;
-use whole::Started;
-use whole::Unpacked;
 
 fn judge_in(s: &mut [u8]) {
     vector_io::get_bytes(s);
@@ -43,7 +43,7 @@ fn put_started(r: Started) {
 
 fn fresh_in(box10: Scaled, year: Scaled, month: Scaled, x: Scaled, y: Scaled, out: &mut [u8]) {
     vector_io::get_bytes(out);
-    put_started(whole::fresh(box10, year, month, x, y, out));
+    put_started(fresh::fresh(box10, year, month, x, y, out));
     vector_io::put_bytes(out);
 }
 
@@ -91,7 +91,7 @@ fn put_unpacked(r: Unpacked) {
 
 fn unpack_tail(s: &[u8], values: &mut [i64], tail: &mut [u8]) {
     vector_io::get_bytes(tail);
-    put_unpacked(whole::unpack(s, values, tail));
+    put_unpacked(unpack::unpack(s, values, tail));
     put_values(values);
     vector_io::put_bytes(tail);
 }
@@ -125,7 +125,7 @@ fn put_packed(r: Packed) {
 
 fn pack_out(values: &[i64], word: u64, rptin: u16, tail: &[u8], out: &mut [u8]) {
     vector_io::get_bytes(out);
-    put_packed(whole::pack(values, word, rptin, tail, out));
+    put_packed(pack::pack(values, word, rptin, tail, out));
     vector_io::put_bytes(out);
 }
 

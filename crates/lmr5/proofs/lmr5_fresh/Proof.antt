@@ -9,8 +9,8 @@ use Rattle.format.specs.Field.{scaled}
 use Rattle.format.specs.declared.Scaled.{Scaled}
 use Rattle.format.specs.Whole.{fresh}
 use mathlib.Core.Path.{_≡_, sym, ap, _∙_}
-use Rattle.whole.specs.Answers.{freshAnswer}
-use Rattle.whole.specs.declared.Started.{Started}
+use Rattle.fresh.specs.Answers.{freshAnswer}
+use Rattle.fresh.specs.declared.Started.{Started}
 use Rattle.lmr5.specs.Numbered.{numbered}
 use Rattle.lmr5.proofs.Calls.{wrote-numbered}
 use borrow.Author.Needs.{needs}

@@ -1,8 +1,8 @@
 -- `lmr5::lmr5_pack` meets its contract.
 -- Assumes nothing.
 use mathlib.Core.Path.{sym, ap, _∙_}
-use Rattle.whole.specs.Answers.{packAnswer}
-use Rattle.whole.specs.declared.Packed.{Packed}
+use Rattle.pack.specs.Answers.{packAnswer}
+use Rattle.pack.specs.declared.Packed.{Packed}
 use Rattle.lmr5.specs.Numbered.{numbered}
 use Rattle.lmr5.proofs.Bounds.{pack-counts}
 use Rattle.lmr5.proofs.Calls.{wrote-numbered}

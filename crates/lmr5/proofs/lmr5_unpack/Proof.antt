@@ -1,6 +1,6 @@
 -- `lmr5::lmr5_unpack` meets its contract.
 -- Assumes nothing.
-use Rattle.whole.specs.Answers.{contentsNumbers}
+use Rattle.unpack.specs.Answers.{contentsNumbers}
 use Rattle.lmr5.proofs.Calls.{unpack-numbered, unpack-refused, unpack-given}
 use borrow.Author.Needs.{needs}
 use Rattle.lmr5.proofs.lmr5_unpack.Statement.{statement}

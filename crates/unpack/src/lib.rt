@@ -1,0 +1,60 @@
+// Unpacks a report to its values and its tail.
+ghost use mathlib.Core.Path.{_≡_};
+ghost use Rattle.format.specs.Whole.{unpacked};
+ghost use Rattle.format.specs.Whole as spec;
+ghost use Rattle.unpack.specs.Answers.{unpackAnswer};
+ghost use Rattle.unpack.specs.Steps.{Shown};
+use report::Inspected;
+use report::Report;
+
+// What unpacking gives beside the values and the tail: the presence word, how many fields are present, RPTIN, AC, the
+// report's size in bytes, and the tail's length in nibbles.
+pub struct Contents {
+    pub word: u64,
+    pub present: u32,
+    pub rptin: u16,
+    pub count: usize,
+    pub size: usize,
+    pub tail: usize,
+}
+
+pub enum Unpacked {
+    // The refusal's number and place.
+    Refused(u8, usize),
+    Given(Contents),
+}
+
+// Gives a report that shows r, if the outputs are long enough.
+fn give(s: &[u8], r: Report, values: &mut [i64], tail: &mut [u8]) -> Unpacked
+    requires { ⌜ Shown (now s) r ⌝ }
+    ensures { λ u. ⌜ unpacked (unpackAnswer u) (now (values .exit)) (now (tail .exit)) ≡ spec.unpack (now (s .entry)) (now (values .entry)) (now (tail .entry)) ⌝ }
+{
+    let n = r.end - 75;
+    if values.len() < 46 {
+        return Unpacked::Refused(13, 0);
+    }
+    if tail.len() < n {
+        return Unpacked::Refused(13, 0);
+    }
+    let presence = read_values::show(s, values);
+    shift::fetch(s, 75, n, tail);
+    Unpacked::Given(Contents {
+        word: presence,
+        present: u64::count_ones(presence),
+        rptin: card::rptin(s),
+        count: r.count,
+        size: r.end / 2 + r.end % 2,
+        tail: n,
+    })
+}
+
+// A report's values, 0 where missing, to the first 46 of values, and its tail, one nibble a byte, to the front of tail.
+pub fn unpack(s: &[u8], values: &mut [i64], tail: &mut [u8]) -> Unpacked
+    ensures { λ r. ⌜ unpacked (unpackAnswer r) (now (values .exit)) (now (tail .exit)) ≡ spec.unpack (now (s .entry)) (now (values .entry)) (now (tail .entry)) ⌝ }
+{
+    let i = report::inspect(&*s, 0);
+    match i {
+        Inspected::Refused(n, p) => Unpacked::Refused(n, p),
+        Inspected::Fine(r) => give(&*s, r, values, tail),
+    }
+}
