@@ -12,6 +12,7 @@ pub mod ShipText
 pub mod Report
 pub mod List
 pub mod Laid
+pub mod Edits
 pub mod Effects
 pub mod Presence
 pub mod Whole
