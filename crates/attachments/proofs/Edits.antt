@@ -1,28 +1,16 @@
--- An edit of the attachments: nibbles of the tail replaced, AC set, and the buffer is the layout of the sheet so edited.
+-- Nibbles of a report replaced: room made for them, and an attachment laid in it.
 -- Assumes nothing.
 use Prim.Native.Nat.{ℕ, _+_, _-_, _*_, _/_, _%_, _≤_, max}
 use native.Mathlib.Omega.{arith}
 use mathlib.Core.Path.{_≡_, refl, sym, ap, ap₂, _∙_}
 use mathlib.Core.List.{List, [], _∷_, _++_, append-assoc}
-use lib.ListN.{length, take, drop, set, length-append, length-drop, length-replicate}
-use lib.Seq.{paste, paste-suc, take-paste, drop-paste, take-all, take-at, drop-at, take-take, take-add, drop-drop, take-append-le, drop-append-add, length-take-le}
-use Rattle.format.specs.Bits.{readFields, Bytes}
-use Rattle.format.specs.Nibbles.{Attachment, attachment, nibbles, attachmentNibbles, tailNibbles, Nibbles}
-use Rattle.format.specs.Sheet.{Sheet, widths, size}
-use Rattle.format.specs.Report.{numbersOf, tailOf, sheetOf}
-use Rattle.format.specs.Machine.{withAttachments}
-use Rattle.format.specs.Buffer.{zeros, layout}
-use Rattle.card.specs.Answers.{Carded}
+use lib.ListN.{length, take, drop, set, length-drop, length-replicate}
+use lib.Seq.{paste, paste-suc, take-paste, drop-paste, take-all, drop-at, take-take, drop-drop, take-append-le, length-take-le}
+use Rattle.format.specs.Nibbles.{attachment, attachmentNibbles}
+use Rattle.format.specs.Buffer.{zeros}
 use Rattle.shift.proofs.Paste.{paste-two, laid-then}
-use Rattle.laws.proofs.Bits.{uniform}
-use Rattle.laws.proofs.Nibbles.{length-nibbles}
-use Rattle.laws.proofs.Card.{front-numbers}
-use Rattle.laws.proofs.Fields.{table-length, length-fair}
-use Rattle.laws.proofs.Report.{judged, size-is, numbers-taken}
-use Rattle.laws.proofs.Laid.{layout-is, tail-taken, attachment-numbers}
-use Rattle.attachments.specs.Edit.{Resizable, clearedTo, resized, spliced, Edit}
-
--- ---- nibbles replaced
+use Rattle.laws.proofs.Edits.{clearedTo, spliced}
+use Rattle.attachments.specs.Edit.{Resizable, resized}
 
 -- a run moved, and zeros behind it
 moved : (n : List ℕ) (at old new end k : ℕ) → at + new + (end - (at + old)) ≤ length n → end - (at + old) ≤ length (drop (at + old) n)
@@ -91,108 +79,3 @@ spliced-laid n x at old new end l fits =
     ∙ ap (λ (y : List ℕ). take at n ++ y ++ t) (take-all new x (omega arith))
     ∙ append-assoc (take at n) x t
     ∙ ap (λ (j : ℕ). take at n ++ (x ++ (take rest (drop (at + old) n) ++ (zeros (clearedTo end (at + j + rest) - (at + j + rest)) ++ drop (clearedTo end (at + j + rest)) n)))) l
-
--- ---- the edit
-
-module _ {b : List ℕ} {list : List Attachment} {x : List ℕ} {at old end count : ℕ} (bs : Bytes b) (e : Edit b list x at old end count) where
-  abbrev s : Sheet
-  s = sheetOf b
-
-  abbrev t : Sheet
-  t = withAttachments (sheetOf b) list
-
-  abbrev n : List ℕ
-  n = nibbles b
-
-  abbrev rest : ℕ
-  rest = end - (at + old)
-
-  abbrev last : ℕ
-  last = at + length x + rest
-
-  old-length : length (tailNibbles (sheetOf b .attachments)) ≡ length (e .before) + (length (e .gone) + length (e .behind))
-  old-length = ap length (e .from) ∙ length-append (e .before) (e .gone ++ e .behind) ∙ ap (λ (k : ℕ). length (e .before) + k) (length-append (e .gone) (e .behind))
-
-  new-length : length (tailNibbles list) ≡ length (e .before) + (length x + length (e .behind))
-  new-length = ap length (e .to) ∙ length-append (e .before) (x ++ e .behind) ∙ ap (λ (k : ℕ). length (e .before) + k) (length-append x (e .behind))
-
-  pub edit-inside : (at + old ≤ end) × (at + length x + (end - (at + old)) ≡ 75 + length (tailNibbles list)) × (end - old + length x ≡ 75 + length (tailNibbles list))
-  edit-inside =
-      let a = e .at-is in
-      let o = e .old-is in
-      let d = e .end-is in
-      let l = old-length in
-      let m = new-length in
-      (omega arith, omega arith, omega arith)
-
-  pub edit-size : size (withAttachments (sheetOf b) list) ≡ (end - old + length x + 1) / 2
-  edit-size = size-is t ∙ ap (λ (k : ℕ). (k + 1) / 2) (sym (edit-inside .2))
-
-  cleared-is : clearedTo end last ≡ 2 * max (size s) (size t)
-  cleared-is =
-      ap₂ (λ (k m : ℕ). 2 * max k m) (ap (λ (k : ℕ). (k + 1) / 2) (e .end-is) ∙ sym (size-is s)) (ap (λ (k : ℕ). (k + 1) / 2) (edit-inside .1) ∙ sym (size-is t))
-
-  -- the old tail, and what follows it
-  beyond : List ℕ
-  beyond = zeros (2 * size s - (75 + length (tailNibbles (s .attachments)))) ++ drop (2 * size s) n
-
-  tail-was : tailOf b ≡ e .before ++ (e .gone ++ (e .behind ++ beyond))
-  unfolding beyond
-  tail-was =
-      tail-taken b s bs (e .judged) ∙ ap (λ (l : List ℕ). l ++ beyond) (e .from)
-      ∙ append-assoc (e .before) (e .gone ++ e .behind) beyond
-      ∙ ap (λ (l : List ℕ). e .before ++ l) (append-assoc (e .gone) (e .behind) beyond)
-
-  front : take at n ≡ take 75 n ++ e .before
-  front =
-      ap (λ (k : ℕ). take k n) (e .at-is) ∙ take-add 75 (length (e .before)) n
-      ∙ ap (λ (l : List ℕ). take 75 n ++ l) (ap (take (length (e .before))) tail-was ∙ take-at (e .before) (e .gone ++ (e .behind ++ beyond)) (length (e .before)) refl)
-
-  kept : take rest (drop (at + old) n) ≡ e .behind
-  kept =
-      let k : at + old ≡ 75 + (length (e .before) + length (e .gone)) = (let a = e .at-is in let o = e .old-is in omega arith) in
-      let r : rest ≡ length (e .behind) = (let a = e .at-is in let o = e .old-is in let d = e .end-is in let l = old-length in omega arith) in
-      ap₂ (λ (i j : ℕ). take i (drop j n)) r k
-      ∙ ap (take (length (e .behind)))
-      (sym (drop-drop (length (e .before) + length (e .gone)) 75 n) ∙ ap (drop (length (e .before) + length (e .gone))) tail-was
-      ∙ drop-append-add (e .before) (e .gone ++ (e .behind ++ beyond)) (length (e .gone))
-      ∙ drop-at (e .gone) (e .behind ++ beyond) (length (e .gone)) refl)
-      ∙ take-at (e .behind) beyond (length (e .behind)) refl
-
-  module _ (c : List ℕ) (laid : nibbles c ≡ spliced (nibbles b) at old x end) (long : 38 ≤ length b) where
-    abbrev filled : List ℕ
-    filled = zeros (clearedTo end last - last) ++ drop (clearedTo end last) n
-
-    card-long : length (take 75 (nibbles b)) ≡ 75
-    card-long = length-take-le 75 n (omega (arith, length-nibbles b))
-
-    whole : nibbles c ≡ take 75 n ++ (e .before ++ (x ++ (e .behind ++ filled)))
-    whole =
-        laid ∙ ap₂ (λ (y z : List ℕ). y ++ (x ++ (z ++ filled))) front kept
-        ∙ append-assoc (take 75 n) (e .before) (x ++ (e .behind ++ filled))
-
-    -- the nibbles behind the card are those of the list, zeros to the larger end, and what stood beyond
-    behind-card : tailOf c
-        ≡ tailNibbles list ++ (zeros (2 * max (size s) (size t) - (75 + length (tailNibbles list))) ++ drop (2 * max (size s) (size t)) n)
-    behind-card =
-        ap (drop 75) whole ∙ drop-at (take 75 n) (e .before ++ (x ++ (e .behind ++ filled))) 75 card-long
-        ∙ ap (λ (l : List ℕ). e .before ++ l) (sym (append-assoc x (e .behind) filled))
-        ∙ sym (append-assoc (e .before) (x ++ e .behind) filled)
-        ∙ ap₂ (λ (l r : List ℕ). l ++ r) (sym (e .to))
-        (ap₂ (λ (k m : ℕ). zeros (k - m) ++ drop k n) cleared-is (edit-inside .1))
-
-    same-card : numbersOf c ≡ numbersOf b
-    same-card =
-        front-numbers c (omega (arith, length-nibbles c, length-nibbles b, ap length whole, card-long, length-append (take 75 n) (e .before ++ (x ++ (e .behind ++ filled)))))
-        ∙ ap (λ (l : List ℕ). readFields widths (uniform 4 l)) (ap (take 75) whole ∙ take-at (take 75 n) (e .before ++ (x ++ (e .behind ++ filled))) 75 card-long)
-        ∙ sym (front-numbers b long)
-
-    -- with AC set the buffer is the layout
-    pub edit-laid : (d : List ℕ) → Nibbles (tailNibbles list) → Bytes d → length c ≡ length b → Carded c d (set (numbersOf c) 48 count)
-        → d ≡ layout b (size (sheetOf b)) (withAttachments (sheetOf b) list)
-    edit-laid d lt bd same k =
-        let g = judged b s bs (e .judged) .good in
-        let v : length (s .values) ≡ 46 = length-fair (g .fair) ∙ table-length in
-        layout-is b (size s) t lt d bd (omega (arith, k .long))
-        (k .card ∙ ap₂ (λ (l : List ℕ) (m : ℕ). set l 48 m) (same-card ∙ sym (numbers-taken b s bs (e .judged))) (e .count-is) ∙ sym (attachment-numbers s list v))
-        (k .behind ∙ behind-card)

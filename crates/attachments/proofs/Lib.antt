@@ -1,5 +1,2 @@
-pub mod Place
-pub mod Calls
 pub mod Edits
-pub mod Puts
-pub mod Contents
+pub mod Returns

@@ -1,17 +1,17 @@
 -- Nibbles of a report replaced, and what a put leaves.
-use Prim.Native.Nat.{ℕ, _+_, _-_, _*_, _/_, _≤_, _<_, max}
-use mathlib.Core.Path.{_≡_}
+use Prim.Native.Nat.{ℕ, _+_, _-_, _*_, _≤_}
 use mathlib.Core.Bool.{cond}
 use mathlib.Core.List.{List, [], _++_}
 use lib.ListN.{length, take, drop}
 use lib.Dec.{ltb}
-use Rattle.format.specs.Nibbles.{Attachment, attachment, attachmentNibbles, tailNibbles}
+use Rattle.format.specs.Nibbles.{attachment, attachmentNibbles}
 use Rattle.format.specs.Sheet.{size}
-use Rattle.format.specs.Report.{sheetOf, accepted, judge}
+use Rattle.format.specs.Report.{sheetOf}
 use Rattle.format.specs.Machine.{Answer, putIn, withContent}
 use Rattle.format.specs.Buffer.{zeros, layout, After, after}
 use Rattle.format.specs.Reply.{refusal}
 use Rattle.laws.proofs.Attachments.{FineAt}
+use Rattle.laws.proofs.Edits.{clearedTo, Edit}
 
 -- old nibbles at a place of a report that ends at end, and new ones in their place, within n bytes
 pub record Resizable (n at old new end : ℕ) : Type 0 where
@@ -21,10 +21,6 @@ pub record Resizable (n at old new end : ℕ) : Type 0 where
   pub fits : end ≤ 2 * n
   pub room : at + new + (end - (at + old)) ≤ 2 * n
 
--- the larger of two ends, in whole bytes
-abbrev pub clearedTo : ℕ → ℕ → ℕ
-clearedTo end last = 2 * max ((end + 1) / 2) ((last + 1) / 2)
-
 -- nibbles with room for new ones in place of old ones: those behind the old ones moved, zeros behind them, and what stood
 -- beyond both ends
 abbrev pub resized : List ℕ → ℕ → ℕ → ℕ → ℕ → List ℕ
@@ -32,27 +28,6 @@ resized ns at old new end =
     let rest = end - (at + old) in
     let last = at + new + rest in
     take (at + new) ns ++ (take rest (drop (at + old) ns) ++ (zeros (clearedTo end last - last) ++ drop (clearedTo end last) ns))
-
--- nibbles with x in place of old ones
-abbrev pub spliced : List ℕ → ℕ → ℕ → List ℕ → ℕ → List ℕ
-spliced ns at old x end =
-    let rest = end - (at + old) in
-    let last = at + length x + rest in
-    take at ns ++ (x ++ (take rest (drop (at + old) ns) ++ (zeros (clearedTo end last - last) ++ drop (clearedTo end last) ns)))
-
--- the report of b with another list of attachments, whose tail has the nibbles x for old ones at a place
-pub record Edit (b : List ℕ) (list : List Attachment) (x : List ℕ) (at old end count : ℕ) : Type 0 where
-  pub judged : judge b ≡ accepted (sheetOf b)
-  pub before : List ℕ
-  pub gone : List ℕ
-  pub behind : List ℕ
-  pub from : tailNibbles (sheetOf b .attachments) ≡ before ++ (gone ++ behind)
-  pub to : tailNibbles list ≡ before ++ (x ++ behind)
-  pub at-is : at ≡ 75 + length before
-  pub old-is : old ≡ length gone
-  pub end-is : end ≡ 75 + length (tailNibbles (sheetOf b .attachments))
-  pub count-is : count ≡ length list
-  pub count-lt : count < 16
 
 pub record PutEdit (b : List ℕ) (i : ℕ) (ns : List ℕ) (at old end count : ℕ) : Type 0 where
   pub edit : Edit b (putIn i ns (sheetOf b .attachments)) (attachmentNibbles (attachment i ns)) at old end count

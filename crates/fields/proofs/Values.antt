@@ -13,22 +13,22 @@ use Rattle.format.specs.Bits.{total, Bytes}
 use Rattle.format.specs.Field.{Field, table, fieldAt, isField, required, inRange, coded, scaledOf, codedOf, entryOf, codeOf, entries, codes}
 use Rattle.format.specs.Sheet.{checksum, cardNumbers, size}
 use Rattle.format.specs.Report.{codesOf, sheetOf}
-use Rattle.format.specs.Machine.{readField, setField, clearField, valueAt, withValue, valueNumber, fieldNumberCheck, valueCheck, requiredCheck, callChecks, next, gives, Answer}
+use Rattle.format.specs.Machine.{readField, setField, clearField, valueAt, withValue, valueNumber, fieldNumberCheck, valueCheck, requiredCheck, callChecks, next, gives, lent, writes, Answer}
 use Rattle.format.specs.Reply.{refusal, answerOf}
 use Rattle.format.specs.declared.Reply.the-variants.{Done, Value, Missing}
 use Rattle.format.specs.Buffer.{layout, after, effect}
 use Rattle.format.specs.declared.Coded.{Coded}
 use Rattle.format.specs.declared.Scaled.{Scaled}
 use Rattle.laws.proofs.Fields.{table-length, codes-entries}
-use Rattle.laws.proofs.Report.{numbers-taken}
+use Rattle.laws.proofs.Report.{numbers-taken, same-within}
+use Rattle.laws.proofs.Effects.{call-refuses, effect-same, effect-done}
 use Rattle.laws.proofs.Laid.{field-laid, value-numbers, total-set}
 use Rattle.card.specs.Answers.{Carded, codingOf}
 use Rattle.card.proofs.Walk.{codes-length}
 use Rattle.card.proofs.Entries.{entry-missing, entry-there, entry-is, entries-length}
 use Rattle.card.proofs.Given.{coding-outside, coding-code}
 use Rattle.card.specs.declared.Coding.the-variants.{Outside, Code}
-use Rattle.laws.proofs.Order.{between-in, first-nil, no-check}
-use Rattle.fields.proofs.Calls.{call-refuses, call-reads, call-stores, number-passes, quiet-read-field, quiet-set-field, quiet-clear-field}
+use Rattle.laws.proofs.Order.{between-in, number-passes, first-nil, no-check}
 use Rattle.fields.specs.Accepted.{Accepted, replaced}
 
 -- the value of field k is the entry of its code
@@ -77,10 +77,10 @@ module _ (b : List ℕ) (bs : Bytes b) (j : Accepted b) (k : ℕ) (t : Bool) (is
 
   field-gives : (c : Coded) → c .0 ≡ getD (codesOf b) (k - 1) 0 → (e : Option Scaled) → entryOf (fieldAt k) c ≡ e
       → after (Answer.accepted (valueNumber e ∷ [])) b [] ≡ effect b (readField k)
-  unfolding callChecks next gives
+  unfolding callChecks next gives lent writes
   field-gives c at e there =
-      call-reads b (sheetOf b) (readField k) (quiet-read-field k) bs j refl (no-check (fieldNumberCheck k) [] known-passes first-nil) (valueNumber e ∷ [])
-      (ap (λ (x : Option Scaled). valueNumber x ∷ []) (value-is b k c (known .0) (known .1) at ∙ there))
+      ap (λ (x : Option Scaled). after (Answer.accepted (valueNumber x ∷ [])) b []) (sym (value-is b k c (known .0) (known .1) at ∙ there))
+      ∙ effect-same b (sheetOf b) (readField k) bs j [] refl (no-check (fieldNumberCheck k) [] known-passes first-nil) (omega arith) refl
 
   module _ (c : Coded) (at : c .0 ≡ getD (codesOf b) (k - 1) 0) (m : Bool) (missing : m ≡ eqb (c .0) 0) where
     pub field-missing : m ≡ true → after (answerOf Missing) b [] ≡ effect b (readField k)
@@ -93,31 +93,33 @@ module _ (b : List ℕ) (bs : Bytes b) (j : Accepted b) (k : ℕ) (t : Bool) (is
   module _ (d : List ℕ) (bd : Bytes d) where
     pub field-set : (v : Scaled) (c : Coded) → Code c ≡ codingOf (fieldAt k) v → Carded b d (replaced b k (c .0))
         → after (answerOf Done) d [] ≡ effect b (setField k v)
-    unfolding callChecks next gives codeOf
+    unfolding callChecks next gives lent writes codeOf
     field-set v c e r =
         let q = coding-code (fieldAt k) v c e in
-        call-stores b (sheetOf b) (setField k v) (quiet-set-field k v) bs j d refl
+        effect-done b (sheetOf b) (setField k v) bs j d []
         (no-check (fieldNumberCheck k) (valueCheck k v ∷ []) known-passes (no-check (valueCheck k v) [] (ap not (coding-in (fieldAt k) v c e)) first-nil))
-        refl (value-laid b bs k (known .0) (known .1) d (some v) c j bd (q .0) r)
+        (same-within b (sheetOf b) bs j (withValue (sheetOf b) k (some v)) refl) (omega arith)
+        (value-laid b bs k (known .0) (known .1) d (some v) c j bd (q .0) r) refl
 
     pub field-cleared : (q : Bool) → q ≡ required k → q ≡ false → (c : Coded) → c ≡ coded 0 → Carded b d (replaced b k (c .0))
         → after (answerOf Done) d [] ≡ effect b (clearField k)
-    unfolding callChecks next gives codeOf
+    unfolding callChecks next gives lent writes codeOf
     field-cleared q eq free c e r =
-        call-stores b (sheetOf b) (clearField k) (quiet-clear-field k) bs j d refl
+        effect-done b (sheetOf b) (clearField k) bs j d []
         (no-check (fieldNumberCheck k) (requiredCheck k ∷ []) known-passes (no-check (requiredCheck k) [] (sym eq ∙ free) first-nil))
-        refl (value-laid b bs k (known .0) (known .1) d none c j bd e r)
+        (same-within b (sheetOf b) bs j (withValue (sheetOf b) k none) refl) (omega arith)
+        (value-laid b bs k (known .0) (known .1) d none c j bd e r) refl
 
   pub field-outside : (v : Scaled) → Outside ≡ codingOf (fieldAt k) v → after (refusal 9 k) b [] ≡ effect b (setField k v)
-  unfolding callChecks
+  unfolding callChecks lent
   field-outside v e =
-      call-refuses b (sheetOf b) (setField k v) (quiet-set-field k v) bs j (fieldNumberCheck k ∷ []) (valueCheck k v) [] refl
+      call-refuses b (sheetOf b) (setField k v) bs j (fieldNumberCheck k ∷ []) (valueCheck k v) [] refl
       (no-check (fieldNumberCheck k) [] known-passes first-nil) (ap not (coding-outside (fieldAt k) v e))
 
   pub field-required : (q : Bool) → q ≡ required k → q ≡ true → after (refusal 10 k) b [] ≡ effect b (clearField k)
-  unfolding callChecks
+  unfolding callChecks lent
   field-required q eq must =
-      call-refuses b (sheetOf b) (clearField k) (quiet-clear-field k) bs j (fieldNumberCheck k ∷ []) (requiredCheck k) [] refl
+      call-refuses b (sheetOf b) (clearField k) bs j (fieldNumberCheck k ∷ []) (requiredCheck k) [] refl
       (no-check (fieldNumberCheck k) [] known-passes first-nil) (sym eq ∙ must)
 
 -- ---- the number that seals

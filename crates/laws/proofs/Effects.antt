@@ -1,21 +1,21 @@
 -- What each return of each call leaves is its effect. The proofs of the calls cite these, one at each return.
 -- Assumes nothing.
 use Prim.Native.Nat.{ℕ, _≤_}
-use native.Mathlib.Omega.{arith}
 use mathlib.Core.Path.{_≡_, refl, sym, ap, ap₂, _∙_}
-use mathlib.Core.Bool.{true, false}
-use mathlib.Core.List.{List, [], _∷_, _++_}
+use mathlib.Core.Bool.{Bool, true, false, not}
+use mathlib.Core.List.{List, [], _∷_, _++_, append-assoc}
 use mathlib.Core.Option.{Option, none, some}
-use lib.ListN.{length, drop, length-append}
+use lib.ListN.{length}
 use borrow.Author.Tests.{le-ltb}
-use Rattle.format.specs.Order.{Refusal, Check, first}
-use Rattle.format.specs.Sheet.{Sheet, packing, size}
+use Rattle.format.specs.Order.{Refusal, Check, check, first, between}
+use Rattle.format.specs.Sheet.{Sheet, size}
 use Rattle.format.specs.Report.{Verdict, judge}
 use Rattle.format.specs.Machine.{Call, next, gives, lent, writes, roomCheck, callChecks, checks, Answer, Stepped, steppedBy, step, over}
 use Rattle.format.specs.Buffer.{layout, after, effect}
+use Rattle.format.specs.Reply.{refusal}
 use Rattle.laws.proofs.Order.{first-fits, first-append-skip, no-check, no-checks, first-nil}
 use Rattle.format.specs.Bits.{Bytes}
-use Rattle.laws.proofs.Report.{judged}
+use Rattle.laws.proofs.Report.{size-within}
 use Rattle.laws.proofs.List.{layout-same}
 
 -- on a refused report
@@ -33,8 +33,7 @@ module _ (b : List ℕ) (s : Sheet) (c : Call) (bs : Bytes b) (j : judge b ≡ V
   unfolding step
   step-by o e = ap (λ (x : Option Refusal). steppedBy x s c) e
 
-  -- the check ch fits, and none of those before it
-  pub effect-refuses : (before : List Check) (ch : Check) (behind : List Check) → checks (length b) s c ≡ before ++ (ch ∷ behind)
+  effect-refuses : (before : List Check) (ch : Check) (behind : List Check) → checks (length b) s c ≡ before ++ (ch ∷ behind)
       → first before ≡ none → ch .fits ≡ true → after (Answer.refused (ch .refusal)) b (lent c) ≡ effect b c
   effect-refuses before ch behind split passed fits =
       let f : first (checks (length b) s c) ≡ some (ch .refusal) =
@@ -42,8 +41,18 @@ module _ (b : List ℕ) (s : Sheet) (c : Call) (bs : Bytes b) (j : judge b ≡ V
       sym (effect-step (steppedBy (some (ch .refusal)) s c) (step-by (some (ch .refusal)) f)
       ∙ ap (λ (x : List ℕ). after (Answer.refused (ch .refusal)) x (lent c)) (sym (layout-same b s bs j)))
 
-  within : size s ≤ length b
-  within = let k = judged b s bs j in omega (arith, length-append (packing s) (drop (size s) b), ap length (k .starts))
+  -- the check ch fits, and none of those before it
+  pub call-refuses : (before : List Check) (ch : Check) (behind : List Check) → callChecks s c ≡ before ++ (ch ∷ behind)
+      → first before ≡ none → ch .fits ≡ true → after (Answer.refused (ch .refusal)) b (lent c) ≡ effect b c
+  unfolding checks
+  call-refuses before ch behind is passed fits =
+      let room = roomCheck (length b) s c ∷ [] in
+      effect-refuses before ch (behind ++ room) (ap (λ (l : List Check). l ++ room) is ∙ append-assoc before (ch ∷ behind) room) passed fits
+
+  -- 8, which comes first: a number is not within its two ends
+  pub number-refuses : (low high x : ℕ) (behind : List Check) → callChecks s c ≡ check (not (between low high x)) 8 0 ∷ behind
+      → (t : Bool) → t ≡ between low high x → not t ≡ true → after (refusal 8 0) b (lent c) ≡ effect b c
+  number-refuses low high x behind is t e h = call-refuses [] (check (not (between low high x)) 8 0) behind is first-nil (ap not (sym e) ∙ h)
 
   none-fits : first (callChecks s c) ≡ none → roomCheck (length b) s c .fits ≡ false → first (checks (length b) s c) ≡ none
   unfolding checks
@@ -61,7 +70,7 @@ module _ (b : List ℕ) (s : Sheet) (c : Call) (bs : Bytes b) (j : judge b ≡ V
   pub effect-same : (o : List ℕ) → next s c ≡ s → first (callChecks s c) ≡ none → length (writes s c) ≤ length (lent c)
       → o ≡ over (writes s c) (lent c) → after (Answer.accepted (gives s c)) b o ≡ effect b c
   effect-same o same passed out wrote =
-      effect-done b o passed (rw same within) out (layout-same b s bs j ∙ ap (layout b (size s)) (sym same)) wrote
+      effect-done b o passed (rw same (size-within b s bs j)) out (layout-same b s bs j ∙ ap (layout b (size s)) (sym same)) wrote
 
   -- every check before 13 passes, and the room is too small
   pub effect-room : first (callChecks s c) ≡ none → roomCheck (length b) s c .fits ≡ true

@@ -22,7 +22,7 @@ use Rattle.laws.proofs.Nibbles.{nibbles-append, nibbles-drop, nibbles-i
 use Rattle.laws.proofs.Card.{card-length, card-lt, card-front}
 use Rattle.laws.proofs.Fields.{noField, table-length, length-codes, codes-set}
 use Rattle.laws.proofs.Attachments.{fine-nibbles}
-use Rattle.laws.proofs.Report.{size-is, size-range, judged}
+use Rattle.laws.proofs.Report.{size-is, judged, within}
 use Rattle.laws.proofs.List.{layout-same}
 
 -- ---- nibbles of a layout
@@ -108,11 +108,9 @@ tail-taken b s bs j =
 pub field-laid : (b c : List ℕ) (s t : Sheet) → Bytes b → judge b ≡ Verdict.accepted s → t .attachments ≡ s .attachments
     → Bytes c → length c ≡ length b → numbersOf c ≡ cardNumbers t → tailOf c ≡ tailOf b → c ≡ layout b (size s) t
 field-laid b c s t bs j same bc long card behind =
-    let k = judged b s bs j in
     let sizes : size t ≡ size s = size-is t ∙ ap (λ (l : List Attachment). (75 + length (tailNibbles l) + 1) / 2) same ∙ sym (size-is s) in
     let m : max (size s) (size t) ≡ size s = omega arith in
-    let fits : 38 ≤ length c = omega (arith, size-range s (k .good), length-append (packing s) (drop (size s) b), ap length (k .starts)) in
-    layout-is b (size s) t (rw same (fine-nibbles (k .good .fine))) c bc fits card
+    layout-is b (size s) t (rw same (fine-nibbles (judged b s bs j .good .fine))) c bc (omega (arith, within b s bs j)) card
     (rw (m, same) (behind ∙ tail-taken b s bs j))
 
 -- the numbers of a card with another entry at field k: its code, and the checksum of the codes so changed

@@ -13,6 +13,7 @@ pub mod Stores
 pub mod Report
 pub mod List
 pub mod Laid
+pub mod Edits
 pub mod Effects
 pub mod Presence
 pub mod Whole

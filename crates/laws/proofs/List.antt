@@ -28,7 +28,7 @@ use Rattle.laws.proofs.Fields.{Fair, missing-fair, in-range-fair, fair-
 use Rattle.laws.proofs.Flags.{flagFits, missing-fits, range-fits, valid-flags, flag-set-length, flag-set-valid, flag-set-nibbles}
 use Rattle.laws.proofs.Attachments.{FineAt}
 use Rattle.laws.proofs.AttachmentEdits.{put-fine, put-checked, remove-fine, content-fine}
-use Rattle.laws.proofs.Report.{Good, judge-packing, judged}
+use Rattle.laws.proofs.Report.{Good, judge-packing, judged, size-within}
 
 -- ---- layouts
 
@@ -195,7 +195,7 @@ accepted-list : (b : List ℕ) (s : Sheet) (cs : List Call) → Bytes b → judg
     → calls b cs ≡ machineOn b (run (length b) s (size s) cs)
 accepted-list b s cs bs j =
     let k = judged b s bs j in
-    let f : size s ≤ length b = omega (arith, length-append (packing s) (drop (size s) b), ap length (k .starts)) in
+    let f = size-within b s bs j in
     ap (λ (x : List ℕ). calls x cs) (layout-same b s bs j)
     ∙ laid cs b s (size s) (record { good = k .good; fits = f }) (omega arith) f
 

@@ -1,13 +1,13 @@
 -- Laws of the order of refusals: the first that fits, over a check and over lists of checks.
 -- Assumes nothing.
-use Prim.Native.Nat.{ℕ, _≤_}
+use Prim.Native.Nat.{ℕ, _≤_, _<_}
 use native.Mathlib.Omega.{arith}
-use mathlib.Core.Path.{_≡_, refl, sym, _∙_}
-use mathlib.Core.Bool.{Bool, true, false, cond, not}
+use mathlib.Core.Path.{_≡_, refl, sym, ap, _∙_}
+use mathlib.Core.Bool.{Bool, true, false, cond, not, and-false}
 use mathlib.Core.List.{List, [], _∷_, _++_}
 use mathlib.Core.Option.{Option, none, some}
 use lib.Dec.{leb}
-use borrow.Author.Tests.{leb-true, not-false}
+use borrow.Author.Tests.{le-leb, lt-leb, leb-true, not-false}
 use Rattle.format.specs.Order.{Refusal, Check, first, between}
 use Rattle.laws.proofs.Lists.{and-true}
 
@@ -17,6 +17,19 @@ pub between-in : (low high x : ℕ) (t : Bool) → t ≡ between low high x → 
 between-in low high x t e h =
     let a = and-true (leb low x) (leb x high) (sym e ∙ not-false t h) in
     (leb-true low x (a .0), leb-true x high (a .1))
+
+-- the check of a number that is within them passes
+pub number-passes : (low high x : ℕ) (t : Bool) → t ≡ between low high x → not t ≡ false → not (between low high x) ≡ false
+number-passes low high x t e h = ap not (sym e) ∙ h
+
+pub range-low : (low high x : ℕ) → x < low → not (between low high x) ≡ true
+range-low low high x h = rw (lt-leb low x h)
+
+pub range-high : (low high x : ℕ) → high < x → not (between low high x) ≡ true
+range-high low high x h = rw (lt-leb x high h, and-false (leb low x))
+
+pub range-fine : (low high x : ℕ) → low ≤ x → x ≤ high → between low high x ≡ true
+range-fine low high x h k = rw (le-leb low x h, le-leb x high k)
 
 -- ---- one check before others
 

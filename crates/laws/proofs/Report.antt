@@ -333,3 +333,20 @@ reports-equal b c s t bb bc eb ec = (
 -- "38 to 1853 bytes"
 pub size-range : (s : Sheet) → Good s → (38 ≤ size s) × (size s ≤ 1853)
 size-range s g = let h = fine-size (g .fine) in let z = size-is s in (omega arith, omega arith)
+
+-- ---- an accepted report lies within its buffer
+
+module _ (b : List ℕ) (s : Sheet) (bs : Bytes b) (j : judge b ≡ accepted s) where
+  pub size-within : size s ≤ length b
+  size-within = omega (arith, length-append (packing s) (drop (size s) b), ap length (judged b s bs j .starts))
+
+  pub within : (38 ≤ length b) × (75 + length (tailNibbles (s .attachments)) ≤ 2 * length b) × (75 + length (tailNibbles (s .attachments)) ≤ 3706)
+  within =
+      let w = size-within in
+      let z = size-is s in
+      let g = judged b s bs j .good in
+      (omega (arith, size-range s g), omega arith, omega (arith, fine-size (g .fine)))
+
+  -- so does a report with as many nibbles behind the card
+  pub same-within : (t : Sheet) → length (tailNibbles (t .attachments)) ≡ length (tailNibbles (s .attachments)) → size t ≤ length b
+  same-within t e = omega (arith, size-is t, size-is s, size-within)

@@ -64,7 +64,7 @@ fn set_flag(b: &mut [u8], k: usize, s: &[u8], log: &mut [u8]) -> Performed
         return idle();
     }
     let v = script::number_at(s, 9) as usize;
-    let r = fields::set_flag(b, k, v);
+    let r = flag_calls::set_flag(b, k, v);
     answered(r, 17, 10, log)
 }
 
@@ -81,7 +81,7 @@ fn put(b: &mut [u8], k: usize, s: &[u8], log: &mut [u8]) -> Performed
         return idle();
     }
     let e = 17 + n;
-    let r = attachments::put(b, k, &s[17..e]);
+    let r = puts::put(b, k, &s[17..e]);
     answered(r, e, 10, log)
 }
 
@@ -94,7 +94,7 @@ fn put_text(b: &mut [u8], n: usize, s: &[u8], log: &mut [u8]) -> Performed
         return idle();
     }
     let e = 9 + n;
-    let r = attachments::put_text(b, &s[9..e]);
+    let r = puts::put_text(b, &s[9..e]);
     answered(r, e, 10, log)
 }
 
@@ -116,7 +116,7 @@ fn fetch(b: &[u8], k: usize, s: &[u8], log: &mut [u8]) -> Performed
     let e = 17 + n;
     let to = 10 + n;
     script::copy(&s[17..e], &mut log[10..to]);
-    let r = attachments::fetch(b, k, &mut log[10..to]);
+    let r = fetches::fetch(b, k, &mut log[10..to]);
     answered(r, e, to, log)
 }
 
@@ -134,7 +134,7 @@ fn fetch_text(b: &[u8], n: usize, s: &[u8], log: &mut [u8]) -> Performed
     let e = 9 + n;
     let to = 10 + n;
     script::copy(&s[9..e], &mut log[10..to]);
-    let r = attachments::fetch_text(b, &mut log[10..to]);
+    let r = fetches::fetch_text(b, &mut log[10..to]);
     answered(r, e, to, log)
 }
 
@@ -156,9 +156,9 @@ fn perform(b: &mut [u8], s: &[u8], log: &mut [u8]) -> Performed
         1 => answered(fields::read_field(b, k), 9, 10, log),
         2 => set_field(b, k, s, log),
         3 => answered(fields::clear_field(b, k), 9, 10, log),
-        4 => answered(fields::read_flag(b, k), 9, 10, log),
+        4 => answered(flag_calls::read_flag(b, k), 9, 10, log),
         5 => set_flag(b, k, s, log),
-        6 => answered(fields::clear_flag(b, k), 9, 10, log),
+        6 => answered(flag_calls::clear_flag(b, k), 9, 10, log),
         7 => put(b, k, s, log),
         8 => fetch(b, k, s, log),
         9 => answered(attachments::remove(b, k), 9, 10, log),

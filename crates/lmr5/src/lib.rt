@@ -223,21 +223,21 @@ pub extern "C" fn lmr5_clear_field(report: &mut [u8], field: usize) -> Answer
 pub extern "C" fn lmr5_read_flag(report: &[u8], flag: usize) -> Answer
     ensures { λ r. ⌜ left r (now (report .entry)) [] ≡ numberedAfter (effect (now (report .entry)) (machine.readFlag flag)) ⌝ }
 {
-    answer_of(fields::read_flag(&*report, flag))
+    answer_of(flag_calls::read_flag(&*report, flag))
 }
 
 #[no_mangle]
 pub extern "C" fn lmr5_set_flag(report: &mut [u8], flag: usize, value: usize) -> Answer
     ensures { λ r. ⌜ left r (now (report .exit)) [] ≡ numberedAfter (effect (now (report .entry)) (machine.setFlag flag value)) ⌝ }
 {
-    answer_of(fields::set_flag(report, flag, value))
+    answer_of(flag_calls::set_flag(report, flag, value))
 }
 
 #[no_mangle]
 pub extern "C" fn lmr5_clear_flag(report: &mut [u8], flag: usize) -> Answer
     ensures { λ r. ⌜ left r (now (report .exit)) [] ≡ numberedAfter (effect (now (report .entry)) (machine.clearFlag flag)) ⌝ }
 {
-    answer_of(fields::clear_flag(report, flag))
+    answer_of(flag_calls::clear_flag(report, flag))
 }
 
 // ---- attachments and the ship text
@@ -246,14 +246,14 @@ pub extern "C" fn lmr5_clear_flag(report: &mut [u8], flag: usize) -> Answer
 pub extern "C" fn lmr5_put(report: &mut [u8], id: usize, content: &[u8]) -> Answer
     ensures { λ r. ⌜ left r (now (report .exit)) [] ≡ numberedAfter (effect (now (report .entry)) (machine.put id (now (content .entry)))) ⌝ }
 {
-    answer_of(attachments::put(report, id, content))
+    answer_of(puts::put(report, id, content))
 }
 
 #[no_mangle]
 pub extern "C" fn lmr5_fetch(report: &[u8], id: usize, out: &mut [u8]) -> Answer
     ensures { λ r. ⌜ left r (now (report .entry)) (now (out .exit)) ≡ numberedAfter (effect (now (report .entry)) (machine.fetch id (now (out .entry)))) ⌝ }
 {
-    answer_of(attachments::fetch(&*report, id, out))
+    answer_of(fetches::fetch(&*report, id, out))
 }
 
 #[no_mangle]
@@ -267,14 +267,14 @@ pub extern "C" fn lmr5_drop(report: &mut [u8], id: usize) -> Answer
 pub extern "C" fn lmr5_put_text(report: &mut [u8], text: &[u8]) -> Answer
     ensures { λ r. ⌜ left r (now (report .exit)) [] ≡ numberedAfter (effect (now (report .entry)) (machine.putText (now (text .entry)))) ⌝ }
 {
-    answer_of(attachments::put_text(report, text))
+    answer_of(puts::put_text(report, text))
 }
 
 #[no_mangle]
 pub extern "C" fn lmr5_fetch_text(report: &[u8], out: &mut [u8]) -> Answer
     ensures { λ r. ⌜ left r (now (report .entry)) (now (out .exit)) ≡ numberedAfter (effect (now (report .entry)) (machine.fetchText (now (out .entry)))) ⌝ }
 {
-    answer_of(attachments::fetch_text(&*report, out))
+    answer_of(fetches::fetch_text(&*report, out))
 }
 
 // ---- a script of calls

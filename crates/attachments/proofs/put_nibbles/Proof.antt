@@ -1,7 +1,7 @@
 -- `attachments::put_nibbles` meets its contract.
 -- Assumes nothing.
-use Rattle.attachments.proofs.Calls.{reach}
-use Rattle.attachments.proofs.Puts.{append-edit, replace-edit}
+use Rattle.calls.proofs.Found.{reach}
+use Rattle.attachments.proofs.Returns.{append-edit, replace-edit}
 use native.Mathlib.Omega.{arith}
 use borrow.Author.Needs.{needs}
 use Rattle.attachments.proofs.put_nibbles.Statement.{statement}

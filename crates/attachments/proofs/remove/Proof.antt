@@ -1,7 +1,7 @@
 -- `attachments::remove` meets its contract.
 -- Assumes nothing.
 use Rattle.format.specs.Machine.{remove, lent}
-use Rattle.attachments.proofs.Calls.{inspect-refused, inspect-found}
+use Rattle.calls.proofs.Found.{inspect-refused, inspect-found}
 use borrow.Author.Needs.{needs}
 use Rattle.attachments.proofs.remove.Statement.{statement}
 use Rattle.attachments.proofs.remove.Tie as tie

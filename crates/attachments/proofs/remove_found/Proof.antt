@@ -4,9 +4,9 @@ use mathlib.Core.Path.{refl}
 use mathlib.Core.List.{[], _∷_}
 use Rattle.format.specs.Machine.{remove, lent, idCheck, callChecks}
 use Rattle.laws.proofs.Order.{first-nil}
-use Rattle.attachments.proofs.Place.{within}
-use Rattle.attachments.proofs.Calls.{id-low, id-high, missing, id-passes, reach}
-use Rattle.attachments.proofs.Puts.{remove-edit, remove-room, remove-done, count-some}
+use Rattle.laws.proofs.Report.{within}
+use Rattle.calls.proofs.Found.{reach, id-low, id-high, missing, id-passes}
+use Rattle.attachments.proofs.Returns.{remove-edit, remove-room, remove-done, count-some}
 use native.Mathlib.Omega.{arith}
 use borrow.Author.Needs.{needs}
 use Rattle.attachments.proofs.remove_found.Statement.{statement}
@@ -34,7 +34,7 @@ sub-set-count : tie.Need-sub-set-count
 sub-set-count c = count-some (λ j. c .before .before .before .before .before .before .before .before .slice-known .given j .fits) (c .before .before .before .before .before .before .before .before .before .pre) (c .before .before .before .before .before .if3 .left)
 
 set-count-requires : tie.Need-set-count-requires
-set-count-requires c κs = (omega (arith, within (c .before .before .before .before .before .before .before .before .before .args .s .now) (λ j. c .before .before .before .before .before .before .before .before .slice-known .given j .fits) (c .before .before .before .before .before .before .before .before .before .pre .judged) .0, c .before .before .before .resize .ensures .1), remove-edit (λ j. c .before .before .before .before .before .before .before .before .slice-known .given j .fits) (c .before .before .before .before .before .before .before .before .before .pre) (c .before .before .before .before .before .if3 .left) .count-lt)
+set-count-requires c κs = (omega (arith, within (c .before .before .before .before .before .before .before .before .before .args .s .now) _ (λ j. c .before .before .before .before .before .before .before .before .slice-known .given j .fits) (c .before .before .before .before .before .before .before .before .before .pre .judged) .0, c .before .before .before .resize .ensures .1), remove-edit (λ j. c .before .before .before .before .before .before .before .before .slice-known .given j .fits) (c .before .before .before .before .before .before .before .before .before .pre) (c .before .before .before .before .before .if3 .left) .count-lt)
 
 same-length : tie.Need-same-length
 same-length c = search needs

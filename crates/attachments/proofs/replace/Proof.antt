@@ -1,8 +1,8 @@
 -- `attachments::replace` meets its contract.
 -- Assumes nothing.
 use mathlib.Core.Path.{_∙_}
-use Rattle.attachments.proofs.Place.{within}
-use Rattle.attachments.proofs.Puts.{put-small, put-refused, put-room, lay-room, put-done}
+use Rattle.laws.proofs.Report.{within}
+use Rattle.attachments.proofs.Returns.{put-small, put-refused, put-room, lay-room, put-done}
 use native.Mathlib.Omega.{arith}
 use borrow.Author.Needs.{needs}
 use Rattle.attachments.proofs.replace.Statement.{statement}
@@ -30,7 +30,7 @@ lay-attachment-requires : tie.Need-lay-attachment-requires
 lay-attachment-requires c κs = let k = put-small (λ j. c .before .before .before .before .before .before .before .slice-known .given j .fits) (c .before .before .before .before .before .before .before .before .pre) in (omega (arith, lay-room (λ j. c .before .before .before .before .before .before .before .slice-known .given j .fits) (c .before .before .before .before .before .before .before .before .pre) (c .before .before .before .before .before .if1 .left), c .before .before .before .resize .ensures .1), omega arith, c .before .before .before .before .before .before .before .before .pre .fine)
 
 set-count-requires : tie.Need-set-count-requires
-set-count-requires c κs = (omega (arith, within (c .before .before .before .before .before .before .before .before .before .before .before .before .args .s .now) (λ j. c .before .before .before .before .before .before .before .before .before .before .before .slice-known .given j .fits) (c .before .before .before .before .before .before .before .before .before .before .before .before .pre .edit .judged) .0, c .before .before .before .before .before .before .before .resize .ensures .1, c .before .before .before .lay-attachment .ensures .1), c .before .before .before .before .before .before .before .before .before .before .before .before .pre .edit .count-lt)
+set-count-requires c κs = (omega (arith, within (c .before .before .before .before .before .before .before .before .before .before .before .before .args .s .now) _ (λ j. c .before .before .before .before .before .before .before .before .before .before .before .slice-known .given j .fits) (c .before .before .before .before .before .before .before .before .before .before .before .before .pre .edit .judged) .0, c .before .before .before .before .before .before .before .resize .ensures .1, c .before .before .before .lay-attachment .ensures .1), c .before .before .before .before .before .before .before .before .before .before .before .before .pre .edit .count-lt)
 
 same-length : tie.Need-same-length
 same-length c = search needs

@@ -3,9 +3,9 @@
 use mathlib.Core.Path.{refl}
 use denote.Ref.{now}
 use Rattle.format.specs.Report.{sheetOf}
-use Rattle.format.specs.Machine.{clearField, callChecks}
+use Rattle.format.specs.Machine.{clearField, callChecks, lent}
 use Rattle.laws.proofs.Order.{between-in}
-use Rattle.fields.proofs.Calls.{number-refuses, quiet-clear-field}
+use Rattle.laws.proofs.Effects.{number-refuses}
 use Rattle.fields.proofs.Values.{field-required, field-cleared}
 use native.Mathlib.Omega.{arith}
 use borrow.Author.Needs.{needs}
@@ -16,8 +16,8 @@ within-requires : tie.Need-within-requires
 within-requires c κs = search needs
 
 returns : tie.Need-returns
-unfolding callChecks
-returns c = number-refuses _ (sheetOf (now (c .before .before .before .args .s))) (clearField (c .before .before .before .args .k)) (quiet-clear-field (c .before .before .before .args .k)) (λ i. c .before .before .slice-known .given i .fits) (c .before .before .before .pre)
+unfolding callChecks lent
+returns c = number-refuses _ (sheetOf (now (c .before .before .before .args .s))) (clearField (c .before .before .before .args .k)) (λ i. c .before .before .slice-known .given i .fits) (c .before .before .before .pre)
     1 46 (c .before .before .before .args .k) _ refl _ (c .before .within .ensures) (c .if1 .taken)
 
 row-requires : tie.Need-row-requires

@@ -5,12 +5,12 @@ use mathlib.Core.List.{[]}
 use denote.Ref.{now}
 use Rattle.format.specs.Field.{Field, scaledOf}
 use Rattle.format.specs.Report.{sheetOf}
-use Rattle.format.specs.Machine.{readField, callChecks}
+use Rattle.format.specs.Machine.{readField, callChecks, lent}
 use Rattle.laws.proofs.Order.{between-in}
 use Rattle.laws.proofs.Report.{passes}
 use Rattle.card.proofs.Rows.{field-row, row-window}
 use Rattle.card.proofs.Numbers.{row-at}
-use Rattle.fields.proofs.Calls.{number-refuses, quiet-read-field}
+use Rattle.laws.proofs.Effects.{number-refuses}
 use Rattle.fields.proofs.Values.{field-missing, field-read}
 use borrow.Author.Needs.{needs}
 use Rattle.fields.proofs.field_of.Statement.{statement}
@@ -20,8 +20,8 @@ within-requires : tie.Need-within-requires
 within-requires c κs = search needs
 
 returns : tie.Need-returns
-unfolding callChecks
-returns c = number-refuses _ (sheetOf (now (c .before .before .before .args .s))) (readField (c .before .before .before .args .k)) (quiet-read-field (c .before .before .before .args .k)) (λ i. c .before .before .shared-slice-known .given i .fits) (c .before .before .before .pre)
+unfolding callChecks lent
+returns c = number-refuses _ (sheetOf (now (c .before .before .before .args .s))) (readField (c .before .before .before .args .k)) (λ i. c .before .before .shared-slice-known .given i .fits) (c .before .before .before .pre)
     1 46 (c .before .before .before .args .k) [] refl _ (c .before .within .ensures) (c .if1 .taken)
 
 row-requires : tie.Need-row-requires

@@ -1,8 +1,7 @@
 -- `fields::read_field` meets its contract.
 -- Assumes nothing.
-use Rattle.format.specs.Machine.{readField}
-use Rattle.report.proofs.Outcomes.{judge-fine}
-use Rattle.fields.proofs.Calls.{report-refuses, quiet-read-field}
+use Rattle.format.specs.Machine.{readField, lent}
+use Rattle.calls.proofs.Found.{inspect-refused, inspect-found}
 use borrow.Author.Needs.{needs}
 use Rattle.fields.proofs.read_field.Statement.{statement}
 use Rattle.fields.proofs.read_field.Tie as tie
@@ -17,10 +16,11 @@ enum-told : tie.Need-enum-told
 enum-told c = search needs
 
 field-of-requires : tie.Need-field-of-requires
-field-of-requires c κs = judge-fine _ _ _ _ (c .before .before .inspect .ensures) (c .enum-told .given .1) .0
+field-of-requires c κs = inspect-found _ _ _ (c .before .before .inspect .ensures) _ (c .enum-told .given .1) .judged
 
 returns : tie.Need-returns
-returns c = report-refuses _ (readField (c .before .before .before .before .before .args .k)) 0 _ _ _ (quiet-read-field (c .before .before .before .before .before .args .k)) (c .before .before .before .inspect .ensures) (c .before .i .given .1)
+unfolding lent
+returns c = inspect-refused _ _ _ (c .before .before .before .inspect .ensures) _ _ (readField (c .before .before .before .before .before .args .k)) (c .before .i .given .1)
 
 returns-2 : tie.Need-returns-2
 returns-2 c = search needs

@@ -1,8 +1,7 @@
 -- `fields::set_field` meets its contract.
 -- Assumes nothing.
-use Rattle.format.specs.Machine.{setField}
-use Rattle.report.proofs.Outcomes.{judge-fine}
-use Rattle.fields.proofs.Calls.{report-refuses, quiet-set-field}
+use Rattle.format.specs.Machine.{setField, lent}
+use Rattle.calls.proofs.Found.{inspect-refused, inspect-found}
 use borrow.Author.Needs.{needs}
 use Rattle.fields.proofs.set_field.Statement.{statement}
 use Rattle.fields.proofs.set_field.Tie as tie
@@ -17,13 +16,14 @@ enum-told : tie.Need-enum-told
 enum-told c = search needs
 
 set-field-of-requires : tie.Need-set-field-of-requires
-set-field-of-requires c κs = judge-fine _ _ _ _ (c .before .before .before .inspect .ensures) (c .before .enum-told .given .1) .0
+set-field-of-requires c κs = inspect-found _ _ _ (c .before .before .before .inspect .ensures) _ (c .before .enum-told .given .1) .judged
 
 same-length : tie.Need-same-length
 same-length c = search needs
 
 returns : tie.Need-returns
-returns c = report-refuses _ (setField (c .before .before .before .before .before .before .args .k) (c .before .before .before .before .before .before .args .v)) 0 _ _ _ (quiet-set-field (c .before .before .before .before .before .before .args .k) (c .before .before .before .before .before .before .args .v)) (c .before .before .before .inspect .ensures) (c .before .i .given .1)
+unfolding lent
+returns c = inspect-refused _ _ _ (c .before .before .before .inspect .ensures) _ _ (setField (c .before .before .before .before .before .before .args .k) (c .before .before .before .before .before .before .args .v)) (c .before .i .given .1)
 
 same-length-2 : tie.Need-same-length-2
 same-length-2 c = search needs

@@ -4,12 +4,12 @@ use mathlib.Core.Path.{refl, sym, ap, _∙_}
 use denote.Ref.{now}
 use Rattle.format.specs.Report.{sheetOf}
 use Rattle.format.specs.Field.{Field, fieldAt}
-use Rattle.format.specs.Machine.{setField, callChecks}
+use Rattle.format.specs.Machine.{setField, callChecks, lent}
 use Rattle.card.specs.Answers.{codingOf}
 use Rattle.card.proofs.Given.{coding-code}
 use Rattle.card.proofs.Rows.{field-row}
 use Rattle.laws.proofs.Order.{between-in}
-use Rattle.fields.proofs.Calls.{number-refuses, quiet-set-field}
+use Rattle.laws.proofs.Effects.{number-refuses}
 use Rattle.fields.proofs.Values.{field-outside, field-set}
 use borrow.Author.Needs.{needs}
 use Rattle.fields.proofs.set_field_of.Statement.{statement}
@@ -19,8 +19,8 @@ within-requires : tie.Need-within-requires
 within-requires c κs = search needs
 
 returns : tie.Need-returns
-unfolding callChecks
-returns c = number-refuses _ (sheetOf (now (c .before .before .before .args .s))) (setField (c .before .before .before .args .k) (c .before .before .before .args .v)) (quiet-set-field (c .before .before .before .args .k) (c .before .before .before .args .v)) (λ i. c .before .before .slice-known .given i .fits) (c .before .before .before .pre)
+unfolding callChecks lent
+returns c = number-refuses _ (sheetOf (now (c .before .before .before .args .s))) (setField (c .before .before .before .args .k) (c .before .before .before .args .v)) (λ i. c .before .before .slice-known .given i .fits) (c .before .before .before .pre)
     1 46 (c .before .before .before .args .k) _ refl _ (c .before .within .ensures) (c .if1 .taken)
 
 row-requires : tie.Need-row-requires

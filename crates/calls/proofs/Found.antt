@@ -1,0 +1,125 @@
+-- What a call knows of a report that was inspected: the outcome, the place of an attachment, and the refusals of an id.
+-- Assumes nothing.
+use Prim.Native.Nat.{ℕ, _+_, _-_, _*_, _≤_, _<_}
+use native.Mathlib.Omega.{arith}
+use mathlib.Core.Path.{_≡_, refl, sym, ap, _∙_}
+use mathlib.Core.Bool.{true, false, not}
+use mathlib.Core.List.{List, [], _∷_, _++_}
+use mathlib.Core.Option.{none}
+use lib.ListN.{length, take, drop}
+use lib.Seq.{take-at}
+use Rattle.format.specs.Bits.{Bytes}
+use Rattle.format.specs.Order.{Check, first, between}
+use Rattle.format.specs.Nibbles.{Attachment, attachment, nibbles, attachmentNibbles, tailNibbles}
+use Rattle.format.specs.Report.{sheetOf}
+use Rattle.format.specs.Machine.{Call, stands, contentOf, lent, idCheck, standsCheck, callChecks}
+use Rattle.format.specs.Buffer.{after, effect}
+use Rattle.format.specs.Reply.{refusal}
+use Rattle.laws.proofs.Order.{first-nil, no-check, range-low, range-high, range-fine}
+use Rattle.laws.proofs.AttachmentEdits.{Placed, placed}
+use Rattle.laws.proofs.Report.{Good, judged, counted, within}
+use Rattle.laws.proofs.Effects.{effect-refused, call-refuses, number-refuses}
+use Rattle.tail.proofs.Place as place
+use Rattle.tail.proofs.Place.{absent-at, stands-at, around, beyond, body-is, body-ends}
+use Rattle.report.specs.declared.Report.{Report}
+use Rattle.report.specs.declared.Inspected.{Inspected}
+use Rattle.report.specs.Answers.{inspected}
+use Rattle.report.proofs.Outcomes.{judge-refused, judge-fine}
+use Rattle.calls.specs.Found.{Found}
+
+-- ---- what inspecting brings
+
+module _ (b : List ℕ) (i : ℕ) (x : Inspected) (is : x ≡ inspected b i) where
+  pub inspect-refused : (n p : ℕ) (c : Call) → x ≡ Inspected.Refused n p → after (refusal n p) b (lent c) ≡ effect b c
+  inspect-refused n p c e = effect-refused b (record { number = n; place = p }) c (judge-refused b i n p x is e)
+
+  pub inspect-found : (r : Report) → x ≡ Inspected.Fine r → Found b i r
+  inspect-found r e = let f = judge-fine b i r x is e in record { judged = f .0; is = f .1 }
+
+-- ---- the place of an attachment
+
+module _ {b : List ℕ} {i : ℕ} {r : Report} (bs : Bytes b) (f : Found b i r) where
+  abbrev list : List Attachment
+  list = sheetOf b .attachments
+
+  abbrev content : List ℕ
+  content = contentOf i list
+
+  pub good : Good (sheetOf b)
+  good = judged b (sheetOf b) bs (f .judged) .good
+
+  pub al-is : r .al ≡ length (contentOf i (sheetOf b .attachments))
+  al-is = ap (λ (q : Report). q .al) (f .is)
+
+  pub end-is : r .end ≡ 75 + length (tailNibbles (sheetOf b .attachments))
+  end-is = ap (λ (q : Report). q .end) (f .is)
+
+  pub count-is : r .count ≡ length (sheetOf b .attachments)
+  count-is = ap (λ (q : Report). q .count) (f .is) ∙ counted b (sheetOf b) bs (f .judged)
+
+  pub absent : r .place ≡ 0 → stands i (sheetOf b .attachments) ≡ false
+  absent e = absent-at i 75 list (omega arith) (sym (ap (λ (q : Report). q .place) (f .is)) ∙ e)
+
+  pub present : (r .place ≡ 0 → ⊥) → stands i (sheetOf b .attachments) ≡ true
+  present h = stands-at i 75 list (λ e. h (ap (λ (q : Report). q .place) (f .is) ∙ e))
+
+  -- where the id stands
+  module _ (p : Placed i (contentOf i (sheetOf b .attachments)) (sheetOf b .attachments)) where
+    abbrev before : List ℕ
+    before = tailNibbles (p .before)
+
+    abbrev behind : List ℕ
+    behind = tailNibbles (p .after)
+
+    pub split : tailNibbles (sheetOf b .attachments)
+        ≡ tailNibbles (p .before) ++ (attachmentNibbles (attachment i (contentOf i (sheetOf b .attachments))) ++ tailNibbles (p .after))
+    split = around i p
+
+    pub place-is : r .place ≡ 75 + length (tailNibbles (p .before))
+    place-is = ap (λ (q : Report). q .place) (f .is) ∙ place.place-is i 75 p
+
+    -- its header and its nibbles lie within the report
+    pub inside : r .place + (3 + r .al) ≤ r .end
+    inside = omega (arith, al-is, end-is, body-ends b i bs (f .judged) p (r .place) (ap (λ (q : Report). q .place) (f .is)))
+
+    -- its nibbles
+    pub content-is : take (r .al) (drop (r .place + 3) (nibbles b)) ≡ contentOf i (sheetOf b .attachments)
+    content-is =
+        ap (take (r .al)) (body-is b i bs (f .judged) p (r .place) (ap (λ (q : Report). q .place) (f .is)))
+        ∙ take-at content (tailNibbles (p .after) ++ beyond b i bs (f .judged) p) (r .al) (sym al-is)
+
+module _ {b : List ℕ} {i : ℕ} {r : Report} (bs : Bytes b) (f : Found b i r) (h : r .place ≡ 0 → ⊥) where
+  pub spot : Placed i (contentOf i (sheetOf b .attachments)) (sheetOf b .attachments)
+  spot = placed i (sheetOf b .attachments) (present bs f h)
+
+  -- it lies within the buffer
+  pub reach : (r .place + 3 + r .al ≤ 2 * length b) × (r .place + 3 + r .al ≤ 3706)
+  reach =
+      let w = within b (sheetOf b) bs (f .judged) in
+      let k = inside bs f spot in
+      let e = end-is bs f in
+      (omega arith, omega arith)
+
+-- ---- refusals
+
+module _ {b : List ℕ} {i : ℕ} {r : Report} (bs : Bytes b) (f : Found b i r) (c : Call) where
+  -- 8, which comes first
+  module _ (behind : List Check) (is : callChecks (sheetOf b) c ≡ idCheck i ∷ behind) where
+    pub id-low : i < 1 → after (refusal 8 0) b (lent c) ≡ effect b c
+    id-low h = number-refuses b (sheetOf b) c bs (f .judged) 1 15 i behind is (between 1 15 i) refl (range-low 1 15 i h)
+
+    pub id-high : 15 < i → after (refusal 8 0) b (lent c) ≡ effect b c
+    id-high h = number-refuses b (sheetOf b) c bs (f .judged) 1 15 i behind is (between 1 15 i) refl (range-high 1 15 i h)
+
+  -- 11
+  pub missing : (before : List Check) → callChecks (sheetOf b) c ≡ before ++ (standsCheck (sheetOf b) i ∷ []) → first before ≡ none
+      → r .place ≡ 0 → after (refusal 11 0) b (lent c) ≡ effect b c
+  missing before is passed e = call-refuses b (sheetOf b) c bs (f .judged) before (standsCheck (sheetOf b) i) [] is passed (rw (absent bs f e))
+
+-- ---- the checks passed
+
+pub id-passes : (i : ℕ) (more : List Check) → 1 ≤ i → i ≤ 15 → first more ≡ none → first (idCheck i ∷ more) ≡ none
+id-passes i more low high rest = no-check (idCheck i) more (ap not (range-fine 1 15 i low high)) rest
+
+pub stands-passes : {b : List ℕ} {i : ℕ} {r : Report} → Bytes b → Found b i r → (r .place ≡ 0 → ⊥) → first (standsCheck (sheetOf b) i ∷ []) ≡ none
+stands-passes {b} {i} bs f h = no-check (standsCheck (sheetOf b) i) [] (ap not (present bs f h)) first-nil
