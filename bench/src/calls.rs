@@ -47,6 +47,8 @@ impl Bed {
     }
 
     /// Measures a call that leaves its buffers as they were, or works on what the turn before left.
+    /// The buffer is taken from its vector in each turn: the two words of a slice that was only
+    /// just stored are read as one for arguments on the stack, which waits for those stores.
     fn steady<A>(
         &self,
         name: &'static str,
@@ -61,12 +63,18 @@ impl Bed {
             self.size,
             &mut |turns| {
                 for i in 0..turns {
-                    here(black_box(&mut ours), black_box(&row[i % ROW]));
+                    here(
+                        black_box(&mut ours).as_mut_slice(),
+                        black_box(&row[i % ROW]),
+                    );
                 }
             },
             &mut |turns| {
                 for i in 0..turns {
-                    rust(black_box(&mut theirs), black_box(&row[i % ROW]));
+                    rust(
+                        black_box(&mut theirs).as_mut_slice(),
+                        black_box(&row[i % ROW]),
+                    );
                 }
             },
         )
