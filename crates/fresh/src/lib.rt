@@ -2,7 +2,6 @@
 ghost use mathlib.Core.Path.{_≡_};
 ghost use Prim.Native.Nat.{_≤_};
 ghost use lib.ListN.{length};
-ghost use lib.Dec.{eqb};
 ghost use Rattle.format.specs.Field.{fieldAt};
 ghost use Rattle.format.specs.Whole as spec;
 ghost use Rattle.card.specs.Answers.{Carded};
@@ -28,14 +27,6 @@ fn code_or_zero(k: usize, v: Scaled) -> Coded
         Coding::Outside => Coded(0),
         Coding::Code(c) => c,
     }
-}
-
-// Whether a coded number is that of a missing field.
-fn is_missing(c: Coded) -> bool
-    ensures { λ r. ⌜ r ≡ eqb (c .0) 0 ⌝ }
-{
-    let x = c.0;
-    x == 0
 }
 
 // Clears the first 38 bytes.
@@ -82,23 +73,23 @@ pub fn fresh(
     ensures { λ r. ⌜ record { answer = freshAnswer r; out = now (out .exit) } ≡ spec.fresh box10 year month x y (now (out .entry)) ⌝ }
 {
     let a = code_or_zero(1, box10);
-    if is_missing(a) {
+    if card::is_missing(a) {
         return Started::Refused(9, 1);
     }
     let b = code_or_zero(2, year);
-    if is_missing(b) {
+    if card::is_missing(b) {
         return Started::Refused(9, 2);
     }
     let c = code_or_zero(3, month);
-    if is_missing(c) {
+    if card::is_missing(c) {
         return Started::Refused(9, 3);
     }
     let d = code_or_zero(6, x);
-    if is_missing(d) {
+    if card::is_missing(d) {
         return Started::Refused(9, 6);
     }
     let e = code_or_zero(7, y);
-    if is_missing(e) {
+    if card::is_missing(e) {
         return Started::Refused(9, 7);
     }
     if out.len() < 38 {
