@@ -9,9 +9,9 @@ use lib.Seq.{paste}
 use borrow.Author.Tests.{lt-ltb, le-ltb}
 use Rattle.format.specs.Bits.{Bytes}
 use Rattle.format.specs.Nibbles.{Attachment, attachment, nibbles, attachmentNibbles, tailNibbles}
-use Rattle.format.specs.Sheet.{Sheet, size}
-use Rattle.format.specs.Report.{numbersOf, sheetOf}
-use Rattle.format.specs.Machine.{remove, next, gives, lent, writes, contentOf, putIn, removeFrom, withAttachments, withContent, callChecks, Answer}
+use Rattle.format.specs.Observation.{Observation, size}
+use Rattle.format.specs.Report.{numbersOf, observationOf}
+use Rattle.format.specs.Calls.{remove, next, gives, outputOf, writes, contentOf, putIn, removeFrom, withAttachments, withContent, callChecks, Answer}
 use Rattle.format.specs.Buffer.{after, effect}
 use Rattle.format.specs.Reply.{refusal}
 use Rattle.laws.proofs.Nibbles.{length-nibbles}
@@ -29,9 +29,9 @@ use Rattle.attachments.proofs.Edits.{spliced-none, spliced-laid}
 
 -- room for an edit
 resizable : {b : List ℕ} {list : List Attachment} {x : List ℕ} {at old end count : ℕ} (new : ℕ) → Bytes b → Edit b list x at old end count
-    → new ≡ length x → new ≤ 65536 → size (withAttachments (sheetOf b) list) ≤ length b → Resizable (length b) at old new end
+    → new ≡ length x → new ≤ 65536 → size (withAttachments (observationOf b) list) ≤ length b → Resizable (length b) at old new end
 resizable {b} {list} {x} {at} {old} {end} new bs e l small room =
-    let w = within b (sheetOf b) bs (e .judged) in
+    let w = within b (observationOf b) bs (e .judged) in
     let i = edit-inside bs e in
     let z = edit-size bs e in
     let d = e .end-is in
@@ -41,16 +41,16 @@ resizable {b} {list} {x} {at} {old} {end} new bs e l small room =
 
 module _ {b : List ℕ} {i : ℕ} {r : Report} (bs : Bytes b) (f : Found b i r) (h : r .place ≡ 0 → ⊥) where
   abbrev list : List Attachment
-  list = sheetOf b .attachments
+  list = observationOf b .attachments
 
   abbrev content : List ℕ
   content = contentOf i list
 
-  header-length : 3 + r .al ≡ length (attachmentNibbles (attachment i (contentOf i (sheetOf b .attachments))))
+  header-length : 3 + r .al ≡ length (attachmentNibbles (attachment i (contentOf i (observationOf b .attachments))))
   unfolding attachmentNibbles
   header-length = omega (arith, al-is bs f)
 
-  pub remove-edit : Edit b (removeFrom i (sheetOf b .attachments)) [] (r .place) (3 + r .al) (r .end) (r .count - 1)
+  pub remove-edit : Edit b (removeFrom i (observationOf b .attachments)) [] (r .place) (3 + r .al) (r .end) (r .count - 1)
   remove-edit =
       let p = spot bs f h in
       let n = count-is bs f in
@@ -69,9 +69,9 @@ module _ {b : List ℕ} {i : ℕ} {r : Report} (bs : Bytes b) (f : Found b i r) 
         count-lt = omega (arith, fine-count (good bs f .fine));
       }
 
-  remove-fits : size (withAttachments (sheetOf b) (removeFrom i (sheetOf b .attachments))) ≤ length b
+  remove-fits : size (withAttachments (observationOf b) (removeFrom i (observationOf b .attachments))) ≤ length b
   remove-fits =
-      let w = within b (sheetOf b) bs (f .judged) in
+      let w = within b (observationOf b) bs (f .judged) in
       let z = edit-size bs remove-edit in
       let e = end-is bs f in
       omega arith
@@ -84,9 +84,9 @@ module _ {b : List ℕ} {i : ℕ} {r : Report} (bs : Bytes b) (f : Found b i r) 
 
   pub remove-done : (c d : List ℕ) → 1 ≤ i → i ≤ 15 → nibbles c ≡ resized (nibbles b) (r .place) (3 + r .al) 0 (r .end) → length c ≡ length b
       → Carded c d (set (numbersOf c) 48 (r .count - 1)) → Bytes d → after (Answer.accepted []) d [] ≡ effect b (remove i)
-  unfolding callChecks lent writes gives next
+  unfolding callChecks outputOf writes gives next
   remove-done c d low high moved same k bd =
-      effect-done b (sheetOf b) (remove i) bs (f .judged) d [] (id-passes i _ low high (stands-passes bs f h)) remove-fits (omega arith)
+      effect-done b (observationOf b) (remove i) bs (f .judged) d [] (id-passes i _ low high (stands-passes bs f h)) remove-fits (omega arith)
       (edit-laid bs remove-edit c (moved ∙ spliced-none (nibbles b) (r .place) (3 + r .al) (r .end))
       (fine-nibbles (remove-fine i (good bs f .fine))) d bd (k .long ∙ same) (k .card) (k .behind))
       refl
@@ -94,21 +94,21 @@ module _ {b : List ℕ} {i : ℕ} {r : Report} (bs : Bytes b) (f : Found b i r) 
 -- ---- put: at the end, or in place of what stands
 
 module _ {b : List ℕ} {i : ℕ} {r : Report} {ns : List ℕ} (bs : Bytes b) (f : Found b i r) (fine : FineAt (attachment i ns)) where
-  few : length (putIn i ns (sheetOf b .attachments)) < 16
+  few : length (putIn i ns (observationOf b .attachments)) < 16
   few = omega (arith, fine-count (put-fine i ns fine (good bs f .fine)))
 
   pub append-edit : r .place ≡ 0 → PutEdit b i ns (r .end) 0 (r .end) (r .count + 1)
   unfolding tailNibbles
   append-edit e =
-      let list = sheetOf b .attachments in
+      let list = observationOf b .attachments in
       let a = absent bs f e in
       let n : r .count + 1 ≡ length (putIn i ns list) = omega (arith, count-is bs f, append-length i ns list a) in
-      let edit : Edit b (putIn i ns (sheetOf b .attachments)) (attachmentNibbles (attachment i ns)) (r .end) 0 (r .end) (r .count + 1) = record {
+      let edit : Edit b (putIn i ns (observationOf b .attachments)) (attachmentNibbles (attachment i ns)) (r .end) 0 (r .end) (r .count + 1) = record {
         judged = f .judged;
-        before = tailNibbles (sheetOf b .attachments);
+        before = tailNibbles (observationOf b .attachments);
         gone = [];
         behind = [];
-        from = sym (append-nil (tailNibbles (sheetOf b .attachments)));
+        from = sym (append-nil (tailNibbles (observationOf b .attachments)));
         to = ap tailNibbles (put-absent i ns list a) ∙ tail-append list (attachment i ns ∷ []);
         at-is = end-is bs f;
         old-is = refl;
@@ -122,11 +122,11 @@ module _ {b : List ℕ} {i : ℕ} {r : Report} {ns : List ℕ} (bs : Bytes b) (f
   unfolding tailNibbles
   replace-edit h =
       let p = spot bs f h in
-      let n : r .count ≡ length (putIn i ns (sheetOf b .attachments)) = count-is bs f ∙ sym (put-length p ns) in
-      let edit : Edit b (putIn i ns (sheetOf b .attachments)) (attachmentNibbles (attachment i ns)) (r .place) (3 + r .al) (r .end) (r .count) = record {
+      let n : r .count ≡ length (putIn i ns (observationOf b .attachments)) = count-is bs f ∙ sym (put-length p ns) in
+      let edit : Edit b (putIn i ns (observationOf b .attachments)) (attachmentNibbles (attachment i ns)) (r .place) (3 + r .al) (r .end) (r .count) = record {
         judged = f .judged;
         before = tailNibbles (p .before);
-        gone = attachmentNibbles (attachment i (contentOf i (sheetOf b .attachments)));
+        gone = attachmentNibbles (attachment i (contentOf i (observationOf b .attachments)));
         behind = tailNibbles (p .after);
         from = split bs f p;
         to = ap tailNibbles (put-placed p ns) ∙ tail-append (p .before) (attachment i ns ∷ p .after);
@@ -141,19 +141,19 @@ module _ {b : List ℕ} {i : ℕ} {r : Report} {ns : List ℕ} (bs : Bytes b) (f
 -- ---- the returns of a put
 
 module _ {b : List ℕ} {i : ℕ} {ns : List ℕ} {at old end count : ℕ} (bs : Bytes b) (e : PutEdit b i ns at old end count) where
-  abbrev t : Sheet
-  t = withContent (sheetOf b) i ns
+  abbrev t : Observation
+  t = withContent (observationOf b) i ns
 
   attachment-length : 3 + length ns ≡ length (attachmentNibbles (attachment i ns))
   unfolding attachmentNibbles
   attachment-length = omega arith
 
-  put-size : size (withContent (sheetOf b) i ns) ≡ (end - old + (3 + length ns) + 1) / 2
+  put-size : size (withContent (observationOf b) i ns) ≡ (end - old + (3 + length ns) + 1) / 2
   put-size = edit-size bs (e .edit) ∙ ap (λ (n : ℕ). (end - old + n + 1) / 2) (sym attachment-length)
 
   pub put-small : (old ≤ end) × (end ≤ 3706) × (at ≤ end) × (length ns ≤ 255)
   put-small =
-      let w = within b (sheetOf b) bs (e .edit .judged) in
+      let w = within b (observationOf b) bs (e .edit .judged) in
       let i = edit-inside bs (e .edit) in
       let d = e .edit .end-is in
       (omega arith, omega arith, omega arith, e .fine .short)
@@ -172,7 +172,7 @@ module _ {b : List ℕ} {i : ℕ} {ns : List ℕ} {at old end count : ℕ} (bs :
         → nibbles c₂ ≡ paste (nibbles c₁) at (attachmentNibbles (attachment i ns)) (3 + length ns) → length c₂ ≡ length b
         → Carded c₂ d (set (numbersOf c₂) 48 count) → Bytes d → after (Answer.accepted []) d [] ≡ putting b i ns
     put-done c₁ c₂ d moved laid same k bd =
-        let g = judged b (sheetOf b) bs (e .edit .judged) .good in
+        let g = judged b (observationOf b) bs (e .edit .judged) .good in
         let x = attachmentNibbles (attachment i ns) in
         let spliced = laid ∙ ap (λ (l : List ℕ). paste l at x (3 + length ns)) moved
         ∙ spliced-laid (nibbles b) x at old (3 + length ns) end attachment-length (rw length-nibbles lay-room) in

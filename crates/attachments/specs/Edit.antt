@@ -5,9 +5,9 @@ use mathlib.Core.List.{List, [], _++_}
 use lib.ListN.{length, take, drop}
 use lib.Dec.{ltb}
 use Rattle.format.specs.Nibbles.{attachment, attachmentNibbles}
-use Rattle.format.specs.Sheet.{size}
-use Rattle.format.specs.Report.{sheetOf}
-use Rattle.format.specs.Machine.{Answer, putIn, withContent}
+use Rattle.format.specs.Observation.{size}
+use Rattle.format.specs.Report.{observationOf}
+use Rattle.format.specs.Calls.{Answer, putIn, withContent}
 use Rattle.format.specs.Buffer.{zeros, layout, After, after}
 use Rattle.format.specs.Reply.{refusal}
 use Rattle.laws.proofs.Attachments.{FineAt}
@@ -30,12 +30,12 @@ resized ns at old new end =
     take (at + new) ns ++ (take rest (drop (at + old) ns) ++ (zeros (clearedTo end last - last) ++ drop (clearedTo end last) ns))
 
 pub record PutEdit (b : List ℕ) (i : ℕ) (ns : List ℕ) (at old end count : ℕ) : Type 0 where
-  pub edit : Edit b (putIn i ns (sheetOf b .attachments)) (attachmentNibbles (attachment i ns)) at old end count
+  pub edit : Edit b (putIn i ns (observationOf b .attachments)) (attachmentNibbles (attachment i ns)) at old end count
   pub fine : FineAt (attachment i ns)
 
 -- what a put leaves that only 13 may refuse
 abbrev pub putting : List ℕ → ℕ → List ℕ → After
 putting b i ns =
-    let s = sheetOf b in
+    let s = observationOf b in
     let t = withContent s i ns in
     cond (ltb (length b) (size t)) (after (refusal 13 0) b []) (after (Answer.accepted []) (layout b (size s) t) [])

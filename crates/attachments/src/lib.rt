@@ -6,7 +6,7 @@ ghost use Prim.Native.Nat.{_+_, _*_, _≤_, max};
 ghost use lib.ListN.{length};
 ghost use lib.Seq.{paste};
 ghost use Rattle.format.specs.Nibbles.{nibbles, attachment, attachmentNibbles};
-ghost use Rattle.format.specs.Machine as machine;
+ghost use Rattle.format.specs.Calls as call;
 ghost use Rattle.format.specs.Buffer.{after, effect};
 ghost use Rattle.format.specs.Reply.{answerOf};
 ghost use Rattle.laws.proofs.Attachments.{FineAt};
@@ -45,7 +45,7 @@ fn resize(s: &mut [u8], at: usize, old: usize, new: usize, end: usize)
 // Removes from a report that was inspected.
 fn remove_found(s: &mut [u8], id: usize, found: Report) -> Reply
     requires { ⌜ Found (now s) id found ⌝ }
-    ensures { λ r. ⌜ after (answerOf r) (now (s .exit)) [] ≡ effect (now (s .entry)) (machine.remove id) ⌝ }
+    ensures { λ r. ⌜ after (answerOf r) (now (s .exit)) [] ≡ effect (now (s .entry)) (call.remove id) ⌝ }
 {
     let at = found.place;
     let al = found.al;
@@ -67,7 +67,7 @@ fn remove_found(s: &mut [u8], id: usize, found: Report) -> Reply
 
 // Removes an attachment; the others keep their order.
 pub fn remove(s: &mut [u8], id: usize) -> Reply
-    ensures { λ r. ⌜ after (answerOf r) (now (s .exit)) [] ≡ effect (now (s .entry)) (machine.remove id) ⌝ }
+    ensures { λ r. ⌜ after (answerOf r) (now (s .exit)) [] ≡ effect (now (s .entry)) (call.remove id) ⌝ }
 {
     let i = report::inspect(s, id);
     match i {

@@ -47,8 +47,8 @@ pub record Patch (n z w v f : ℕ) : Type 0 where
   pub is : n - (f * 2 ^ z) % 2 ^ 64 + (v * 2 ^ z) % 2 ^ 64 ≡ patched n z w v
   pub small : patched n z w v < 2 ^ 16
 
-pub machine-patch : (n z w v f : ℕ) → n < 2 ^ 16 → w + z ≤ 16 → v < 2 ^ w → f ≡ n / 2 ^ z % 2 ^ w → Patch n z w v f
-machine-patch n z w v f hn h hv e =
+pub word-patch : (n z w v f : ℕ) → n < 2 ^ 16 → w + z ≤ 16 → v < 2 ^ w → f ≡ n / 2 ^ z % 2 ^ w → Patch n z w v f
+word-patch n z w v f hn h hv e =
     let p = patched-is n z w v in
     let old : f * 2 ^ z ≡ n / 2 ^ z % 2 ^ w * 2 ^ z = ap (λ (k : ℕ). k * 2 ^ z) e in
     let room : v * 2 ^ z < 2 ^ 16 = lt-of-lt-of-le (shl-lt w z hv) (pow-mono h) in

@@ -11,8 +11,8 @@ use lib.Seq.{take-at}
 use Rattle.format.specs.Bits.{Bytes}
 use Rattle.format.specs.Order.{Check, first, between}
 use Rattle.format.specs.Nibbles.{Attachment, attachment, nibbles, attachmentNibbles, tailNibbles}
-use Rattle.format.specs.Report.{sheetOf}
-use Rattle.format.specs.Machine.{Call, stands, contentOf, lent, idCheck, standsCheck, callChecks}
+use Rattle.format.specs.Report.{observationOf}
+use Rattle.format.specs.Calls.{Call, stands, contentOf, outputOf, idCheck, standsCheck, callChecks}
 use Rattle.format.specs.Buffer.{after, effect}
 use Rattle.format.specs.Reply.{refusal}
 use Rattle.laws.proofs.Order.{first-nil, no-check, range-low, range-high, range-fine}
@@ -30,7 +30,7 @@ use Rattle.calls.specs.Found.{Found}
 -- ---- what inspecting brings
 
 module _ (b : List ℕ) (i : ℕ) (x : Inspected) (is : x ≡ inspected b i) where
-  pub inspect-refused : (n p : ℕ) (c : Call) → x ≡ Inspected.Refused n p → after (refusal n p) b (lent c) ≡ effect b c
+  pub inspect-refused : (n p : ℕ) (c : Call) → x ≡ Inspected.Refused n p → after (refusal n p) b (outputOf c) ≡ effect b c
   inspect-refused n p c e = effect-refused b (record { number = n; place = p }) c (judge-refused b i n p x is e)
 
   pub inspect-found : (r : Report) → x ≡ Inspected.Fine r → Found b i r
@@ -40,39 +40,39 @@ module _ (b : List ℕ) (i : ℕ) (x : Inspected) (is : x ≡ inspected b i) whe
 
 module _ {b : List ℕ} {i : ℕ} {r : Report} (bs : Bytes b) (f : Found b i r) where
   abbrev list : List Attachment
-  list = sheetOf b .attachments
+  list = observationOf b .attachments
 
   abbrev content : List ℕ
   content = contentOf i list
 
-  pub good : Good (sheetOf b)
-  good = judged b (sheetOf b) bs (f .judged) .good
+  pub good : Good (observationOf b)
+  good = judged b (observationOf b) bs (f .judged) .good
 
-  pub al-is : r .al ≡ length (contentOf i (sheetOf b .attachments))
+  pub al-is : r .al ≡ length (contentOf i (observationOf b .attachments))
   al-is = ap (λ (q : Report). q .al) (f .is)
 
-  pub end-is : r .end ≡ 75 + length (tailNibbles (sheetOf b .attachments))
+  pub end-is : r .end ≡ 75 + length (tailNibbles (observationOf b .attachments))
   end-is = ap (λ (q : Report). q .end) (f .is)
 
-  pub count-is : r .count ≡ length (sheetOf b .attachments)
-  count-is = ap (λ (q : Report). q .count) (f .is) ∙ counted b (sheetOf b) bs (f .judged)
+  pub count-is : r .count ≡ length (observationOf b .attachments)
+  count-is = ap (λ (q : Report). q .count) (f .is) ∙ counted b (observationOf b) bs (f .judged)
 
-  pub absent : r .place ≡ 0 → stands i (sheetOf b .attachments) ≡ false
+  pub absent : r .place ≡ 0 → stands i (observationOf b .attachments) ≡ false
   absent e = absent-at i 75 list (omega arith) (sym (ap (λ (q : Report). q .place) (f .is)) ∙ e)
 
-  pub present : (r .place ≡ 0 → ⊥) → stands i (sheetOf b .attachments) ≡ true
+  pub present : (r .place ≡ 0 → ⊥) → stands i (observationOf b .attachments) ≡ true
   present h = stands-at i 75 list (λ e. h (ap (λ (q : Report). q .place) (f .is) ∙ e))
 
   -- where the id stands
-  module _ (p : Placed i (contentOf i (sheetOf b .attachments)) (sheetOf b .attachments)) where
+  module _ (p : Placed i (contentOf i (observationOf b .attachments)) (observationOf b .attachments)) where
     abbrev before : List ℕ
     before = tailNibbles (p .before)
 
     abbrev behind : List ℕ
     behind = tailNibbles (p .after)
 
-    pub split : tailNibbles (sheetOf b .attachments)
-        ≡ tailNibbles (p .before) ++ (attachmentNibbles (attachment i (contentOf i (sheetOf b .attachments))) ++ tailNibbles (p .after))
+    pub split : tailNibbles (observationOf b .attachments)
+        ≡ tailNibbles (p .before) ++ (attachmentNibbles (attachment i (contentOf i (observationOf b .attachments))) ++ tailNibbles (p .after))
     split = around i p
 
     pub place-is : r .place ≡ 75 + length (tailNibbles (p .before))
@@ -83,19 +83,19 @@ module _ {b : List ℕ} {i : ℕ} {r : Report} (bs : Bytes b) (f : Found b i r) 
     inside = omega (arith, al-is, end-is, body-ends b i bs (f .judged) p (r .place) (ap (λ (q : Report). q .place) (f .is)))
 
     -- its nibbles
-    pub content-is : take (r .al) (drop (r .place + 3) (nibbles b)) ≡ contentOf i (sheetOf b .attachments)
+    pub content-is : take (r .al) (drop (r .place + 3) (nibbles b)) ≡ contentOf i (observationOf b .attachments)
     content-is =
         ap (take (r .al)) (body-is b i bs (f .judged) p (r .place) (ap (λ (q : Report). q .place) (f .is)))
         ∙ take-at content (tailNibbles (p .after) ++ beyond b i bs (f .judged) p) (r .al) (sym al-is)
 
 module _ {b : List ℕ} {i : ℕ} {r : Report} (bs : Bytes b) (f : Found b i r) (h : r .place ≡ 0 → ⊥) where
-  pub spot : Placed i (contentOf i (sheetOf b .attachments)) (sheetOf b .attachments)
-  spot = placed i (sheetOf b .attachments) (present bs f h)
+  pub spot : Placed i (contentOf i (observationOf b .attachments)) (observationOf b .attachments)
+  spot = placed i (observationOf b .attachments) (present bs f h)
 
   -- it lies within the buffer
   pub reach : (r .place + 3 + r .al ≤ 2 * length b) × (r .place + 3 + r .al ≤ 3706)
   reach =
-      let w = within b (sheetOf b) bs (f .judged) in
+      let w = within b (observationOf b) bs (f .judged) in
       let k = inside bs f spot in
       let e = end-is bs f in
       (omega arith, omega arith)
@@ -104,22 +104,22 @@ module _ {b : List ℕ} {i : ℕ} {r : Report} (bs : Bytes b) (f : Found b i r) 
 
 module _ {b : List ℕ} {i : ℕ} {r : Report} (bs : Bytes b) (f : Found b i r) (c : Call) where
   -- 8, which comes first
-  module _ (behind : List Check) (is : callChecks (sheetOf b) c ≡ idCheck i ∷ behind) where
-    pub id-low : i < 1 → after (refusal 8 0) b (lent c) ≡ effect b c
-    id-low h = number-refuses b (sheetOf b) c bs (f .judged) 1 15 i behind is (between 1 15 i) refl (range-low 1 15 i h)
+  module _ (behind : List Check) (is : callChecks (observationOf b) c ≡ idCheck i ∷ behind) where
+    pub id-low : i < 1 → after (refusal 8 0) b (outputOf c) ≡ effect b c
+    id-low h = number-refuses b (observationOf b) c bs (f .judged) 1 15 i behind is (between 1 15 i) refl (range-low 1 15 i h)
 
-    pub id-high : 15 < i → after (refusal 8 0) b (lent c) ≡ effect b c
-    id-high h = number-refuses b (sheetOf b) c bs (f .judged) 1 15 i behind is (between 1 15 i) refl (range-high 1 15 i h)
+    pub id-high : 15 < i → after (refusal 8 0) b (outputOf c) ≡ effect b c
+    id-high h = number-refuses b (observationOf b) c bs (f .judged) 1 15 i behind is (between 1 15 i) refl (range-high 1 15 i h)
 
   -- 11
-  pub missing : (before : List Check) → callChecks (sheetOf b) c ≡ before ++ (standsCheck (sheetOf b) i ∷ []) → first before ≡ none
-      → r .place ≡ 0 → after (refusal 11 0) b (lent c) ≡ effect b c
-  missing before is passed e = call-refuses b (sheetOf b) c bs (f .judged) before (standsCheck (sheetOf b) i) [] is passed (rw (absent bs f e))
+  pub missing : (before : List Check) → callChecks (observationOf b) c ≡ before ++ (standsCheck (observationOf b) i ∷ []) → first before ≡ none
+      → r .place ≡ 0 → after (refusal 11 0) b (outputOf c) ≡ effect b c
+  missing before is passed e = call-refuses b (observationOf b) c bs (f .judged) before (standsCheck (observationOf b) i) [] is passed (rw (absent bs f e))
 
 -- ---- the checks passed
 
 pub id-passes : (i : ℕ) (more : List Check) → 1 ≤ i → i ≤ 15 → first more ≡ none → first (idCheck i ∷ more) ≡ none
 id-passes i more low high rest = no-check (idCheck i) more (ap not (range-fine 1 15 i low high)) rest
 
-pub stands-passes : {b : List ℕ} {i : ℕ} {r : Report} → Bytes b → Found b i r → (r .place ≡ 0 → ⊥) → first (standsCheck (sheetOf b) i ∷ []) ≡ none
-stands-passes {b} {i} bs f h = no-check (standsCheck (sheetOf b) i) [] (ap not (present bs f h)) first-nil
+pub stands-passes : {b : List ℕ} {i : ℕ} {r : Report} → Bytes b → Found b i r → (r .place ≡ 0 → ⊥) → first (standsCheck (observationOf b) i ∷ []) ≡ none
+stands-passes {b} {i} bs f h = no-check (standsCheck (observationOf b) i) [] (ap not (present bs f h)) first-nil

@@ -2,11 +2,11 @@
 use Prim.Native.Nat.{ℕ}
 use mathlib.Core.Path.{_≡_}
 use mathlib.Core.List.{List}
-use Rattle.format.specs.Report.{sheetOf, accepted, judge}
+use Rattle.format.specs.Report.{observationOf, accepted, judge}
 use Rattle.report.specs.Answers.{reportOf}
 use Rattle.report.specs.declared.Report.{Report}
 
 -- the buffer b begins with a report, and r is what it shows, with the place and AL of id i
 pub record Found (b : List ℕ) (i : ℕ) (r : Report) : Type 0 where
-  pub judged : judge b ≡ accepted (sheetOf b)
-  pub is : r ≡ reportOf b i (sheetOf b .attachments)
+  pub judged : judge b ≡ accepted (observationOf b)
+  pub is : r ≡ reportOf b i (observationOf b .attachments)

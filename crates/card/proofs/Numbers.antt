@@ -10,7 +10,7 @@ use lib.Seq.{drop-at, getD-take, getD-drop, length-take-le}
 use Rattle.format.specs.Bits.{bits, bitsOf, bitField, splice, total, offset, readFields, Below, Bytes}
 use Rattle.format.specs.Nibbles.{nibbles}
 use Rattle.format.specs.Field.{Field, table, fieldAt}
-use Rattle.format.specs.Sheet.{widths}
+use Rattle.format.specs.Observation.{widths}
 use Rattle.format.specs.Report.{numbersOf, rptinOf, codesOf, checksumOf, countOf, tailOf}
 use Rattle.laws.proofs.Bits.{drop-below, bitField-at, length-bitsOf, uniform, uniform-append, uniform-back, total-replicate, length-writeFields, readFields-splice, behind-splice}
 use Rattle.laws.proofs.Nibbles.{length-nibbles, nibbles-lt, bitsOf-nibbles}

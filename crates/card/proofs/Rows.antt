@@ -10,7 +10,7 @@ use lib.Dec.{T, leb, eqb, eqb→eq, leb→le}
 use lib.IntN.{ℤ, pos, negsuc}
 use Rattle.format.specs.Bits.{total, offset}
 use Rattle.format.specs.Field.{table, fieldAt}
-use Rattle.format.specs.Sheet.{widths}
+use Rattle.format.specs.Observation.{widths}
 use Rattle.format.proofs.Test.{left, right}
 use Rattle.format.proofs.Table.{eqZ}
 use Rattle.laws.proofs.Fields.{width-at}

@@ -6,7 +6,7 @@ use lib.ListN.{getD}
 use lib.IntN.{ℤ, pos, _-ℤ_}
 use Rattle.format.specs.Bits.{offset}
 use Rattle.format.specs.Field.{Field, field, fieldAt}
-use Rattle.format.specs.Sheet.{widths}
+use Rattle.format.specs.Observation.{widths}
 
 -- in digits of 16: the bit at which it begins (3), its bits (1), its highest coded number (3), its base and 1000 (4)
 abbrev pub rows : List ℕ

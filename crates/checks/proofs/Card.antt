@@ -14,7 +14,7 @@ use Rattle.format.specs.Order.{Refusal, first}
 use Rattle.format.specs.Bits.{bitField, total, offset}
 use Rattle.format.specs.Nibbles.{odd}
 use Rattle.format.specs.Field.{table, fieldAt, required}
-use Rattle.format.specs.Sheet.{widths, checksum}
+use Rattle.format.specs.Observation.{widths, checksum}
 use Rattle.format.specs.Report.{codesOf, fieldChecks}
 use Rattle.format.proofs.Test.{left, right}
 use Rattle.laws.proofs.Lists.{test-case}

@@ -4,7 +4,7 @@ use mathlib.Core.List.{List}
 use mathlib.Core.Option.{Option, none, some}
 use Rattle.format.specs.Order.{Refusal, first}
 use Rattle.format.specs.Field.{table}
-use Rattle.format.specs.Sheet.{checksum}
+use Rattle.format.specs.Observation.{checksum}
 use Rattle.format.specs.Report.{codesOf, fieldChecks}
 use Rattle.checks.specs.declared.CardCheck.{CardCheck}
 use Rattle.checks.specs.declared.CardCheck.the-variants.{Refused, Checksum}

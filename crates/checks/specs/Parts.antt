@@ -9,7 +9,7 @@ use lib.Bits.{bitAnd}
 use Rattle.format.specs.Bits.{offset}
 use Rattle.format.specs.Field.{fieldAt, required}
 use Rattle.format.specs.Nibbles.{odd}
-use Rattle.format.specs.Sheet.{widths}
+use Rattle.format.specs.Observation.{widths}
 
 -- a field in a word: the number of bits below it, its own bits, and the number that it is held against
 pub record Part : Type 0 where

@@ -14,9 +14,9 @@ use Rattle.format.specs.Bits.{Bytes}
 use Rattle.format.specs.Order.{first}
 use Rattle.format.specs.Nibbles.{nibbles}
 use Rattle.format.specs.ShipText.{textValid, readText}
-use Rattle.format.specs.Sheet.{size}
-use Rattle.format.specs.Report.{sheetOf, bodyValid}
-use Rattle.format.specs.Machine.{Call, fetch, fetchText, next, gives, lent, writes, contentOf, callChecks, Answer, over}
+use Rattle.format.specs.Observation.{size}
+use Rattle.format.specs.Report.{observationOf, bodyValid}
+use Rattle.format.specs.Calls.{Call, fetch, fetchText, next, gives, outputOf, writes, contentOf, callChecks, Answer, over}
 use Rattle.format.specs.Buffer.{after, effect}
 use Rattle.format.specs.Reply.{refusal}
 use Rattle.laws.proofs.AttachmentEdits.{content-fine}
@@ -29,35 +29,35 @@ use Rattle.calls.proofs.Found.{good, al-is, present, content-is, spot, id-passe
 
 module _ {b : List ℕ} {i : ℕ} {r : Report} (bs : Bytes b) (f : Found b i r) (c : Call) where
   -- 13, for an output
-  out-short : first (callChecks (sheetOf b) c) ≡ none → length (lent c) < length (writes (sheetOf b) c)
-      → after (refusal 13 0) b (lent c) ≡ effect b c
+  out-short : first (callChecks (observationOf b) c) ≡ none → length (outputOf c) < length (writes (observationOf b) c)
+      → after (refusal 13 0) b (outputOf c) ≡ effect b c
   out-short passed h =
-      effect-room b (sheetOf b) c bs (f .judged) passed
-      (rw (lt-ltb (length (lent c)) (length (writes (sheetOf b) c)) h) (or-true (ltb (length b) (size (next (sheetOf b) c)))))
+      effect-room b (observationOf b) c bs (f .judged) passed
+      (rw (lt-ltb (length (outputOf c)) (length (writes (observationOf b) c)) h) (or-true (ltb (length b) (size (next (observationOf b) c)))))
 
   -- w is written to an output, and its length given
-  out-done : (w o : List ℕ) (n : ℕ) → next (sheetOf b) c ≡ sheetOf b → first (callChecks (sheetOf b) c) ≡ none → writes (sheetOf b) c ≡ w
-      → gives (sheetOf b) c ≡ some (pos (length (writes (sheetOf b) c))) ∷ [] → n ≡ length w → n ≤ length (lent c) → o ≡ w ++ drop n (lent c)
+  out-done : (w o : List ℕ) (n : ℕ) → next (observationOf b) c ≡ observationOf b → first (callChecks (observationOf b) c) ≡ none → writes (observationOf b) c ≡ w
+      → gives (observationOf b) c ≡ some (pos (length (writes (observationOf b) c))) ∷ [] → n ≡ length w → n ≤ length (outputOf c) → o ≡ w ++ drop n (outputOf c)
       → after (Answer.accepted (some (pos n) ∷ [])) b o ≡ effect b c
   out-done w o n same passed wrote given count fits e =
-      let k : n ≡ length (writes (sheetOf b) c) = count ∙ ap length (sym wrote) in
+      let k : n ≡ length (writes (observationOf b) c) = count ∙ ap length (sym wrote) in
       ap (λ (m : ℕ). after (Answer.accepted (some (pos m) ∷ [])) b o) k
       ∙ ap (λ (l : List (Option ℤ)). after (Answer.accepted l) b o) (sym given)
-      ∙ effect-same b (sheetOf b) c bs (f .judged) o same passed (omega arith) (e ∙ ap₂ (λ (l : List ℕ) (m : ℕ). l ++ drop m (lent c)) (sym wrote) k)
+      ∙ effect-same b (observationOf b) c bs (f .judged) o same passed (omega arith) (e ∙ ap₂ (λ (l : List ℕ) (m : ℕ). l ++ drop m (outputOf c)) (sym wrote) k)
 
 -- ---- fetch
 
 module _ {b : List ℕ} {i : ℕ} {r : Report} (bs : Bytes b) (f : Found b i r) (h : r .place ≡ 0 → ⊥) where
   module _ (low : 1 ≤ i) (high : i ≤ 15) (out : List ℕ) where
     pub fetch-short : length out < r .al → after (refusal 13 0) b out ≡ effect b (fetch i out)
-    unfolding callChecks lent writes
+    unfolding callChecks outputOf writes
     fetch-short e = out-short bs f (fetch i out) (id-passes i _ low high (stands-passes bs f h)) (omega (arith, al-is bs f))
 
     pub fetch-done : (o : List ℕ) → r .al ≤ length out → o ≡ take (r .al) (drop (r .place + 3) (nibbles b)) ++ drop (r .al) out
         → after (Answer.accepted (some (pos (r .al)) ∷ [])) b o ≡ effect b (fetch i out)
-    unfolding callChecks lent writes gives next
+    unfolding callChecks outputOf writes gives next
     fetch-done o fits e =
-        out-done bs f (fetch i out) (contentOf i (sheetOf b .attachments)) o (r .al) refl (id-passes i _ low high (stands-passes bs f h)) refl refl (al-is bs f) fits
+        out-done bs f (fetch i out) (contentOf i (observationOf b .attachments)) o (r .al) refl (id-passes i _ low high (stands-passes bs f h)) refl refl (al-is bs f) fits
         (e ∙ ap (λ (l : List ℕ). l ++ drop (r .al) out) (content-is bs f (spot bs f h)))
 
 -- ---- fetch text
@@ -66,7 +66,7 @@ module _ {b : List ℕ} {r : Report} (bs : Bytes b) (f : Found b 4 r) (h : r .pl
   abbrev body : List ℕ
   body = take (r .al) (drop (r .place + 3) (nibbles b))
 
-  body-is : take (r .al) (drop (r .place + 3) (nibbles b)) ≡ contentOf 4 (sheetOf b .attachments)
+  body-is : take (r .al) (drop (r .place + 3) (nibbles b)) ≡ contentOf 4 (observationOf b .attachments)
   body-is = content-is bs f (spot bs f h)
 
   pub body-valid : textValid (take (r .al) (drop (r .place + 3) (nibbles b))) ≡ true
@@ -76,7 +76,7 @@ module _ {b : List ℕ} {r : Report} (bs : Bytes b) (f : Found b 4 r) (h : r .pl
   -- t: whether the text fits in out
   module _ (out : List ℕ) (t : Bool) (e : t ≡ leb (length (readText (take (r .al) (drop (r .place + 3) (nibbles b))))) (length out)) where
     pub text-short : t ≡ false → after (refusal 13 0) b out ≡ effect b (fetchText out)
-    unfolding callChecks lent writes
+    unfolding callChecks outputOf writes
     text-short k =
         out-short bs f (fetchText out) (stands-passes bs f h)
         (omega (arith, leb-false (length (readText body)) (length out) (sym e ∙ k), ap (λ (l : List ℕ). length (readText l)) body-is))
@@ -84,8 +84,8 @@ module _ {b : List ℕ} {r : Report} (bs : Bytes b) (f : Found b 4 r) (h : r .pl
     pub text-done : (o : List ℕ) (n : ℕ) → t ≡ true
         → (o ≡ over (readText (take (r .al) (drop (r .place + 3) (nibbles b)))) out) × (n ≡ length (readText (take (r .al) (drop (r .place + 3) (nibbles b)))))
         → after (Answer.accepted (some (pos n) ∷ [])) b o ≡ effect b (fetchText out)
-    unfolding callChecks lent writes gives next
+    unfolding callChecks outputOf writes gives next
     text-done o n k g =
-        out-done bs f (fetchText out) (readText (contentOf 4 (sheetOf b .attachments))) o n refl (stands-passes bs f h) refl refl
+        out-done bs f (fetchText out) (readText (contentOf 4 (observationOf b .attachments))) o n refl (stands-passes bs f h) refl refl
         (g .1 ∙ ap (λ (l : List ℕ). length (readText l)) body-is) (omega (arith, g .1, leb-true (length (readText body)) (length out) (sym e ∙ k)))
         (g .0 ∙ ap₂ (λ (l : List ℕ) (m : ℕ). l ++ drop m out) (ap readText body-is) (sym (g .1)))

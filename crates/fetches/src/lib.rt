@@ -1,7 +1,7 @@
 // The calls that fetch from the report that a buffer begins with: the nibbles of an attachment, the ship text. Each judges
 // the report first.
 ghost use mathlib.Core.Path.{_≡_};
-ghost use Rattle.format.specs.Machine as machine;
+ghost use Rattle.format.specs.Calls as call;
 ghost use Rattle.format.specs.Buffer.{after, effect};
 ghost use Rattle.format.specs.Reply.{answerOf};
 ghost use Rattle.calls.specs.Found.{Found};
@@ -13,7 +13,7 @@ use report::Report;
 // Fetches from a report that was inspected.
 fn fetch_found(s: &[u8], id: usize, found: Report, out: &mut [u8]) -> Reply
     requires { ⌜ Found (now s) id found ⌝ }
-    ensures { λ r. ⌜ after (answerOf r) (now (s .entry)) (now (out .exit)) ≡ effect (now (s .entry)) (machine.fetch id (now (out .entry))) ⌝ }
+    ensures { λ r. ⌜ after (answerOf r) (now (s .entry)) (now (out .exit)) ≡ effect (now (s .entry)) (call.fetch id (now (out .entry))) ⌝ }
 {
     let place = found.place;
     let al = found.al;
@@ -35,7 +35,7 @@ fn fetch_found(s: &[u8], id: usize, found: Report, out: &mut [u8]) -> Reply
 
 // Writes the nibbles of an id to the front of out, one a byte.
 pub fn fetch(s: &[u8], id: usize, out: &mut [u8]) -> Reply
-    ensures { λ r. ⌜ after (answerOf r) (now (s .entry)) (now (out .exit)) ≡ effect (now (s .entry)) (machine.fetch id (now (out .entry))) ⌝ }
+    ensures { λ r. ⌜ after (answerOf r) (now (s .entry)) (now (out .exit)) ≡ effect (now (s .entry)) (call.fetch id (now (out .entry))) ⌝ }
 {
     let i = report::inspect(&*s, id);
     match i {
@@ -47,7 +47,7 @@ pub fn fetch(s: &[u8], id: usize, out: &mut [u8]) -> Reply
 // Fetches the ship text from a report that was inspected.
 fn fetch_text_found(s: &[u8], found: Report, out: &mut [u8]) -> Reply
     requires { ⌜ Found (now s) 4 found ⌝ }
-    ensures { λ r. ⌜ after (answerOf r) (now (s .entry)) (now (out .exit)) ≡ effect (now (s .entry)) (machine.fetchText (now (out .entry))) ⌝ }
+    ensures { λ r. ⌜ after (answerOf r) (now (s .entry)) (now (out .exit)) ≡ effect (now (s .entry)) (call.fetchText (now (out .entry))) ⌝ }
 {
     let place = found.place;
     let al = found.al;
@@ -66,7 +66,7 @@ fn fetch_text_found(s: &[u8], found: Report, out: &mut [u8]) -> Reply
 
 // Writes the ship text to the front of out.
 pub fn fetch_text(s: &[u8], out: &mut [u8]) -> Reply
-    ensures { λ r. ⌜ after (answerOf r) (now (s .entry)) (now (out .exit)) ≡ effect (now (s .entry)) (machine.fetchText (now (out .entry))) ⌝ }
+    ensures { λ r. ⌜ after (answerOf r) (now (s .entry)) (now (out .exit)) ≡ effect (now (s .entry)) (call.fetchText (now (out .entry))) ⌝ }
 {
     let i = report::inspect(&*s, 4);
     match i {

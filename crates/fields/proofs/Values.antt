@@ -11,9 +11,9 @@ use mathlib.Core.Option.{Option, none, some}
 use lib.ListN.{length, getD, set}
 use Rattle.format.specs.Bits.{total, Bytes}
 use Rattle.format.specs.Field.{Field, table, fieldAt, isField, required, inRange, coded, scaledOf, codedOf, entryOf, codeOf, entries, codes}
-use Rattle.format.specs.Sheet.{checksum, cardNumbers, size}
-use Rattle.format.specs.Report.{codesOf, sheetOf}
-use Rattle.format.specs.Machine.{readField, setField, clearField, valueAt, withValue, valueNumber, fieldNumberCheck, valueCheck, requiredCheck, callChecks, next, gives, lent, writes, Answer}
+use Rattle.format.specs.Observation.{checksum, cardNumbers, size}
+use Rattle.format.specs.Report.{codesOf, observationOf}
+use Rattle.format.specs.Calls.{readField, setField, clearField, valueAt, withValue, valueNumber, fieldNumberCheck, valueCheck, requiredCheck, callChecks, next, gives, outputOf, writes, Answer}
 use Rattle.format.specs.Reply.{refusal, answerOf}
 use Rattle.format.specs.declared.Reply.the-variants.{Done, Value, Missing}
 use Rattle.format.specs.Buffer.{layout, after, effect}
@@ -32,8 +32,8 @@ use Rattle.laws.proofs.Order.{between-in, number-passes, first-nil, no-check}
 use Rattle.fields.specs.Accepted.{Accepted, replaced}
 
 -- the value of field k is the entry of its code
-pub value-is : (b : List ℕ) (k : ℕ) (c : Coded) → 1 ≤ k → k ≤ 46 → c .0 ≡ getD (codesOf b) (k - 1) 0 → valueAt (sheetOf b) k ≡ entryOf (fieldAt k) c
-unfolding sheetOf
+pub value-is : (b : List ℕ) (k : ℕ) (c : Coded) → 1 ≤ k → k ≤ 46 → c .0 ≡ getD (codesOf b) (k - 1) 0 → valueAt (observationOf b) k ≡ entryOf (fieldAt k) c
+unfolding observationOf
 value-is b k c l h e =
     let at : k - 1 + 1 ≡ k = omega arith in
     entry-is b (k - 1) c (omega arith) e ∙ ap (λ (n : ℕ). entryOf (fieldAt n) c) at
@@ -54,17 +54,17 @@ coding-in f v c = go (inRange f v)
 -- ---- a code stored
 
 module _ (b : List ℕ) (bs : Bytes b) (k : ℕ) (low : 1 ≤ k) (high : k ≤ 46) where
-  -- it is that of the entry e: the buffer is the layout of the sheet with e
+  -- it is that of the entry e: the buffer is the layout of the observation with e
   value-laid : (d : List ℕ) (e : Option Scaled) (c : Coded) → Accepted b → Bytes d → c ≡ codeOf (fieldAt k) e
-      → Carded b d (replaced b k (c .0)) → d ≡ layout b (size (sheetOf b)) (withValue (sheetOf b) k e)
-  unfolding sheetOf
+      → Carded b d (replaced b k (c .0)) → d ≡ layout b (size (observationOf b)) (withValue (observationOf b) k e)
+  unfolding observationOf
   value-laid d e c j bd is r =
       let long : length (entries table (codesOf b)) ≡ 46 = entries-length b in
       let code : c .0 ≡ codeOf (fieldAt k) e .0 = ap (λ (x : Coded). x .0) is in
-      let card : replaced b k (c .0) ≡ cardNumbers (withValue (sheetOf b) k e) =
-      sym (value-numbers (sheetOf b) k e long low high
-      ∙ rw (← code, codes-back b, numbers-taken b (sheetOf b) bs j) refl) in
-      field-laid b d (sheetOf b) (withValue (sheetOf b) k e) bs j refl bd (r .long) (r .card ∙ card) (r .behind)
+      let card : replaced b k (c .0) ≡ cardNumbers (withValue (observationOf b) k e) =
+      sym (value-numbers (observationOf b) k e long low high
+      ∙ rw (← code, codes-back b, numbers-taken b (observationOf b) bs j) refl) in
+      field-laid b d (observationOf b) (withValue (observationOf b) k e) bs j refl bd (r .long) (r .card ∙ card) (r .behind)
 
 -- ---- the returns of the calls on fields, where k is a field
 
@@ -77,10 +77,10 @@ module _ (b : List ℕ) (bs : Bytes b) (j : Accepted b) (k : ℕ) (t : Bool) (is
 
   field-gives : (c : Coded) → c .0 ≡ getD (codesOf b) (k - 1) 0 → (e : Option Scaled) → entryOf (fieldAt k) c ≡ e
       → after (Answer.accepted (valueNumber e ∷ [])) b [] ≡ effect b (readField k)
-  unfolding callChecks next gives lent writes
+  unfolding callChecks next gives outputOf writes
   field-gives c at e there =
       ap (λ (x : Option Scaled). after (Answer.accepted (valueNumber x ∷ [])) b []) (sym (value-is b k c (known .0) (known .1) at ∙ there))
-      ∙ effect-same b (sheetOf b) (readField k) bs j [] refl (no-check (fieldNumberCheck k) [] known-passes first-nil) (omega arith) refl
+      ∙ effect-same b (observationOf b) (readField k) bs j [] refl (no-check (fieldNumberCheck k) [] known-passes first-nil) (omega arith) refl
 
   module _ (c : Coded) (at : c .0 ≡ getD (codesOf b) (k - 1) 0) (m : Bool) (missing : m ≡ eqb (c .0) 0) where
     pub field-missing : m ≡ true → after (answerOf Missing) b [] ≡ effect b (readField k)
@@ -93,33 +93,33 @@ module _ (b : List ℕ) (bs : Bytes b) (j : Accepted b) (k : ℕ) (t : Bool) (is
   module _ (d : List ℕ) (bd : Bytes d) where
     pub field-set : (v : Scaled) (c : Coded) → Code c ≡ codingOf (fieldAt k) v → Carded b d (replaced b k (c .0))
         → after (answerOf Done) d [] ≡ effect b (setField k v)
-    unfolding callChecks next gives lent writes codeOf
+    unfolding callChecks next gives outputOf writes codeOf
     field-set v c e r =
         let q = coding-code (fieldAt k) v c e in
-        effect-done b (sheetOf b) (setField k v) bs j d []
+        effect-done b (observationOf b) (setField k v) bs j d []
         (no-check (fieldNumberCheck k) (valueCheck k v ∷ []) known-passes (no-check (valueCheck k v) [] (ap not (coding-in (fieldAt k) v c e)) first-nil))
-        (same-within b (sheetOf b) bs j (withValue (sheetOf b) k (some v)) refl) (omega arith)
+        (same-within b (observationOf b) bs j (withValue (observationOf b) k (some v)) refl) (omega arith)
         (value-laid b bs k (known .0) (known .1) d (some v) c j bd (q .0) r) refl
 
     pub field-cleared : (q : Bool) → q ≡ required k → q ≡ false → (c : Coded) → c ≡ coded 0 → Carded b d (replaced b k (c .0))
         → after (answerOf Done) d [] ≡ effect b (clearField k)
-    unfolding callChecks next gives lent writes codeOf
+    unfolding callChecks next gives outputOf writes codeOf
     field-cleared q eq free c e r =
-        effect-done b (sheetOf b) (clearField k) bs j d []
+        effect-done b (observationOf b) (clearField k) bs j d []
         (no-check (fieldNumberCheck k) (requiredCheck k ∷ []) known-passes (no-check (requiredCheck k) [] (sym eq ∙ free) first-nil))
-        (same-within b (sheetOf b) bs j (withValue (sheetOf b) k none) refl) (omega arith)
+        (same-within b (observationOf b) bs j (withValue (observationOf b) k none) refl) (omega arith)
         (value-laid b bs k (known .0) (known .1) d none c j bd e r) refl
 
   pub field-outside : (v : Scaled) → Outside ≡ codingOf (fieldAt k) v → after (refusal 9 k) b [] ≡ effect b (setField k v)
-  unfolding callChecks lent
+  unfolding callChecks outputOf
   field-outside v e =
-      call-refuses b (sheetOf b) (setField k v) bs j (fieldNumberCheck k ∷ []) (valueCheck k v) [] refl
+      call-refuses b (observationOf b) (setField k v) bs j (fieldNumberCheck k ∷ []) (valueCheck k v) [] refl
       (no-check (fieldNumberCheck k) [] known-passes first-nil) (ap not (coding-outside (fieldAt k) v e))
 
   pub field-required : (q : Bool) → q ≡ required k → q ≡ true → after (refusal 10 k) b [] ≡ effect b (clearField k)
-  unfolding callChecks lent
+  unfolding callChecks outputOf
   field-required q eq must =
-      call-refuses b (sheetOf b) (clearField k) bs j (fieldNumberCheck k ∷ []) (requiredCheck k) [] refl
+      call-refuses b (observationOf b) (clearField k) bs j (fieldNumberCheck k ∷ []) (requiredCheck k) [] refl
       (no-check (fieldNumberCheck k) [] known-passes first-nil) (sym eq ∙ must)
 
 -- ---- the number that seals

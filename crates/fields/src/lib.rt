@@ -5,7 +5,7 @@ ghost use Prim.Native.Nat.{_-_, _≤_};
 ghost use lib.ListN.{getD};
 ghost use Rattle.format.specs.Field.{fieldAt};
 ghost use Rattle.format.specs.Report.{codesOf};
-ghost use Rattle.format.specs.Machine.{readField, setField, clearField};
+ghost use Rattle.format.specs.Calls.{readField, setField, clearField};
 ghost use Rattle.format.specs.Buffer.{after, effect};
 ghost use Rattle.format.specs.Reply.{answerOf};
 ghost use Rattle.card.specs.Answers.{Carded};

@@ -14,9 +14,9 @@ use Rattle.format.specs.Order.{first, between}
 use Rattle.format.specs.Bits.{Bytes}
 use Rattle.format.specs.Nibbles.{attachment, nibbles, attachmentNibbles, tailNibbles}
 use Rattle.format.specs.Flags.{isFlag, flagInRange, qualityCode, flagAt, flagBody, withFlag}
-use Rattle.format.specs.Sheet.{size}
-use Rattle.format.specs.Report.{sheetOf, bodyValid}
-use Rattle.format.specs.Machine.{readFlag, setFlag, clearFlag, putIn, withContent, content, flagNumber, flagNumberCheck, flagValueCheck, standsCheck, callChecks, next, gives, lent, writes, Answer}
+use Rattle.format.specs.Observation.{size}
+use Rattle.format.specs.Report.{observationOf, bodyValid}
+use Rattle.format.specs.Calls.{readFlag, setFlag, clearFlag, putIn, withContent, content, flagNumber, flagNumberCheck, flagValueCheck, standsCheck, callChecks, next, gives, outputOf, writes, Answer}
 use Rattle.format.specs.Buffer.{layout, after, effect}
 use Rattle.format.specs.Reply.{refusal, answerOf}
 use Rattle.format.specs.declared.Reply.the-variants.{Done, Flag, Missing}
@@ -94,24 +94,24 @@ value-passes j v u eu hu = rw (sym eu ∙ not-false u hu)
 module _ (b : List ℕ) (bs : Bytes b) (place : ℕ) (f : FlagsAt b place) where
   -- 9: the value is not one of the ten
   pub value-refuses : (j v : ℕ) (t u : Bool) → t ≡ isFlag j → not t ≡ false → u ≡ between 1 10 v → not u ≡ true → after (refusal 9 j) b [] ≡ effect b (setFlag j v)
-  unfolding callChecks lent
+  unfolding callChecks outputOf
   value-refuses j v t u is h eu hu =
-      call-refuses b (sheetOf b) (setFlag j v) bs (f .found .judged) (flagNumberCheck j ∷ []) (flagValueCheck j v) _ refl
+      call-refuses b (observationOf b) (setFlag j v) bs (f .found .judged) (flagNumberCheck j ∷ []) (flagValueCheck j v) _ refl
       (no-check (flagNumberCheck j) [] (number-passes 1 14 j t is h) first-nil) (rw (sym eu ∙ not-true u hu))
 
   module _ (there : place ≡ 0 → ⊥) where
     stands : f .report .place ≡ 0 → ⊥
     stands e = there (f .is ∙ e)
 
-    fine : FineAt (attachment 1 (content (sheetOf b) 1))
+    fine : FineAt (attachment 1 (content (observationOf b) 1))
     fine = content-fine 1 (good bs (f .found) .fine) (present bs (f .found) stands)
 
-    body-long : length (content (sheetOf b) 1) ≡ 16
+    body-long : length (content (observationOf b) 1) ≡ 16
     unfolding bodyValid
-    body-long = valid-flags (content (sheetOf b) 1) (fine .valid) .long
+    body-long = valid-flags (content (observationOf b) 1) (fine .valid) .long
 
     -- the sixteen nibbles
-    flags-body : take 16 (drop (place + 3) (nibbles b)) ≡ content (sheetOf b) 1
+    flags-body : take 16 (drop (place + 3) (nibbles b)) ≡ content (observationOf b) 1
     flags-body =
         ap₂ (λ (n m : ℕ). take n (drop (m + 3) (nibbles b))) (sym (al-is bs (f .found) ∙ body-long)) (f .is)
         ∙ content-is bs (f .found) (spot bs (f .found) stands)
@@ -127,7 +127,7 @@ module _ (b : List ℕ) (bs : Bytes b) (place : ℕ) (f : FlagsAt b place) where
 
     -- sixteen others in their place
     module _ (ns : List ℕ) (l : length ns ≡ 16) where
-      body-edit : Edit b (putIn 1 ns (sheetOf b .attachments)) ns (place + 3) 16 (75 + length (tailNibbles (sheetOf b .attachments))) (length (sheetOf b .attachments))
+      body-edit : Edit b (putIn 1 ns (observationOf b .attachments)) ns (place + 3) 16 (75 + length (tailNibbles (observationOf b .attachments))) (length (observationOf b .attachments))
       unfolding tailNibbles attachmentNibbles
       body-edit =
           let p = spot bs (f .found) stands in
@@ -135,10 +135,10 @@ module _ (b : List ℕ) (bs : Bytes b) (place : ℕ) (f : FlagsAt b place) where
           let old = body-long in record {
             judged = f .found .judged;
             before = tailNibbles (p .before) ++ (1 ∷ 0 ∷ 1 ∷ []);
-            gone = content (sheetOf b) 1;
+            gone = content (observationOf b) 1;
             behind = tailNibbles (p .after);
-            from = split bs (f .found) p ∙ ap (λ (n : ℕ). tailNibbles (p .before) ++ ((n / 16 ∷ n % 16 ∷ 1 ∷ []) ++ (content (sheetOf b) 1 ++ tailNibbles (p .after)))) old
-                ∙ sym (append-assoc (tailNibbles (p .before)) header (content (sheetOf b) 1 ++ tailNibbles (p .after)));
+            from = split bs (f .found) p ∙ ap (λ (n : ℕ). tailNibbles (p .before) ++ ((n / 16 ∷ n % 16 ∷ 1 ∷ []) ++ (content (observationOf b) 1 ++ tailNibbles (p .after)))) old
+                ∙ sym (append-assoc (tailNibbles (p .before)) header (content (observationOf b) 1 ++ tailNibbles (p .after)));
             to = ap tailNibbles (put-placed p ns) ∙ tail-append (p .before) (attachment 1 ns ∷ p .after)
                 ∙ ap (λ (n : ℕ). tailNibbles (p .before) ++ ((n / 16 ∷ n % 16 ∷ 1 ∷ []) ++ (ns ++ tailNibbles (p .after)))) l
                 ∙ sym (append-assoc (tailNibbles (p .before)) header (ns ++ tailNibbles (p .after)));
@@ -151,7 +151,7 @@ module _ (b : List ℕ) (bs : Bytes b) (place : ℕ) (f : FlagsAt b place) where
 
       body-laid : (d : List ℕ) → Bytes d → length d ≡ length b → FineAt (attachment 1 ns)
           → nibbles d ≡ take (place + 3) (nibbles b) ++ (ns ++ drop (place + 3 + 16) (nibbles b))
-          → d ≡ layout b (size (sheetOf b)) (withContent (sheetOf b) 1 ns)
+          → d ≡ layout b (size (observationOf b)) (withContent (observationOf b) 1 ns)
       body-laid d bd same fits written =
           edit-kept bs body-edit d (written ∙ spliced-same bs body-edit l)
           (fine-nibbles (put-fine 1 ns fits (good bs (f .found) .fine))) bd same (put-length (spot bs (f .found) stands) ns)
@@ -160,18 +160,18 @@ module _ (b : List ℕ) (bs : Bytes b) (place : ℕ) (f : FlagsAt b place) where
       known : (1 ≤ j) × (j ≤ 14)
       known = between-in 1 14 j t is h
 
-      passes : first (flagNumberCheck j ∷ standsCheck (sheetOf b) 1 ∷ []) ≡ none
-      passes = no-check (flagNumberCheck j) (standsCheck (sheetOf b) 1 ∷ []) (number-passes 1 14 j t is h) (stands-passes bs (f .found) stands)
+      passes : first (flagNumberCheck j ∷ standsCheck (observationOf b) 1 ∷ []) ≡ none
+      passes = no-check (flagNumberCheck j) (standsCheck (observationOf b) 1 ∷ []) (number-passes 1 14 j t is h) (stands-passes bs (f .found) stands)
 
       flag-gives : (v : ℕ) → v ≡ getD (nibbles b) (place + 3 + (j - 1)) 0 → after (Answer.accepted (flagNumber v ∷ [])) b [] ≡ effect b (readFlag j)
-      unfolding callChecks next gives lent writes
+      unfolding callChecks next gives outputOf writes
       flag-gives v e =
           let k = known in
-          let at : v ≡ flagAt (content (sheetOf b) 1) j =
+          let at : v ≡ flagAt (content (observationOf b) 1) j =
           e ∙ sym (getD-take 16 (drop (place + 3) (nibbles b)) (j - 1) 0 (omega arith) ∙ getD-drop (place + 3) (nibbles b) (j - 1) 0)
           ∙ ap (λ (x : List ℕ). getD x (j - 1) 0) flags-body in
           ap (λ (x : ℕ). after (Answer.accepted (flagNumber x ∷ [])) b []) at
-          ∙ effect-same b (sheetOf b) (readFlag j) bs (f .found .judged) [] refl passes (omega arith) refl
+          ∙ effect-same b (observationOf b) (readFlag j) bs (f .found .judged) [] refl passes (omega arith) refl
 
       module _ (v : ℕ) (at : v ≡ getD (nibbles b) (place + 3 + (j - 1)) 0) where
         pub flag-missing : v ≡ 0 → after (answerOf Missing) b [] ≡ effect b (readFlag j)
@@ -182,10 +182,10 @@ module _ (b : List ℕ) (bs : Bytes b) (place : ℕ) (f : FlagsAt b place) where
 
       -- set and clear
       module _ (d : List ℕ) (bd : Bytes d) (same : length d ≡ length b) (v : ℕ) (written : nibbles d ≡ flagged (nibbles b) (place + 3) j v) where
-        flag-laid : flagFits j v ≡ true → d ≡ layout b (size (sheetOf b)) (withContent (sheetOf b) 1 (withFlag (content (sheetOf b) 1) j v))
+        flag-laid : flagFits j v ≡ true → d ≡ layout b (size (observationOf b)) (withContent (observationOf b) 1 (withFlag (content (observationOf b) 1) j v))
         unfolding flagged bodyValid
         flag-laid fits =
-            let old = content (sheetOf b) 1 in
+            let old = content (observationOf b) 1 in
             let l = flag-set-length old j v body-long in
             body-laid (withFlag old j v) l d bd same
             (record {
@@ -198,24 +198,24 @@ module _ (b : List ℕ) (bs : Bytes b) (place : ℕ) (f : FlagsAt b place) where
             })
             (written ∙ rw flags-body refl)
 
-        flag-fits : size (withContent (sheetOf b) 1 (withFlag (content (sheetOf b) 1) j v)) ≤ length b
+        flag-fits : size (withContent (observationOf b) 1 (withFlag (content (observationOf b) 1) j v)) ≤ length b
         flag-fits =
-            let old = content (sheetOf b) 1 in
+            let old = content (observationOf b) 1 in
             let p = spot bs (f .found) stands in
-            same-within b (sheetOf b) bs (f .found .judged) (withContent (sheetOf b) 1 (withFlag old j v))
+            same-within b (observationOf b) bs (f .found .judged) (withContent (observationOf b) 1 (withFlag old j v))
             (omega (arith, put-size p (withFlag old j v), flag-set-length old j v body-long, body-long))
 
         pub flag-set : (u : Bool) → u ≡ between 1 10 v → not u ≡ false → after (answerOf Done) d [] ≡ effect b (setFlag j v)
-        unfolding callChecks next gives lent writes
+        unfolding callChecks next gives outputOf writes
         flag-set u eu hu =
             let inside : flagInRange j v ≡ true = rw (sym eu ∙ not-false u hu) in
-            effect-done b (sheetOf b) (setFlag j v) bs (f .found .judged) d []
-            (no-check (flagNumberCheck j) (flagValueCheck j v ∷ standsCheck (sheetOf b) 1 ∷ []) (number-passes 1 14 j t is h)
-            (no-check (flagValueCheck j v) (standsCheck (sheetOf b) 1 ∷ []) (value-passes j v u eu hu) (stands-passes bs (f .found) stands)))
+            effect-done b (observationOf b) (setFlag j v) bs (f .found .judged) d []
+            (no-check (flagNumberCheck j) (flagValueCheck j v ∷ standsCheck (observationOf b) 1 ∷ []) (number-passes 1 14 j t is h)
+            (no-check (flagValueCheck j v) (standsCheck (observationOf b) 1 ∷ []) (value-passes j v u eu hu) (stands-passes bs (f .found) stands)))
             flag-fits (omega arith) (flag-laid (range-fits j v inside)) refl
 
         pub flag-cleared : v ≡ 0 → after (answerOf Done) d [] ≡ effect b (clearFlag j)
-        unfolding callChecks next gives lent writes
+        unfolding callChecks next gives outputOf writes
         flag-cleared e =
-            effect-done b (sheetOf b) (clearFlag j) bs (f .found .judged) d [] passes
+            effect-done b (observationOf b) (clearFlag j) bs (f .found .judged) d [] passes
             (rw e at flag-fits) (omega arith) (rw e at (flag-laid (rw e (missing-fits j)))) refl

@@ -4,7 +4,7 @@ ghost use mathlib.Core.List.{[]};
 ghost use Prim.Native.Nat.{_+_, _*_, _≤_, _<_, _^_};
 ghost use lib.ListN.{length};
 ghost use Rattle.format.specs.Nibbles.{nibbles};
-ghost use Rattle.format.specs.Machine.{readFlag, setFlag, clearFlag};
+ghost use Rattle.format.specs.Calls.{readFlag, setFlag, clearFlag};
 ghost use Rattle.format.specs.Buffer.{after, effect};
 ghost use Rattle.format.specs.Reply.{answerOf};
 ghost use Rattle.flag_calls.specs.Flags.{FlagsAt, flagged};

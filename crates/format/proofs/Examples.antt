@@ -13,16 +13,16 @@ use Rattle.format.specs.Bits.{bits, number, bitsOf, bitField, total, off
 use Rattle.format.specs.Nibbles.{attachment, nibbles, bytes, padded, attachmentNibbles, tailNibbles, attachmentsOf, among}
 use Rattle.format.specs.Flags.{weights, weight, totalWeight, allMissing, qualityCode, flagsFit, flagBody, withFlag, flagsValid}
 use Rattle.format.specs.ShipText.{charCode, short, pairByte, codeNibbles, classify, byteOf, escapable, isSpace, symbolNibbles, fulls, rest, spaceRun, writeFrom, writeText, spaces, textStep, stateAfter, symbolsOf, readFrom, endFrom, atEnd, textValid, readText}
-use Rattle.format.specs.Sheet.{Sheet, widths, checksum, cardNumbers, cardNibbles, packing}
-use Rattle.format.specs.Report.{sheetOf, codesOf, checksumOf, fieldChecks, bodyValid, attachmentChecks, reportChecks, Verdict, refused, accepted, judge}
-use Rattle.format.specs.Machine.{Call, readField, setField, clearField, readFlag, setFlag, clearFlag, put, fetch, remove, putText, fetchText, stands, contentOf, putIn, removeFrom, withAttachments, next, gives, lent, writes, allNibbles, callChecks, checks, Answer, step}
+use Rattle.format.specs.Observation.{Observation, widths, checksum, cardNumbers, cardNibbles, packing}
+use Rattle.format.specs.Report.{observationOf, codesOf, checksumOf, fieldChecks, bodyValid, attachmentChecks, reportChecks, Verdict, refused, accepted, judge}
+use Rattle.format.specs.Calls.{Call, readField, setField, clearField, readFlag, setFlag, clearFlag, put, fetch, remove, putText, fetchText, stands, contentOf, putIn, removeFrom, withAttachments, next, gives, outputOf, writes, allNibbles, callChecks, checks, Answer, step}
 use Rattle.format.specs.Buffer.{layout, effect, Shown, calls, run, claim}
-use Rattle.format.specs.Whole.{freshSheet, freshChecks, Wrote, fresh, presenceFrom, countPresent, Unpacked, unpackGives, unpack, packChecks, entriesGiven, countFrom, packSheet, packOrder, pack}
+use Rattle.format.specs.Whole.{freshObservation, freshChecks, Wrote, fresh, presenceFrom, countPresent, Unpacked, unpackGives, unpack, packChecks, entriesGiven, countFrom, packObservation, packOrder, pack}
 use Rattle.format.specs.Lister.{digitsFrom, fieldLines, listing}
 use Rattle.format.specs.declared.Scaled.{Scaled}
 use Rattle.format.proofs.Test.{Example, same, every}
 
--- ---- sheets, verdicts and answers as numbers, so that one test compares all
+-- ---- observations, verdicts and answers as numbers, so that one test compares all
 
 signed : ℤ → List ℕ
 signed (pos n) = 0 ∷ n ∷ []
@@ -38,15 +38,15 @@ valueNumbers [] = []
 valueNumbers (none ∷ more) = 0 ∷ valueNumbers more
 valueNumbers (some v ∷ more) = 1 ∷ (signed (v .0) ++ valueNumbers more)
 
-sheetNumbers : Sheet → List ℕ
-sheetNumbers s = s .rptin ∷ (valueNumbers (s .values) ++ tailNibbles (s .attachments))
+observationNumbers : Observation → List ℕ
+observationNumbers s = s .rptin ∷ (valueNumbers (s .values) ++ tailNibbles (s .attachments))
 
 refusal : Refusal → List ℕ
 refusal r = 0 ∷ r .number ∷ r .place ∷ []
 
 judged : Verdict → List ℕ
 judged (refused r) = refusal r
-judged (accepted s) = 1 ∷ sheetNumbers s
+judged (accepted s) = 1 ∷ observationNumbers s
 
 answer : Answer → List ℕ
 answer (Answer.refused r) = refusal r
@@ -75,8 +75,8 @@ freshBytes : List ℕ
 freshBytes =
     0x00 ∷ 0x00 ∷ 0x00 ∷ 0x59 ∷ 0x44 ∷ 0x00 ∷ 0x00 ∷ 0x17 ∷ 0x0A ∷ (replicate 27 0 ++ (0xF0 ∷ 0x00 ∷ []))
 
-freshSheetExample : Sheet
-freshSheetExample = freshSheet (scaled (pos 1)) (scaled (pos 1900)) (scaled (pos 1)) (scaled (pos 0)) (scaled (pos 0))
+freshObservationExample : Observation
+freshObservationExample = freshObservation (scaled (pos 1)) (scaled (pos 1900)) (scaled (pos 1)) (scaled (pos 0)) (scaled (pos 0))
 
 -- "then S set to 286"
 sBytes : List ℕ
@@ -131,8 +131,8 @@ examples =
     -- fresh: the bytes, no others, and back
     example (freshExample (replicate 40 7) .out) (freshBytes ++ (7 ∷ 7 ∷ []))
     ∷ example (answer (freshExample (replicate 38 7) .answer)) yes
-    ∷ example (judged (judge freshBytes)) (judged (accepted freshSheetExample))
-    ∷ example (packing freshSheetExample) freshBytes
+    ∷ example (judged (judge freshBytes)) (judged (accepted freshObservationExample))
+    ∷ example (packing freshObservationExample) freshBytes
     ∷ example (checksumOf freshBytes ∷ []) (240 ∷ [])
     -- the lister: 1 1, 2 1900, 3 1, 6 0, 7 0, C 240, A 0; R 1 0
     ∷ example (listing freshBytes)
@@ -150,7 +150,7 @@ examples =
     ∷ example (total highestCodes ∷ checksum highestCodes ∷ []) (19643 ∷ 8 ∷ [])
     ∷ example (checksum (replicate 46 1) ∷ []) (46 ∷ [])
     ∷ example (checksumOf (reportOf highestCodes 0 []) ∷ checksumOf (reportOf (replicate 46 1) 0 []) ∷ []) (8 ∷ 46 ∷ [])
-    ∷ example (codesOf (packing (sheetOf (reportOf highestCodes 0 [])))) highestCodes
+    ∷ example (codesOf (packing (observationOf (reportOf highestCodes 0 [])))) highestCodes
     -- S: -1000 is 9; -999 is coded 1
     ∷ example (answersOf freshBytes (setField 31 (scaled (minus 1000)) ∷ [])) (refuses 9 31)
     ∷ example (codedOf (fieldAt 31) (scaled (minus 999)) .0 ∷ signed (scaledOf (fieldAt 31) (coded 1) .0)) (1 ∷ 1 ∷ 998 ∷ [])
@@ -176,7 +176,7 @@ examples =
 
 -- all that the examples compute with
 pub examples-hold : T (every examples)
-unfolding signed given valueNumbers sheetNumbers refusal judged answer answers yes refuses example freshExample freshBytes freshSheetExample sBytes textBytes reportWith reportOf highestCodes freshCodes badText flagless put1 flagCalls answersOf roomy wide examples same every first table fieldAt required scaledOf codedOf inRange entryOf codeOf entries codes bits number bitsOf bitField total readFields writeFields nibbles bytes padded attachmentNibbles tailNibbles attachmentsOf among weights weight totalWeight allMissing qualityCode flagsFit flagBody withFlag flagsValid charCode short pairByte codeNibbles classify byteOf escapable isSpace symbolNibbles fulls rest spaceRun writeFrom writeText spaces textStep stateAfter symbolsOf readFrom endFrom atEnd textValid readText widths checksum cardNumbers cardNibbles packing sheetOf fieldChecks bodyValid attachmentChecks reportChecks judge stands contentOf putIn removeFrom next gives lent writes allNibbles callChecks checks step layout effect calls run claim freshSheet freshChecks fresh digitsFrom fieldLines listing
+unfolding signed given valueNumbers observationNumbers refusal judged answer answers yes refuses example freshExample freshBytes freshObservationExample sBytes textBytes reportWith reportOf highestCodes freshCodes badText flagless put1 flagCalls answersOf roomy wide examples same every first table fieldAt required scaledOf codedOf inRange entryOf codeOf entries codes bits number bitsOf bitField total readFields writeFields nibbles bytes padded attachmentNibbles tailNibbles attachmentsOf among weights weight totalWeight allMissing qualityCode flagsFit flagBody withFlag flagsValid charCode short pairByte codeNibbles classify byteOf escapable isSpace symbolNibbles fulls rest spaceRun writeFrom writeText spaces textStep stateAfter symbolsOf readFrom endFrom atEnd textValid readText widths checksum cardNumbers cardNibbles packing observationOf fieldChecks bodyValid attachmentChecks reportChecks judge stands contentOf putIn removeFrom next gives outputOf writes allNibbles callChecks checks step layout effect calls run claim freshObservation freshChecks fresh digitsFrom fieldLines listing
 examples-hold = tt
 
 -- ---- two refusals that fit at once, zeroed bytes, unpack and pack
@@ -241,10 +241,10 @@ orders =
     ∷ example (judged (judge (reportOf freshCodes 2 (0 ∷ 1 ∷ 5 ∷ 9 ∷ 0 ∷ 1 ∷ 5 ∷ 9 ∷ [])))) (refuses 5 2)
     ∷ example (judged (judge (reportOf freshCodes 2 (0 ∷ 1 ∷ 1 ∷ 0 ∷ 0 ∷ 0 ∷ 5 ∷ 1 ∷ [])))) (refuses 6 1)
     ∷ example (judged (judge (reportOf freshCodes 1 (0 ∷ 1 ∷ 4 ∷ 10 ∷ 3 ∷ [])))) (refuses 6 1)
-    ∷ example (judged (judge (reportOf freshCodes 1 (0 ∷ 2 ∷ 5 ∷ 9 ∷ 9 ∷ 3 ∷ [])))) (1 ∷ sheetNumbers (withAttachments freshSheetExample (attachment 5 (9 ∷ 9 ∷ []) ∷ [])))
+    ∷ example (judged (judge (reportOf freshCodes 1 (0 ∷ 2 ∷ 5 ∷ 9 ∷ 9 ∷ 3 ∷ [])))) (1 ∷ observationNumbers (withAttachments freshObservationExample (attachment 5 (9 ∷ 9 ∷ []) ∷ [])))
     ∷ example (judged (judge (reportOf freshCodes 1 (0 ∷ 1 ∷ 5 ∷ 9 ∷ 3 ∷ [])))) (refuses 7 0)
-    ∷ example (judged (judge (reportOf freshCodes 1 (0 ∷ 2 ∷ 5 ∷ 9 ∷ 9 ∷ []) ++ (1 ∷ [])))) (1 ∷ sheetNumbers (withAttachments freshSheetExample (attachment 5 (9 ∷ 9 ∷ []) ∷ [])))
-    ∷ example (judged (judge (freshBytes ++ (255 ∷ [])))) (judged (accepted freshSheetExample))
+    ∷ example (judged (judge (reportOf freshCodes 1 (0 ∷ 2 ∷ 5 ∷ 9 ∷ 9 ∷ []) ++ (1 ∷ [])))) (1 ∷ observationNumbers (withAttachments freshObservationExample (attachment 5 (9 ∷ 9 ∷ []) ∷ [])))
+    ∷ example (judged (judge (freshBytes ++ (255 ∷ [])))) (judged (accepted freshObservationExample))
     ∷ example (judged (judge (set freshBytes 37 3))) (refuses 7 0)
     -- 8, 9, 10, 11, 12, 14, 13, after the report
     ∷ example (answersOf (spoilt freshBytes) (setField 47 (scaled (pos 0)) ∷ fetch 0 (3 ∷ []) ∷ [])) (refuses 4 0 ++ (refuses 4 0 ++ one 3))
@@ -260,7 +260,7 @@ orders =
     ∷ example (drop 37 (claim roomy (put 9 (1 ∷ 2 ∷ 3 ∷ []) ∷ remove 9 ∷ []) .buffer)) (0 ∷ 0 ∷ 0 ∷ 0 ∷ replicate 19 5)
     ∷ example (drop 37 (effect (effect roomy (put 9 (1 ∷ 2 ∷ 3 ∷ [])) .buffer) (remove 9) .buffer)) (0 ∷ 0 ∷ 0 ∷ 0 ∷ replicate 19 5)
     -- a put where the id stands keeps the order
-    ∷ example (tailNibbles (sheetOf (claim roomy (put 9 (1 ∷ []) ∷ put 8 (2 ∷ []) ∷ put 9 (3 ∷ 3 ∷ []) ∷ []) .buffer) .attachments)) (0 ∷ 2 ∷ 9 ∷ 3 ∷ 3 ∷ 0 ∷ 1 ∷ 8 ∷ 2 ∷ [])
+    ∷ example (tailNibbles (observationOf (claim roomy (put 9 (1 ∷ []) ∷ put 8 (2 ∷ []) ∷ put 9 (3 ∷ 3 ∷ []) ∷ []) .buffer) .attachments)) (0 ∷ 2 ∷ 9 ∷ 3 ∷ 3 ∷ 0 ∷ 1 ∷ 8 ∷ 2 ∷ [])
     -- the last flag cleared: quality code 0; a missing flag reads as missing
     ∷ example (answersOf roomy (put1 ∷ setFlag 14 10 ∷ readFlag 14 ∷ fetch 1 (replicate 16 9) ∷ clearFlag 14 ∷ readFlag 14 ∷ fetch 1 (replicate 16 9) ∷ []))
     (1 ∷ 1 ∷ 1 ∷ 1 ∷ 0 ∷ 10 ∷ 1 ∷ 1 ∷ 0 ∷ 16 ∷ (replicate 13 0 ++ (10 ∷ 0 ∷ 4 ∷ 1 ∷ 1 ∷ 0 ∷ 1 ∷ 1 ∷ 0 ∷ 16 ∷ replicate 16 0)))
@@ -325,5 +325,5 @@ orders =
     ∷ []
 
 pub orders-hold : T (every orders)
-unfolding manyAttachments longTail longReport codesWith codesWithout spoilt one wholeValues numbers packed requiredBits unpackedNumbers orders presenceFrom countPresent unpackGives unpack packChecks entriesGiven countFrom packSheet packOrder pack signed given valueNumbers sheetNumbers refusal judged answer answers yes refuses example freshExample freshBytes freshSheetExample sBytes textBytes reportWith reportOf highestCodes freshCodes badText flagless put1 flagCalls answersOf roomy wide same every first table fieldAt required scaledOf codedOf inRange entryOf codeOf entries codes bits number bitsOf bitField total readFields writeFields nibbles bytes padded attachmentNibbles tailNibbles attachmentsOf among weights weight totalWeight allMissing qualityCode flagsFit flagBody withFlag flagsValid charCode short pairByte codeNibbles classify byteOf escapable isSpace symbolNibbles fulls rest spaceRun writeFrom writeText spaces textStep stateAfter symbolsOf readFrom endFrom atEnd textValid readText widths checksum cardNumbers cardNibbles packing sheetOf fieldChecks bodyValid attachmentChecks reportChecks judge stands contentOf putIn removeFrom next gives lent writes allNibbles callChecks checks step layout effect calls run claim freshSheet freshChecks fresh digitsFrom fieldLines listing
+unfolding manyAttachments longTail longReport codesWith codesWithout spoilt one wholeValues numbers packed requiredBits unpackedNumbers orders presenceFrom countPresent unpackGives unpack packChecks entriesGiven countFrom packObservation packOrder pack signed given valueNumbers observationNumbers refusal judged answer answers yes refuses example freshExample freshBytes freshObservationExample sBytes textBytes reportWith reportOf highestCodes freshCodes badText flagless put1 flagCalls answersOf roomy wide same every first table fieldAt required scaledOf codedOf inRange entryOf codeOf entries codes bits number bitsOf bitField total readFields writeFields nibbles bytes padded attachmentNibbles tailNibbles attachmentsOf among weights weight totalWeight allMissing qualityCode flagsFit flagBody withFlag flagsValid charCode short pairByte codeNibbles classify byteOf escapable isSpace symbolNibbles fulls rest spaceRun writeFrom writeText spaces textStep stateAfter symbolsOf readFrom endFrom atEnd textValid readText widths checksum cardNumbers cardNibbles packing observationOf fieldChecks bodyValid attachmentChecks reportChecks judge stands contentOf putIn removeFrom next gives outputOf writes allNibbles callChecks checks step layout effect calls run claim freshObservation freshChecks fresh digitsFrom fieldLines listing
 orders-hold = tt

@@ -8,7 +8,7 @@ use lib.Dec.{T, eqb, ltb}
 use lib.IntN.{ℤ, pos, negsuc, _+ℤ_}
 use Rattle.format.specs.Field.{Field, minus, table}
 use Rattle.format.specs.Bits.{total}
-use Rattle.format.specs.Sheet.{widths}
+use Rattle.format.specs.Observation.{widths}
 use Rattle.format.specs.Flags.{weights}
 use Rattle.format.specs.ShipText.{charCode, short, codeNibbles, pairByte, classify, byteOf, escapable, isSpace, symbolNibbles, fulls, rest, spaceRun, writeFrom, writeText, spaces, textStep, stateAfter, symbolsOf, readFrom, endFrom, atEnd, textValid, readText}
 use Rattle.format.proofs.Test.{same}

@@ -4,9 +4,9 @@ pub mod Bits
 pub mod Nibbles
 pub mod Flags
 pub mod ShipText
-pub mod Sheet
+pub mod Observation
 pub mod Report
-pub mod Machine
+pub mod Calls
 pub mod Reply
 pub mod Buffer
 pub mod Whole

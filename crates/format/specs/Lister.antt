@@ -7,7 +7,7 @@ use lib.ListN.{length, take}
 use lib.Dec.{ltb}
 use lib.IntN.{ℤ, pos, negsuc}
 use Rattle.format.specs.Field.{table, codes}
-use Rattle.format.specs.Sheet.{checksum}
+use Rattle.format.specs.Observation.{checksum}
 use Rattle.format.specs.Report.{Verdict, refused, accepted, judge}
 use Rattle.format.specs.declared.Scaled.{Scaled}
 

@@ -3,7 +3,7 @@ use Prim.Native.Nat.{ℕ}
 use mathlib.Core.List.{[], _∷_}
 use mathlib.Core.Option.{none, some}
 use lib.IntN.{pos}
-use Rattle.format.specs.Machine.{Answer, refused, accepted}
+use Rattle.format.specs.Calls.{Answer, refused, accepted}
 use Rattle.format.specs.declared.Reply.{Reply}
 use Rattle.format.specs.declared.Reply.the-variants.{Refused, Done, Value, Flag, Missing, Count}
 

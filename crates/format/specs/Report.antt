@@ -1,4 +1,4 @@
--- A report: its sheet, "read off its bytes", and the refusals 1 to 7. A buffer holds its report from its first byte on.
+-- A report: its observation, "read off its bytes", and the refusals 1 to 7. A buffer holds its report from its first byte on.
 use Prim.Native.Nat.{ℕ, zero, suc, _+_}
 use mathlib.Core.Bool.{Bool, true, cond, not, _&&_, _||_}
 use mathlib.Core.List.{List, [], _∷_, _++_}
@@ -11,7 +11,7 @@ use Rattle.format.specs.Bits.{bitsOf, readFields}
 use Rattle.format.specs.Nibbles.{nibbles, odd, attachmentsOf, tailNibbles, lengthAt, idAt, contentAt, behind, among}
 use Rattle.format.specs.Flags.{flagsValid}
 use Rattle.format.specs.ShipText.{textValid}
-use Rattle.format.specs.Sheet.{Sheet, sheet, widths, checksum}
+use Rattle.format.specs.Observation.{Observation, observation, widths, checksum}
 
 -- ---- what the bytes show
 
@@ -35,8 +35,8 @@ abbrev pub tailOf : List ℕ → List ℕ
 tailOf b = drop 75 (nibbles b)
 
 -- "RPTIN, each coded value + base, or missing where it is 0, and the attachments in their order"
-unfoldable pub sheetOf : List ℕ → Sheet
-sheetOf b = sheet (rptinOf b) (entries table (codesOf b)) (attachmentsOf (countOf b) (tailOf b))
+unfoldable pub observationOf : List ℕ → Observation
+observationOf b = observation (rptinOf b) (entries table (codesOf b)) (attachmentsOf (countOf b) (tailOf b))
 
 -- ---- the checks, in their order
 
@@ -78,12 +78,12 @@ reportChecks b =
 
 pub data Verdict : Type 0 where
   refused : Refusal → Verdict
-  accepted : Sheet → Verdict
+  accepted : Observation → Verdict
 
-abbrev pub verdict : Option Refusal → Sheet → Verdict
+abbrev pub verdict : Option Refusal → Observation → Verdict
 verdict none s = accepted s
 verdict (some r) s = refused r
 
 -- "a report is accepted if none of 1 to 7 below refuses it"
 unfoldable pub judge : List ℕ → Verdict
-judge b = verdict (first (reportChecks b)) (sheetOf b)
+judge b = verdict (first (reportChecks b)) (observationOf b)

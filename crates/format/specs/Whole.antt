@@ -9,21 +9,21 @@ use lib.IntN.{ℤ, pos}
 use Rattle.format.specs.Order.{Refusal, Check, check, first}
 use Rattle.format.specs.Field.{Field, table, required, inRange, scaled, BOX10, YEAR, MONTH, X, Y}
 use Rattle.format.specs.Nibbles.{attachmentsOf, tailNibbles, behind}
-use Rattle.format.specs.Sheet.{Sheet, sheet, packing, size}
+use Rattle.format.specs.Observation.{Observation, observation, packing, size}
 use Rattle.format.specs.Report.{Verdict, judge, attachmentChecks}
-use Rattle.format.specs.Machine.{Answer, refused, accepted, valueCheck, withValue, allNibbles, over}
+use Rattle.format.specs.Calls.{Answer, refused, accepted, valueCheck, withValue, allNibbles, over}
 use Rattle.format.specs.declared.Scaled.{Scaled}
 
 -- ---- fresh: "BOX10, YEAR, MONTH, X, Y given; RPTIN 0, all else missing"
 
-abbrev pub blank : Sheet
-blank = sheet 0 (replicate 46 none) []
+abbrev pub blank : Observation
+blank = observation 0 (replicate 46 none) []
 
-abbrev pub with : ℕ → Scaled → Sheet → Sheet
+abbrev pub with : ℕ → Scaled → Observation → Observation
 with k v s = withValue s k (some v)
 
-unfoldable pub freshSheet : Scaled → Scaled → Scaled → Scaled → Scaled → Sheet
-freshSheet box10 year month x y = with Y y (with X x (with MONTH month (with YEAR year (with BOX10 box10 blank))))
+unfoldable pub freshObservation : Scaled → Scaled → Scaled → Scaled → Scaled → Observation
+freshObservation box10 year month x y = with Y y (with X x (with MONTH month (with YEAR year (with BOX10 box10 blank))))
 
 -- "9 by ascending field, then 13"
 unfoldable pub freshChecks : ℕ → Scaled → Scaled → Scaled → Scaled → Scaled → List Check
@@ -41,7 +41,7 @@ wroteBy none given report out = record { answer = accepted given; out = over rep
 
 unfoldable pub fresh : Scaled → Scaled → Scaled → Scaled → Scaled → List ℕ → Wrote
 fresh box10 year month x y out =
-    wroteBy (first (freshChecks (length out) box10 year month x y)) [] (packing (freshSheet box10 year month x y)) out
+    wroteBy (first (freshChecks (length out) box10 year month x y)) [] (packing (freshObservation box10 year month x y)) out
 
 -- ---- unpack
 
@@ -59,7 +59,7 @@ unfoldable pub presenceFrom : ℕ → List (Option Scaled) → ℕ
 presenceFrom k [] = 0
 presenceFrom k (e ∷ es) = cond (isPresent e) (2 ^ k) 0 + presenceFrom (suc k) es
 
-abbrev pub presence : Sheet → ℕ
+abbrev pub presence : Observation → ℕ
 presence s = presenceFrom 1 (s .values)
 
 -- "how many fields are present"
@@ -68,7 +68,7 @@ countPresent [] = 0
 countPresent (e ∷ es) = cond (isPresent e) 1 0 + countPresent es
 
 -- "all nibbles after the 75th, without an odd last one, one a byte"
-abbrev pub tail : Sheet → List ℕ
+abbrev pub tail : Observation → List ℕ
 tail s = tailNibbles (s .attachments)
 
 -- the answer, and the two outputs after the call
@@ -85,14 +85,14 @@ abbrev pub contents : ℕ → ℕ → ℕ → ℕ → ℕ → ℕ → List (Opti
 contents word present rptin count size tail =
     some (pos word) ∷ some (pos present) ∷ some (pos rptin) ∷ some (pos count) ∷ some (pos size) ∷ some (pos tail) ∷ []
 
-unfoldable pub unpackGives : Sheet → List (Option ℤ)
+unfoldable pub unpackGives : Observation → List (Option ℤ)
 unpackGives s = contents (presence s) (countPresent (s .values)) (s .rptin) (length (s .attachments)) (size s) (length (tail s))
 
 -- 13: "a lent buffer shorter than .. the output, or 46 values"
-abbrev pub unpackChecks : Sheet → List ℤ → List ℕ → List Check
+abbrev pub unpackChecks : Observation → List ℤ → List ℕ → List Check
 unpackChecks s values tailOut = check (ltb (length values) 46 || ltb (length tailOut) (length (tail s))) 13 0 ∷ []
 
-abbrev pub unpackedBy : Option Refusal → Sheet → List ℤ → List ℕ → Unpacked
+abbrev pub unpackedBy : Option Refusal → Observation → List ℤ → List ℕ → Unpacked
 unpackedBy (some r) s values tailOut = unpacked (refused r) values tailOut
 unpackedBy none s values tailOut =
     unpacked (accepted (unpackGives s)) (over (map valueOrZero (s .values)) values) (over (tail s) tailOut)
@@ -138,8 +138,8 @@ countFrom (suc m) (n ∷ ns) = 1 + countFrom m (behind (n ∷ ns))
 abbrev pub countIn : List ℕ → ℕ
 countIn ns = countFrom (length ns) ns
 
-unfoldable pub packSheet : List ℤ → ℕ → ℕ → List ℕ → Sheet
-packSheet values word rptin ns = sheet rptin (entriesGiven 1 word (take 46 values)) (attachmentsOf (countIn ns) ns)
+unfoldable pub packObservation : List ℤ → ℕ → ℕ → List ℕ → Observation
+packObservation values word rptin ns = observation rptin (entriesGiven 1 word (take 46 values)) (attachmentsOf (countIn ns) ns)
 
 -- "13 for too few values, 8, fields ascending (10 or 9), 14 for the tail's bytes, the tail's attachments as in a report
 -- (1, 5, 6), 13 for the output"
@@ -150,12 +150,12 @@ packOrder n values word rptin ns =
     ∷ (packChecks 1 table word values
     ++ (check (not (allNibbles ns)) 14 0
     ∷ (attachmentChecks (countIn ns) 1 [] ns
-    ++ (check (ltb n (size (packSheet values word rptin ns))) 13 0 ∷ []))))
+    ++ (check (ltb n (size (packObservation values word rptin ns))) 13 0 ∷ []))))
 
 -- it gives the report's byte length. A refused call leaves the output
 unfoldable pub pack : List ℤ → ℕ → ℕ → List ℕ → List ℕ → Wrote
 pack values word rptin ns out =
-    let s = packSheet values word rptin ns in
+    let s = packObservation values word rptin ns in
     wroteBy (first (packOrder (length out) values word rptin ns)) (some (pos (size s)) ∷ []) (packing s) out
 
 -- ---- what comes back of values that were packed

@@ -15,12 +15,12 @@ use Rattle.format.specs.Order.{Refusal, first}
 use Rattle.format.specs.Bits.{bits, bitsOf, number, total, readFields, Bytes}
 use Rattle.format.specs.Field.{Field, table, fieldAt, codedOf, codeOf, codes, BOX10, YEAR, MONTH, X, Y}
 use Rattle.format.specs.Nibbles.{nibbles, tailNibbles}
-use Rattle.format.specs.Sheet.{Sheet, widths, checksum, cardNumbers, packing, size}
+use Rattle.format.specs.Observation.{Observation, widths, checksum, cardNumbers, packing, size}
 use Rattle.format.specs.Report.{numbersOf, tailOf}
-use Rattle.format.specs.Machine.{Answer, over}
+use Rattle.format.specs.Calls.{Answer, over}
 use Rattle.format.specs.Buffer.{zeros}
 use Rattle.format.specs.Reply.{refusal}
-use Rattle.format.specs.Whole.{wroteBy, freshSheet, freshChecks, fresh}
+use Rattle.format.specs.Whole.{wroteBy, freshObservation, freshChecks, fresh}
 use Rattle.format.specs.declared.Coded.{Coded}
 use Rattle.format.specs.declared.Scaled.{Scaled}
 use Rattle.laws.proofs.Order.{first-skip, first-fits, first-nil}
@@ -112,9 +112,9 @@ module _ (a b c x y : ℕ) where
 
 module _ (box10 year month x y : Scaled) (out : List ℕ) where
   by-first : (o : Option Refusal) → first (freshChecks (length out) box10 year month x y) ≡ o
-      → wroteBy o [] (packing (freshSheet box10 year month x y)) out ≡ fresh box10 year month x y out
+      → wroteBy o [] (packing (freshObservation box10 year month x y)) out ≡ fresh box10 year month x y out
   unfolding fresh
-  by-first o e = ap (λ (q : Option Refusal). wroteBy q [] (packing (freshSheet box10 year month x y)) out) (sym e)
+  by-first o e = ap (λ (q : Option Refusal). wroteBy q [] (packing (freshObservation box10 year month x y)) out) (sym e)
 
   refused : (n p : ℕ) → first (freshChecks (length out) box10 year month x y) ≡ some (record { number = n; place = p })
       → record { answer = refusal n p; out = out } ≡ fresh box10 year month x y out
@@ -161,17 +161,17 @@ module _ (box10 year month x y : Scaled) (out : List ℕ) where
               unfolding freshChecks
               short h = refused 13 0 (four ∙ first-skip _ _ (ap not (ce .inside he .0)) ∙ first-fits _ _ (lt-ltb (length out) 38 h))
 
-              numbers-are : fiveNumbers a b c d e ≡ cardNumbers (freshSheet box10 year month x y)
-              unfolding freshSheet cardNumbers codes codeOf table fieldAt fiveCodes
+              numbers-are : fiveNumbers a b c d e ≡ cardNumbers (freshObservation box10 year month x y)
+              unfolding freshObservation cardNumbers codes codeOf table fieldAt fiveCodes
               numbers-are =
                   ap (λ (l : List ℕ). 0 ∷ (l ++ (checksum l ∷ 0 ∷ [])))
                   (λ i. fiveCodes (ca .inside ha .1 i) (cb .inside hb .1 i) (cm .inside hc .1 i) (cd .inside hd .1 i) (ce .inside he .1 i))
 
               pub written : (o : List ℕ) → 38 ≤ length out → Bytes o → Carded (cleared out) o (fiveNumbers a b c d e)
                   → record { answer = Answer.accepted []; out = o } ≡ fresh box10 year month x y out
-              unfolding freshChecks freshSheet tailNibbles
+              unfolding freshChecks freshObservation tailNibbles
               written o room bo w =
-                  let s : Sheet = freshSheet box10 year month x y in
+                  let s : Observation = freshObservation box10 year month x y in
                   let m : max 0 (size s) ≡ 38 = omega (arith, fresh-size box10 year month x y) in
                   let long : 38 ≤ length o = omega (arith, w .long, cleared-length out room) in
                   let none-refused : first (freshChecks (length out) box10 year month x y) ≡ none =

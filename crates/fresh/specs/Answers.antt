@@ -1,6 +1,6 @@
 -- The answers of fresh: 01's number and place for each case.
 use mathlib.Core.List.{[]}
-use Rattle.format.specs.Machine.{Answer, accepted}
+use Rattle.format.specs.Calls.{Answer, accepted}
 use Rattle.format.specs.Reply.{refusal}
 use Rattle.fresh.specs.declared.Started.{Started}
 use Rattle.fresh.specs.declared.Started.the-variants.{Refused, Written}

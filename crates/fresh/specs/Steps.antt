@@ -4,8 +4,8 @@ use mathlib.Core.Path.{_≡_}
 use mathlib.Core.Bool.{true, false}
 use mathlib.Core.List.{List, [], _∷_, _++_}
 use Rattle.format.specs.Field.{Field, fieldAt, inRange, codedOf, BOX10, YEAR, MONTH, X, Y}
-use Rattle.format.specs.Sheet.{checksum}
-use Rattle.format.specs.Machine.{over}
+use Rattle.format.specs.Observation.{checksum}
+use Rattle.format.specs.Calls.{over}
 use Rattle.format.specs.Buffer.{zeros}
 use Rattle.format.specs.declared.Scaled.{Scaled}
 

@@ -11,7 +11,7 @@ use borrow.Author.Tests.{eq-eqb, ne-eqb, eqb-true, eqb-false, leb-true}
 use Rattle.format.specs.Order.{between}
 use Rattle.format.specs.Nibbles.{Attachment, attachment, tailNibbles, among}
 use Rattle.format.specs.Report.{bodyValid}
-use Rattle.format.specs.Machine.{stands, contentOf, putIn, removeFrom, allNibbles}
+use Rattle.format.specs.Calls.{stands, contentOf, putIn, removeFrom, allNibbles}
 use Rattle.laws.proofs.Lists.{and-true, or-false, true-false, cond-case}
 use Rattle.laws.proofs.Attachments.{all-nibbles, FineAt, Fine, empty, one, tail-length, tail-append}
 

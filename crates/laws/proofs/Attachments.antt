@@ -15,7 +15,7 @@ use Rattle.format.specs.Order.{first}
 use Rattle.format.specs.Nibbles.{Attachment, attachment, attachmentNibbles, tailNibbles, lengthAt, idAt, contentAt, behind, attachmentsOf, among, Nibbles}
 use Rattle.format.specs.Flags.{flagsValid}
 use Rattle.format.specs.Report.{bodyValid, attachmentChecks}
-use Rattle.format.specs.Machine.{allNibbles}
+use Rattle.format.specs.Calls.{allNibbles}
 use Rattle.format.specs.Whole.{countFrom, countIn}
 use Rattle.laws.proofs.Lists.{and-true, or-false, cond-case}
 use Rattle.laws.proofs.Order.{first-none}
@@ -23,7 +23,7 @@ use Rattle.laws.proofs.Bits.{append-below, take-below, drop-below}
 
 -- ---- nibbles
 
--- the machine's test of nibbles says so of each
+-- the test of nibbles says so of each
 pub nibbles-all : (ns : List ℕ) → Nibbles ns → allNibbles ns ≡ true
 unfolding allNibbles
 nibbles-all [] p = refl

@@ -1,4 +1,4 @@
--- An edit of the attachments: nibbles of the tail replaced, AC set, and the buffer is the layout of the sheet so edited.
+-- An edit of the attachments: nibbles of the tail replaced, AC set, and the buffer is the layout of the observation so edited.
 -- Assumes nothing.
 use Prim.Native.Nat.{ℕ, _+_, _-_, _*_, _/_, _<_, max, _≤_}
 use native.Mathlib.Omega.{arith}
@@ -8,9 +8,9 @@ use lib.ListN.{length, take, drop, set, length-append}
 use lib.Seq.{take-at, drop-at, take-add, drop-drop, drop-append-add, length-take-le}
 use Rattle.format.specs.Bits.{readFields, Bytes}
 use Rattle.format.specs.Nibbles.{Attachment, nibbles, tailNibbles, Nibbles}
-use Rattle.format.specs.Sheet.{Sheet, widths, cardNumbers, size}
-use Rattle.format.specs.Report.{numbersOf, tailOf, sheetOf, accepted, judge}
-use Rattle.format.specs.Machine.{withAttachments}
+use Rattle.format.specs.Observation.{Observation, widths, cardNumbers, size}
+use Rattle.format.specs.Report.{numbersOf, tailOf, observationOf, accepted, judge}
+use Rattle.format.specs.Calls.{withAttachments}
 use Rattle.format.specs.Buffer.{zeros, layout}
 use Rattle.laws.proofs.Bits.{uniform}
 use Rattle.laws.proofs.Nibbles.{length-nibbles}
@@ -33,24 +33,24 @@ spliced ns at old x end =
 
 -- the report of b with another list of attachments, whose tail has the nibbles x for old ones at a place
 pub record Edit (b : List ℕ) (list : List Attachment) (x : List ℕ) (at old end count : ℕ) : Type 0 where
-  pub judged : judge b ≡ accepted (sheetOf b)
+  pub judged : judge b ≡ accepted (observationOf b)
   pub before : List ℕ
   pub gone : List ℕ
   pub behind : List ℕ
-  pub from : tailNibbles (sheetOf b .attachments) ≡ before ++ (gone ++ behind)
+  pub from : tailNibbles (observationOf b .attachments) ≡ before ++ (gone ++ behind)
   pub to : tailNibbles list ≡ before ++ (x ++ behind)
   pub at-is : at ≡ 75 + length before
   pub old-is : old ≡ length gone
-  pub end-is : end ≡ 75 + length (tailNibbles (sheetOf b .attachments))
+  pub end-is : end ≡ 75 + length (tailNibbles (observationOf b .attachments))
   pub count-is : count ≡ length list
   pub count-lt : count < 16
 
 module _ {b : List ℕ} {list : List Attachment} {x : List ℕ} {at old end count : ℕ} (bs : Bytes b) (e : Edit b list x at old end count) where
-  abbrev s : Sheet
-  s = sheetOf b
+  abbrev s : Observation
+  s = observationOf b
 
-  abbrev t : Sheet
-  t = withAttachments (sheetOf b) list
+  abbrev t : Observation
+  t = withAttachments (observationOf b) list
 
   abbrev n : List ℕ
   n = nibbles b
@@ -61,7 +61,7 @@ module _ {b : List ℕ} {list : List Attachment} {x : List ℕ} {at old end coun
   abbrev last : ℕ
   last = at + length x + rest
 
-  old-length : length (tailNibbles (sheetOf b .attachments)) ≡ length (e .before) + (length (e .gone) + length (e .behind))
+  old-length : length (tailNibbles (observationOf b .attachments)) ≡ length (e .before) + (length (e .gone) + length (e .behind))
   old-length = ap length (e .from) ∙ length-append (e .before) (e .gone ++ e .behind) ∙ ap (λ (k : ℕ). length (e .before) + k) (length-append (e .gone) (e .behind))
 
   new-length : length (tailNibbles list) ≡ length (e .before) + (length x + length (e .behind))
@@ -76,7 +76,7 @@ module _ {b : List ℕ} {list : List Attachment} {x : List ℕ} {at old end coun
       let m = new-length in
       (omega arith, omega arith, omega arith)
 
-  pub edit-size : size (withAttachments (sheetOf b) list) ≡ (end - old + length x + 1) / 2
+  pub edit-size : size (withAttachments (observationOf b) list) ≡ (end - old + length x + 1) / 2
   edit-size = size-is t ∙ ap (λ (k : ℕ). (k + 1) / 2) (sym (edit-inside .2))
 
   cleared-is : clearedTo end last ≡ 2 * max (size s) (size t)
@@ -148,7 +148,7 @@ module _ {b : List ℕ} {list : List Attachment} {x : List ℕ} {at old end coun
         ∙ ap₂ (λ (l r : List ℕ). l ++ r) (sym (e .to))
         (ap₂ (λ (k m : ℕ). zeros (k - m) ++ drop k n) cleared-is (edit-inside .1))
 
-    same-card : numbersOf c ≡ cardNumbers (sheetOf b)
+    same-card : numbersOf c ≡ cardNumbers (observationOf b)
     same-card =
         front-numbers c (omega (arith, long, length-nibbles c, length-nibbles b, ap length whole, card-long, length-append (take 75 n) (e .before ++ (x ++ (e .behind ++ filled)))))
         ∙ ap (λ (l : List ℕ). readFields widths (uniform 4 l)) (ap (take 75) whole ∙ take-at (take 75 n) (e .before ++ (x ++ (e .behind ++ filled))) 75 card-long)
@@ -157,7 +157,7 @@ module _ {b : List ℕ} {list : List Attachment} {x : List ℕ} {at old end coun
     module _ (lt : Nibbles (tailNibbles list)) where
       -- with AC set the buffer is the layout
       pub edit-laid : (d : List ℕ) → Bytes d → length d ≡ length b → numbersOf d ≡ set (numbersOf c) 48 count → tailOf d ≡ tailOf c
-          → d ≡ layout b (size (sheetOf b)) (withAttachments (sheetOf b) list)
+          → d ≡ layout b (size (observationOf b)) (withAttachments (observationOf b) list)
       edit-laid d bd same card behind =
           let v : length (s .values) ≡ 46 = length-fair (judged b s bs (e .judged) .good .fair) ∙ table-length in
           layout-is b (size s) t lt d bd (omega (arith, long))
@@ -165,7 +165,7 @@ module _ {b : List ℕ} {list : List Attachment} {x : List ℕ} {at old end coun
           (behind ∙ behind-card)
 
       -- so it is where the number of attachments stays
-      pub edit-kept : Bytes c → length c ≡ length b → length list ≡ length (sheetOf b .attachments)
-          → c ≡ layout b (size (sheetOf b)) (withAttachments (sheetOf b) list)
+      pub edit-kept : Bytes c → length c ≡ length b → length list ≡ length (observationOf b .attachments)
+          → c ≡ layout b (size (observationOf b)) (withAttachments (observationOf b) list)
       unfolding cardNumbers
       edit-kept bc same l = layout-is b (size s) t lt c bc (omega (arith, long)) (same-card ∙ rw l) behind-card

@@ -1,4 +1,4 @@
--- Laws of the fields: coded and scaled, the entries of a sheet and the codes of its card, the checks of fields, the field table.
+-- Laws of the fields: coded and scaled, the entries of an observation and the codes of its card, the checks of fields, the field table.
 -- Assumes nothing.
 use Prim.Native.Nat.{ℕ, zero, suc, _+_, _-_, _^_, _≤_, _<_, suc-le-suc}
 use native.Mathlib.Nat.{not-suc-le-zero, le-of-suc-le-suc}
@@ -17,7 +17,7 @@ use borrow.Author.Tests.{ltb-true, ltb-false, leb-true, eqb-true, eqb-false, le-
 use Rattle.format.specs.Order.{Refusal, check, first}
 use Rattle.format.specs.Field.{Field, field, table, fieldAt, required, coded, scaled, scaledOf, codedOf, inRange, entryOf, codeOf, entries, codes}
 use Rattle.format.specs.Bits.{total}
-use Rattle.format.specs.Sheet.{widths, checksum}
+use Rattle.format.specs.Observation.{widths, checksum}
 use Rattle.format.specs.Report.{fieldChecks}
 use Rattle.format.specs.declared.Coded.{Coded}
 use Rattle.format.specs.declared.Scaled.{Scaled}
@@ -104,7 +104,7 @@ module _ (f : Field) where
       ∙ ap (λ (z : ℤ). leZ (pos 1) z && leZ z (pos (f .highest))) (+ℤ-negℤ-cancel (pos (c .0)) (f .base))
       ∙ rw (le-leb 1 (c .0) l, le-leb (c .0) (f .highest) h)
 
-  -- ---- a field's entry on the sheet
+  -- ---- a field's entry on the observation
 
   code-entry : (c : Coded) → codeOf f (entryOf f c) ≡ c
   unfolding codeOf entryOf
@@ -143,7 +143,7 @@ module _ (f : Field) where
           let s : scaledOf f (codedOf f v) ≡ v = cc in
           subst (λ (x : Scaled). inRange f x ≡ true) s (scaled-range f (codedOf f v) (omega (arith, eqb-false (codedOf f v .0) 0 e)) (h .low))
 
--- ---- the entries of a sheet and the codes of its card
+-- ---- the entries of an observation and the codes of its card
 
 -- where a list of fields ends: `fieldAt` has the same
 abbrev pub noField : Field

@@ -1,4 +1,4 @@
--- What a buffer must hold to be the layout of a sheet: the card's numbers, and the nibbles behind the card.
+-- What a buffer must hold to be the layout of an observation: the card's numbers, and the nibbles behind the card.
 -- Assumes nothing.
 use Prim.Native.Nat.{ℕ, zero, suc, _+_, _-_, _*_, _/_, _%_, _≤_, _<_, max}
 use native.Mathlib.Omega.{arith}
@@ -12,9 +12,9 @@ use borrow.Author.Tests.{eqb-true, eqb-false}
 use Rattle.format.specs.Field.{table, fieldAt, codes, codeOf}
 use Rattle.format.specs.Bits.{readFields, writeFields, total, Bytes}
 use Rattle.format.specs.Nibbles.{Attachment, nibbles, odd, tailNibbles, Nibbles}
-use Rattle.format.specs.Sheet.{Sheet, widths, checksum, cardNumbers, cardNibbles, packing, size}
+use Rattle.format.specs.Observation.{Observation, widths, checksum, cardNumbers, cardNibbles, packing, size}
 use Rattle.format.specs.Report.{numbersOf, tailOf, Verdict, judge}
-use Rattle.format.specs.Machine.{withValue, withAttachments, over}
+use Rattle.format.specs.Calls.{withValue, withAttachments, over}
 use Rattle.format.specs.Buffer.{zeros, layout}
 use Rattle.format.specs.declared.Scaled.{Scaled}
 use Rattle.laws.proofs.Bits.{append-below}
@@ -43,7 +43,7 @@ pad-zeros n = go (odd n) refl
 gap : (n s e : ℕ) → s ≡ (n + 1) / 2 → n % 2 + 2 * (e - s) ≡ 2 * max e s - n
 gap n s e h = omega arith
 
-module _ (b : List ℕ) (e : ℕ) (s : Sheet) (lt : Nibbles (tailNibbles (s .attachments))) where
+module _ (b : List ℕ) (e : ℕ) (s : Observation) (lt : Nibbles (tailNibbles (s .attachments))) where
   behind-is : cond (odd (75 + length (tailNibbles (s .attachments)))) (0 ∷ []) [] ++ nibbles (zeros (e - size s) ++ drop (max e (size s)) b)
       ≡ zeros (2 * max e (size s) - (75 + length (tailNibbles (s .attachments)))) ++ drop (2 * max e (size s)) (nibbles b)
   behind-is =
@@ -87,7 +87,7 @@ module _ (b : List ℕ) (e : ℕ) (s : Sheet) (lt : Nibbles (tailNibbles (s .att
   tail-laid = ap (drop 75) nibbles-layout ∙ drop-at (cardNibbles s) _ 75 (card-length (cardNumbers s))
 
 -- a layout with nothing to clear
-pub over-layout : (b : List ℕ) (s : Sheet) → layout b 0 s ≡ over (packing s) b
+pub over-layout : (b : List ℕ) (s : Observation) → layout b 0 s ≡ over (packing s) b
 unfolding layout
 over-layout b s =
     let a : 0 - size s ≡ 0 = omega arith in
@@ -95,7 +95,7 @@ over-layout b s =
     ap₂ (λ (x y : ℕ). packing s ++ (zeros x ++ drop y b)) a m
 
 -- an accepted report, behind its card
-pub tail-taken : (b : List ℕ) (s : Sheet) → Bytes b → judge b ≡ Verdict.accepted s
+pub tail-taken : (b : List ℕ) (s : Observation) → Bytes b → judge b ≡ Verdict.accepted s
     → tailOf b ≡ tailNibbles (s .attachments) ++ (zeros (2 * size s - (75 + length (tailNibbles (s .attachments)))) ++ drop (2 * size s) (nibbles b))
 tail-taken b s bs j =
     let m : max (size s) (size s) ≡ size s = omega arith in
@@ -105,7 +105,7 @@ tail-taken b s bs j =
 -- ---- fields
 
 -- another card before the same attachments
-pub field-laid : (b c : List ℕ) (s t : Sheet) → Bytes b → judge b ≡ Verdict.accepted s → t .attachments ≡ s .attachments
+pub field-laid : (b c : List ℕ) (s t : Observation) → Bytes b → judge b ≡ Verdict.accepted s → t .attachments ≡ s .attachments
     → Bytes c → length c ≡ length b → numbersOf c ≡ cardNumbers t → tailOf c ≡ tailOf b → c ≡ layout b (size s) t
 field-laid b c s t bs j same bc long card behind =
     let sizes : size t ≡ size s = size-is t ∙ ap (λ (l : List Attachment). (75 + length (tailNibbles l) + 1) / 2) same ∙ sym (size-is s) in
@@ -114,7 +114,7 @@ field-laid b c s t bs j same bc long card behind =
     (rw (m, same) (behind ∙ tail-taken b s bs j))
 
 -- the numbers of a card with another entry at field k: its code, and the checksum of the codes so changed
-pub value-numbers : (s : Sheet) (k : ℕ) (e : Option Scaled) → length (s .values) ≡ 46 → 1 ≤ k → k ≤ 46
+pub value-numbers : (s : Observation) (k : ℕ) (e : Option Scaled) → length (s .values) ≡ 46 → 1 ≤ k → k ≤ 46
     → cardNumbers (withValue s k e)
     ≡ set (set (cardNumbers s) k (codeOf (fieldAt k) e .0)) 47 (checksum (set (codes table (s .values)) (k - 1) (codeOf (fieldAt k) e .0)))
 unfolding cardNumbers fieldAt
@@ -140,7 +140,7 @@ total-set (x ∷ cs) zero c h = omega arith
 total-set (x ∷ cs) (suc i) c h = omega (arith, total-set cs i c (omega arith))
 
 -- the numbers of a card with other attachments: their count
-pub attachment-numbers : (s : Sheet) (list : List Attachment) → length (s .values) ≡ 46 → cardNumbers (withAttachments s list) ≡ set (cardNumbers s) 48 (length list)
+pub attachment-numbers : (s : Observation) (list : List Attachment) → length (s .values) ≡ 46 → cardNumbers (withAttachments s list) ≡ set (cardNumbers s) 48 (length list)
 unfolding cardNumbers
 attachment-numbers s list l =
     let cs = codes table (s .values) in

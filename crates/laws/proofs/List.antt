@@ -1,5 +1,5 @@
 -- Demand 3 as a theorem about the definitions: any list of calls on one buffer, refused ones included, is what is claimed
--- of it: the machine's answers, the packing of its sheet, zeros to the longest end reached, and the bytes beyond.
+-- of it: the answers of the steps, the packing of the last observation, zeros to the longest end reached, and the bytes beyond.
 -- Assumes nothing.
 use Prim.Native.Nat.{ℕ, _+_, _-_, _≤_, max}
 use native.Mathlib.Omega.{arith}
@@ -16,10 +16,10 @@ use Rattle.format.specs.Field.{fieldAt, required}
 use Rattle.format.specs.Nibbles.{attachment}
 use Rattle.format.specs.Flags.{withFlag}
 use Rattle.format.specs.ShipText.{writeText}
-use Rattle.format.specs.Sheet.{Sheet, sheet, packing, size}
+use Rattle.format.specs.Observation.{Observation, observation, packing, size}
 use Rattle.format.specs.Report.{Verdict, judge, bodyValid}
-use Rattle.format.specs.Machine.{Call, readField, setField, clearField, readFlag, setFlag, clearFlag, put, fetch, remove, putText, fetchText, withValue, withContent, content, next, lent, writes, flagNumberCheck, idCheck, lengthCheck, contentCheck, standsCheck, roomCheck, callChecks, checks, Answer, steppedBy, step}
-use Rattle.format.specs.Buffer.{zeros, layout, after, effect, shown, Ran, calls, run, machineOn, refusals, claimOn, claim}
+use Rattle.format.specs.Calls.{Call, readField, setField, clearField, readFlag, setFlag, clearFlag, put, fetch, remove, putText, fetchText, withValue, withContent, content, next, outputOf, writes, flagNumberCheck, idCheck, lengthCheck, contentCheck, standsCheck, roomCheck, callChecks, checks, Answer, steppedBy, step}
+use Rattle.format.specs.Buffer.{zeros, layout, after, effect, shown, Ran, calls, run, runOn, refusals, claimOn, claim}
 use Rattle.laws.proofs.Lists.{or-false, drop-append, drop-replicate}
 use Rattle.laws.proofs.Order.{between-in, first-none, first-append-none}
 use Rattle.format.specs.declared.Scaled.{Scaled}
@@ -32,8 +32,8 @@ use Rattle.laws.proofs.Report.{Good, judge-packing, judged, size-within
 
 -- ---- layouts
 
--- an accepted buffer is laid out as its own sheet
-pub layout-same : (b : List ℕ) (s : Sheet) → Bytes b → judge b ≡ Verdict.accepted s → b ≡ layout b (size s) s
+-- an accepted buffer is laid out as its own observation
+pub layout-same : (b : List ℕ) (s : Observation) → Bytes b → judge b ≡ Verdict.accepted s → b ≡ layout b (size s) s
 unfolding layout
 layout-same b s bs j =
     let a1 : size s - size s ≡ 0 = omega arith in
@@ -56,7 +56,7 @@ n5 : (p q e : ℕ) → p ≤ e → max e p + (q - e) ≡ max (max e q) q
 n5 p q e h = omega arith
 
 -- laid out twice is laid out once, with zeros to the longer end
-relayout : (b : List ℕ) (e : ℕ) (s t : Sheet) → size s ≤ e → layout (layout b e s) (size s) t ≡ layout b (max e (size t)) t
+relayout : (b : List ℕ) (e : ℕ) (s t : Observation) → size s ≤ e → layout (layout b e s) (size s) t ≡ layout b (max e (size t)) t
 unfolding layout
 relayout b e s t h = parts (packing s) (packing t) h
   where
@@ -82,32 +82,32 @@ relayout b e s t h = parts (packing s) (packing t) h
           append-assoc,
         )
 
-layout-length : (b : List ℕ) (e : ℕ) (s : Sheet) → size s ≤ e → e ≤ length b → length (layout b e s) ≡ length b
+layout-length : (b : List ℕ) (e : ℕ) (s : Observation) → size s ≤ e → e ≤ length b → length (layout b e s) ≡ length b
 unfolding layout
 layout-length b e s h k = simp (length-append, length-replicate, length-drop) (omega arith)
 
-judge-layout : (b : List ℕ) (e : ℕ) (s : Sheet) → Good s → judge (layout b e s) ≡ Verdict.accepted s
+judge-layout : (b : List ℕ) (e : ℕ) (s : Observation) → Good s → judge (layout b e s) ≡ Verdict.accepted s
 unfolding layout
 judge-layout b e s g = judge-packing s _ g
 
--- ---- a step keeps the sheet good, and within the buffer
+-- ---- a step keeps the observation good, and within the buffer
 
-pub record Kept (n : ℕ) (s : Sheet) : Type 0 where
+pub record Kept (n : ℕ) (s : Observation) : Type 0 where
   pub good : Good s
   pub fits : size s ≤ n
 
-value-good : (s : Sheet) (k : ℕ) (e : Option Scaled) → Good s → Fair (fieldAt k) e → Present 1 (set (s .values) (k - 1) e) → Good (withValue s k e)
+value-good : (s : Observation) (k : ℕ) (e : Option Scaled) → Good s → Fair (fieldAt k) e → Present 1 (set (s .values) (k - 1) e) → Good (withValue s k e)
 unfolding fieldAt
 value-good s k e g f p = record { rptin = g .rptin; fair = fair-set (g .fair) (k - 1) e f; present = p; fine = g .fine }
 
-content-good : (s : Sheet) (i : ℕ) (ns : List ℕ) → Good s → FineAt (attachment i ns) → Good (withContent s i ns)
+content-good : (s : Observation) (i : ℕ) (ns : List ℕ) → Good s → FineAt (attachment i ns) → Good (withContent s i ns)
 content-good s i ns g f = record { rptin = g .rptin; fair = g .fair; present = g .present; fine = put-fine i ns f (g .fine) }
 
-put-good : (s : Sheet) (i : ℕ) (ns : List ℕ) → Good s → idCheck i .fits ≡ false → lengthCheck ns .fits ≡ false → contentCheck i ns .fits ≡ false
+put-good : (s : Observation) (i : ℕ) (ns : List ℕ) → Good s → idCheck i .fits ≡ false → lengthCheck ns .fits ≡ false → contentCheck i ns .fits ≡ false
     → Good (withContent s i ns)
 put-good s i ns g h l c = content-good s i ns g (put-checked i ns (not-false _ h) (not-false _ l) (not-false _ c))
 
-flag-good : (s : Sheet) (j v : ℕ) → Good s → flagNumberCheck j .fits ≡ false → flagFits j v ≡ true → standsCheck s 1 .fits ≡ false
+flag-good : (s : Observation) (j v : ℕ) → Good s → flagNumberCheck j .fits ≡ false → flagFits j v ≡ true → standsCheck s 1 .fits ≡ false
     → Good (withContent s 1 (withFlag (content s 1) j v))
 unfolding bodyValid
 flag-good s j v g f h c =
@@ -124,7 +124,7 @@ flag-good s j v g f h c =
       valid = flag-set-valid (content s 1) j v old low h;
     })
 
-next-good : (s : Sheet) (c : Call) → Good s → first (callChecks s c) ≡ none → Good (next s c)
+next-good : (s : Observation) (c : Call) → Good s → first (callChecks s c) ≡ none → Good (next s c)
 unfolding next callChecks
 next-good s (readField k) g e = g
 next-good s (setField k v) g e =
@@ -160,39 +160,39 @@ next-good s (putText t) g e =
     put-good s 4 (writeText t) g refl (c1 .0) (c2 .0)
 next-good s (fetchText out) g e = g
 
-step-kept : (n : ℕ) (s : Sheet) (c : Call) → Kept n s → Kept n (step n s c .sheet)
+step-kept : (n : ℕ) (s : Observation) (c : Call) → Kept n s → Kept n (step n s c .observation)
 unfolding step
 step-kept n s c k = go (first (checks n s c)) refl
   where
-    go : (o : Option Refusal) → first (checks n s c) ≡ o → Kept n (steppedBy o s c .sheet)
+    go : (o : Option Refusal) → first (checks n s c) ≡ o → Kept n (steppedBy o s c .observation)
     go (some r) e = k
     go none e =
         let f = first-append-none (callChecks s c) (roomCheck n s c ∷ []) (unfold checks in e) in
-        let room = or-false (ltb n (size (next s c))) (ltb (length (lent c)) (length (writes s c))) (first-none (roomCheck n s c) [] (f .1) .0) in
+        let room = or-false (ltb n (size (next s c))) (ltb (length (outputOf c)) (length (writes s c))) (first-none (roomCheck n s c) [] (f .1) .0) in
         record { good = next-good s c (k .good) (f .0); fits = ltb-false n (size (next s c)) (room .0) }
 
 -- ---- the whole list
 
 -- one call, on a laid-out buffer
-one : (b : List ℕ) (s : Sheet) (e : ℕ) (c : Call) → Kept (length b) s → size s ≤ e → e ≤ length b
+one : (b : List ℕ) (s : Observation) (e : ℕ) (c : Call) → Kept (length b) s → size s ≤ e → e ≤ length b
     → effect (layout b e s) c
-    ≡ after (step (length b) s c .answer) (layout b (max e (size (step (length b) s c .sheet))) (step (length b) s c .sheet)) (step (length b) s c .out)
+    ≡ after (step (length b) s c .answer) (layout b (max e (size (step (length b) s c .observation))) (step (length b) s c .observation)) (step (length b) s c .out)
 unfolding effect
 one b s e c g h k =
-    rw (judge-layout b e s (g .good), layout-length b e s h k, relayout b e s (step (length b) s c .sheet) h)
+    rw (judge-layout b e s (g .good), layout-length b e s h k, relayout b e s (step (length b) s c .observation) h)
 
-laid : (cs : List Call) (b : List ℕ) (s : Sheet) (e : ℕ) → Kept (length b) s → size s ≤ e → e ≤ length b
-    → calls (layout b e s) cs ≡ machineOn b (run (length b) s e cs)
+laid : (cs : List Call) (b : List ℕ) (s : Observation) (e : ℕ) → Kept (length b) s → size s ≤ e → e ≤ length b
+    → calls (layout b e s) cs ≡ runOn b (run (length b) s e cs)
 unfolding calls run
 laid [] b s e g h k = refl
 laid (c ∷ cs) b s e g h k =
-    let u = step (length b) s c .sheet in
+    let u = step (length b) s c .observation in
     let g′ = step-kept (length b) s c g in
     let ih = laid cs b u (max e (size u)) g′ (omega arith) (omega (arith, g′ .fits)) in
     rw (one b s e c g h k) (ap (λ (r : Ran). record { answers = shown (step (length b) s c .answer) (step (length b) s c .out) ∷ r .answers; buffer = r .buffer }) ih)
 
-accepted-list : (b : List ℕ) (s : Sheet) (cs : List Call) → Bytes b → judge b ≡ Verdict.accepted s
-    → calls b cs ≡ machineOn b (run (length b) s (size s) cs)
+accepted-list : (b : List ℕ) (s : Observation) (cs : List Call) → Bytes b → judge b ≡ Verdict.accepted s
+    → calls b cs ≡ runOn b (run (length b) s (size s) cs)
 accepted-list b s cs bs j =
     let k = judged b s bs j in
     let f = size-within b s bs j in
@@ -203,7 +203,7 @@ refused-list : (b : List ℕ) (r : Refusal) (cs : List Call) → judge b ≡ Ver
 unfolding calls effect
 refused-list b r [] j = refl
 refused-list b r (c ∷ cs) j =
-    rw j (ap (λ (x : Ran). record { answers = shown (Answer.refused r) (lent c) ∷ x .answers; buffer = x .buffer }) (refused-list b r cs j))
+    rw j (ap (λ (x : Ran). record { answers = shown (Answer.refused r) (outputOf c) ∷ x .answers; buffer = x .buffer }) (refused-list b r cs j))
 
 claim-of : (b : List ℕ) (cs : List Call) (v : Verdict) → Bytes b → judge b ≡ v → calls b cs ≡ claimOn v b cs
 claim-of b cs (Verdict.refused r) bs j = refused-list b r cs j

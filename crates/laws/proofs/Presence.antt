@@ -15,7 +15,7 @@ use lib.Pow.{pow-add, pow-pos, shl-lt, shl-shr, shr-shr, shr-le, mod-pow-add}
 use lib.Count.{ones, ones-step, ones-cat}
 use borrow.Author.Tests.{eq-eqb, ne-eqb, eqb-true, eqb-false, not-false}
 use Rattle.format.specs.Field.{scaled}
-use Rattle.format.specs.Sheet.{Sheet}
+use Rattle.format.specs.Observation.{Observation}
 use Rattle.format.specs.Whole.{valueOrZero, isPresent, presenceFrom, presence, countPresent, bitAt, bitOutside, entriesGiven}
 use Rattle.format.specs.declared.Scaled.{Scaled}
 use Rattle.laws.proofs.Lists.{or-false}
@@ -96,8 +96,8 @@ lt-zero (e ∷ es) = omega (arith, digit-le e, presence-up 1 es, lt-zero es, pow
 pub presence-lt : (k : ℕ) (es : List (Option Scaled)) → presenceFrom k es < 2 ^ (k + length es)
 presence-lt k es = rw (presence-up, add-comm) (shl-lt (length es) k (lt-zero es))
 
--- the word of a sheet has no bit outside 1 to 46
-pub presence-inside : (s : Sheet) → length (s .values) ≡ 46 → bitOutside (presence s) ≡ false
+-- the word of an observation has no bit outside 1 to 46
+pub presence-inside : (s : Observation) → length (s .values) ≡ 46 → bitOutside (presence s) ≡ false
 presence-inside s l =
     let h : presence s < 2 ^ 47 = rw l at (presence-lt 1 (s .values)) in
     rw (presence-below 1 (s .values) 0 (omega arith), eq-eqb (presence s / 2 ^ 47) 0 (omega arith))

@@ -1,4 +1,4 @@
--- The laws of a report: a packing is accepted and shows its sheet; an accepted report is the packing of its sheet.
+-- The laws of a report: a packing is accepted and shows its observation; an accepted report is the packing of its observation.
 -- Assumes nothing.
 use Prim.Native.Nat.{ℕ, zero, suc, _+_, _*_, _/_, _%_, _^_, _<_, _≤_}
 use native.Mathlib.Omega.{arith}
@@ -16,8 +16,8 @@ use Rattle.format.specs.Order.{Refusal, first}
 use Rattle.format.specs.Field.{Field, table, entries, codes}
 use Rattle.format.specs.Bits.{readFields, writeFields, Bytes}
 use Rattle.format.specs.Nibbles.{Attachment, nibbles, bytes, padded, odd, tailNibbles, attachmentsOf, Nibbles}
-use Rattle.format.specs.Sheet.{Sheet, widths, checksum, cardNumbers, cardNibbles, packing, size}
-use Rattle.format.specs.Report.{numbersOf, rptinOf, codesOf, checksumOf, countOf, tailOf, sheetOf, fieldChecks, attachmentChecks, tailLength, reportChecks, accepted, verdict, judge}
+use Rattle.format.specs.Observation.{Observation, widths, checksum, cardNumbers, cardNibbles, packing, size}
+use Rattle.format.specs.Report.{numbersOf, rptinOf, codesOf, checksumOf, countOf, tailOf, observationOf, fieldChecks, attachmentChecks, tailLength, reportChecks, accepted, verdict, judge}
 use Rattle.laws.proofs.Lists.{true-false}
 use Rattle.laws.proofs.Order.{first-nil, no-check, no-checks, first-none, first-append-none}
 use Rattle.laws.proofs.Bits.{Fit, append-below}
@@ -26,8 +26,8 @@ use Rattle.laws.proofs.Card.{card-length, card-lt, card-back, tail-back
 use Rattle.laws.proofs.Fields.{table-length, FairAll, Present, length-fair, length-codes, codes-entries, entries-codes, checks-fair, fair-checks, codes-fit, checksum-lt}
 use Rattle.laws.proofs.Attachments.{Fine, fine-checks, tail-reads, fine-nibbles, fine-count, fine-size, Walked, checks-fine}
 
--- a sheet that a report can have
-pub record Good (s : Sheet) : Type 0 where
+-- an observation that a report can have
+pub record Good (s : Observation) : Type 0 where
   pub rptin : s .rptin < 2 ^ 16
   pub fair : FairAll table (s .values)
   pub present : Present 1 (s .values)
@@ -65,14 +65,14 @@ fit-nil k = omega arith
 -- ---- the size of a packing
 
 -- "75 nibbles plus 3 + AL for each attachment, rounded up to bytes"
-pub size-is : (s : Sheet) → size s ≡ (75 + length (tailNibbles (s .attachments)) + 1) / 2
+pub size-is : (s : Observation) → size s ≡ (75 + length (tailNibbles (s .attachments)) + 1) / 2
 unfolding packing cardNibbles
 size-is s =
     length-bytes-padded (cardNibbles s ++ tailNibbles (s .attachments))
     ∙ ap (λ (n : ℕ). (n + 1) / 2)
     (length-append (cardNibbles s) (tailNibbles (s .attachments)) ∙ ap (λ (n : ℕ). n + length (tailNibbles (s .attachments))) (card-length (cardNumbers s)))
 
-pub packing-bytes : (s : Sheet) → Good s → Bytes (packing s)
+pub packing-bytes : (s : Observation) → Good s → Bytes (packing s)
 unfolding packing
 packing-bytes s g =
     bytes-lt _ (padded-lt (cardNibbles s ++ tailNibbles (s .attachments))
@@ -83,9 +83,9 @@ pad-none : (t : Bool) (ns q : List ℕ) → t && not (eqb (getD (ns ++ (cond t (
 pad-none true ns q = rw (getD-append-seam ns 0 q 0)
 pad-none false ns q = refl
 
--- ---- a packing is accepted, whatever follows it, and shows its sheet
+-- ---- a packing is accepted, whatever follows it, and shows its observation
 
-module _ (s : Sheet) (r : List ℕ) (g : Good s) where
+module _ (s : Observation) (r : List ℕ) (g : Good s) where
   cs-length : length (codes table (s .values)) ≡ 46
   cs-length = length-codes table (s .values) (length-fair (g .fair)) ∙ table-length
 
@@ -136,9 +136,9 @@ module _ (s : Sheet) (r : List ℕ) (g : Good s) where
   attachments-is : attachmentsOf (countOf (packing s ++ r)) (tailOf (packing s ++ r)) ≡ s .attachments
   attachments-is = ap₂ attachmentsOf count-is tail-is ∙ tail-reads (s .attachments) _
 
-  sheet-is : sheetOf (packing s ++ r) ≡ s
-  unfolding sheetOf
-  sheet-is =
+  observation-is : observationOf (packing s ++ r) ≡ s
+  unfolding observationOf
+  observation-is =
       let v : entries table (codesOf (packing s ++ r)) ≡ s .values = ap (entries table) codes-is ∙ entries-codes (g .fair) in
       λ i. record { rptin = rptin-is i; values = v i; attachments = attachments-is i }
 
@@ -159,9 +159,9 @@ module _ (s : Sheet) (r : List ℕ) (g : Good s) where
 
   pub judge-packing : judge (packing s ++ r) ≡ accepted s
   unfolding judge
-  judge-packing = ap₂ verdict checks-none sheet-is
+  judge-packing = ap₂ verdict checks-none observation-is
 
--- ---- an accepted report is the packing of its sheet
+-- ---- an accepted report is the packing of its observation
 
 -- what a report has passed
 pub record Passed (b : List ℕ) : Type 0 where
@@ -171,14 +171,14 @@ pub record Passed (b : List ℕ) : Type 0 where
   pub attachments : first (attachmentChecks (countOf b) 1 [] (tailOf b)) ≡ none
   pub last : odd (75 + tailLength b) && not (eqb (getD (tailOf b) (tailLength b) 0) 0) ≡ false
 
-verdict-accepted : (o : Option Refusal) (t s : Sheet) → verdict o t ≡ accepted s → (o ≡ none) × (t ≡ s)
+verdict-accepted : (o : Option Refusal) (t s : Observation) → verdict o t ≡ accepted s → (o ≡ none) × (t ≡ s)
 verdict-accepted none t s e = (refl, (cc))
 verdict-accepted (some r) t s e = let z : _≡_ {A = ℕ} 0 1 = cc in absurd (omega arith)
 
-pub passes : (b : List ℕ) (s : Sheet) → judge b ≡ accepted s → Passed b × (sheetOf b ≡ s)
+pub passes : (b : List ℕ) (s : Observation) → judge b ≡ accepted s → Passed b × (observationOf b ≡ s)
 unfolding judge reportChecks
 passes b s e =
-    let v = verdict-accepted (first (reportChecks b)) (sheetOf b) s e in
+    let v = verdict-accepted (first (reportChecks b)) (observationOf b) s e in
     let c1 = first-none _ _ (v .0) in
     let c2 = first-append-none _ _ (c1 .1) in
     let c3 = first-none _ _ (c2 .1) in
@@ -237,7 +237,7 @@ front-lt (x ∷ xs) ys h (suc i) = front-lt xs ys (λ k. h (suc k)) i
 twice-even : (n m : ℕ) → n ≡ 2 * m → odd n ≡ false
 twice-even n m e = ne-eqb (n % 2) 1 (λ o. omega arith)
 
-pub record Taken (b : List ℕ) (s : Sheet) : Type 0 where
+pub record Taken (b : List ℕ) (s : Observation) : Type 0 where
   pub good : Good s
   pub starts : b ≡ packing s ++ drop (size s) b
 
@@ -254,45 +254,45 @@ module _ (b : List ℕ) (bs : Bytes b) (p : Passed b) where
   walked : Walked (countOf b) [] (tailOf b)
   walked = checks-fine (countOf b) 1 [] (tailOf b) tail-lt-16 (p .attachments)
 
-  passed-good : Good (sheetOf b)
-  unfolding sheetOf
+  passed-good : Good (observationOf b)
+  unfolding observationOf
   passed-good =
       let f = checks-fair 1 table (codesOf b) codes-table (p .fields) in
       record { rptin = rw first-width at (numbers-fit b 0); fair = f .0; present = f .1; fine = walked .fine }
 
-  numbers-same : cardNumbers (sheetOf b) ≡ numbersOf b
-  unfolding cardNumbers sheetOf
+  numbers-same : cardNumbers (observationOf b) ≡ numbersOf b
+  unfolding cardNumbers observationOf
   numbers-same =
       rw (codes-entries table (codesOf b) codes-table, walked .count, ← p .sum) (sym (parts (numbersOf b) (numbers-length b)))
 
-  card-same : readFields (replicate 75 4) (writeFields widths (numbersOf b)) ≡ cardNibbles (sheetOf b)
+  card-same : readFields (replicate 75 4) (writeFields widths (numbersOf b)) ≡ cardNibbles (observationOf b)
   unfolding cardNibbles
   card-same = ap (λ (l : List ℕ). readFields (replicate 75 4) (writeFields widths l)) (sym numbers-same)
 
-  -- the card and the attachments of its sheet, as nibbles
+  -- the card and the attachments of its observation, as nibbles
   all : List ℕ
-  all = cardNibbles (sheetOf b) ++ tailNibbles (attachmentsOf (countOf b) (tailOf b))
+  all = cardNibbles (observationOf b) ++ tailNibbles (attachmentsOf (countOf b) (tailOf b))
 
   split : nibbles b ≡ all ++ drop (tailLength b) (tailOf b)
   unfolding all
   split =
       card-front b bs (p .long)
       ∙ ap₂ (λ (x y : List ℕ). x ++ y) card-same (walked .starts)
-      ∙ sym (append-assoc (cardNibbles (sheetOf b)) (tailNibbles (attachmentsOf (countOf b) (tailOf b))) (drop (tailLength b) (tailOf b)))
+      ∙ sym (append-assoc (cardNibbles (observationOf b)) (tailNibbles (attachmentsOf (countOf b) (tailOf b))) (drop (tailLength b) (tailOf b)))
 
   all-length : length all ≡ 75 + tailLength b
   unfolding all cardNibbles
   all-length =
-      length-append (cardNibbles (sheetOf b)) (tailNibbles (attachmentsOf (countOf b) (tailOf b)))
-      ∙ ap (λ (n : ℕ). n + tailLength b) (card-length (cardNumbers (sheetOf b)))
+      length-append (cardNibbles (observationOf b)) (tailNibbles (attachmentsOf (countOf b) (tailOf b)))
+      ∙ ap (λ (n : ℕ). n + tailLength b) (card-length (cardNumbers (observationOf b)))
 
   zero-last : odd (length all) && not (eqb (getD (drop (tailLength b) (tailOf b)) 0 0) 0) ≡ false
   zero-last =
       let z : tailLength b + 0 ≡ tailLength b = omega arith in
       ap₂ (λ (n m : ℕ). odd n && not (eqb m 0)) all-length (getD-drop (tailLength b) (tailOf b) 0 0 ∙ ap (λ (n : ℕ). getD (tailOf b) n 0) z) ∙ p .last
 
-  passed-taken : Taken b (sheetOf b)
-  unfolding packing sheetOf all
+  passed-taken : Taken b (observationOf b)
+  unfolding packing observationOf all
   passed-taken =
       let even = twice-even (length (all ++ drop (tailLength b) (tailOf b))) (length b) (ap length (sym split) ∙ length-nibbles b) in
       let pad = pad-front all (drop (tailLength b) (tailOf b)) even zero-last in
@@ -300,30 +300,30 @@ module _ (b : List ℕ) (bs : Bytes b) (p : Passed b) where
       let lt : Nibbles (padded all) = front-lt (padded all) (pad .0) (subst Nibbles front (nibbles-lt b bs)) in
       record { good = passed-good; starts = bytes-front b (padded all) (pad .0) front lt (padded-even all) }
 
-pub judged : (b : List ℕ) (s : Sheet) → Bytes b → judge b ≡ accepted s → Taken b s
+pub judged : (b : List ℕ) (s : Observation) → Bytes b → judge b ≡ accepted s → Taken b s
 judged b s bs e = let q = passes b s e in subst (Taken b) (q .1) (passed-taken b bs (q .0))
 
--- the numbers on the card are its sheet's, and AC is the number of its attachments
-pub numbers-taken : (b : List ℕ) (s : Sheet) → Bytes b → judge b ≡ accepted s → cardNumbers (sheetOf b) ≡ numbersOf b
+-- the numbers on the card are its observation's, and AC is the number of its attachments
+pub numbers-taken : (b : List ℕ) (s : Observation) → Bytes b → judge b ≡ accepted s → cardNumbers (observationOf b) ≡ numbersOf b
 numbers-taken b s bs e = numbers-same b bs (passes b s e .0)
 
-pub counted : (b : List ℕ) (s : Sheet) → Bytes b → judge b ≡ accepted s → countOf b ≡ length (sheetOf b .attachments)
-unfolding sheetOf
+pub counted : (b : List ℕ) (s : Observation) → Bytes b → judge b ≡ accepted s → countOf b ≡ length (observationOf b .attachments)
+unfolding observationOf
 counted b s bs e = sym (walked b bs (passes b s e .0) .count)
 
--- ---- reports and sheets
+-- ---- reports and observations
 
--- "two accepted reports are equal byte for byte exactly when their sheets are"
-packing-inj : (s t : Sheet) → Good s → Good t → packing s ≡ packing t → s ≡ t
+-- "two accepted reports are equal byte for byte exactly when their observations are"
+packing-inj : (s t : Observation) → Good s → Good t → packing s ≡ packing t → s ≡ t
 packing-inj s t gs gt e =
     let same : accepted s ≡ accepted t = sym (judge-packing s [] gs) ∙ ap (λ (p : List ℕ). judge (p ++ [])) e ∙ judge-packing t [] gt in
     cc
 
--- a report is the packing of its sheet
-pub report-is : (b : List ℕ) (s : Sheet) → Bytes b → judge b ≡ accepted s → take (size s) b ≡ packing s
+-- a report is the packing of its observation
+pub report-is : (b : List ℕ) (s : Observation) → Bytes b → judge b ≡ accepted s → take (size s) b ≡ packing s
 report-is b s bs e = ap (take (size s)) (judged b s bs e .starts) ∙ take-append-seam (packing s) (drop (size s) b)
 
-pub reports-equal : (b c : List ℕ) (s t : Sheet) → Bytes b → Bytes c → judge b ≡ accepted s → judge c ≡ accepted t
+pub reports-equal : (b c : List ℕ) (s t : Observation) → Bytes b → Bytes c → judge b ≡ accepted s → judge c ≡ accepted t
     → (take (size s) b ≡ take (size t) c) ↔ (s ≡ t)
 reports-equal b c s t bb bc eb ec = (
   λ e. packing-inj s t (judged b s bb eb .good) (judged c t bc ec .good) (sym (report-is b s bb eb) ∙ e ∙ report-is c t bc ec),
@@ -331,12 +331,12 @@ reports-equal b c s t bb bc eb ec = (
 )
 
 -- "38 to 1853 bytes"
-pub size-range : (s : Sheet) → Good s → (38 ≤ size s) × (size s ≤ 1853)
+pub size-range : (s : Observation) → Good s → (38 ≤ size s) × (size s ≤ 1853)
 size-range s g = let h = fine-size (g .fine) in let z = size-is s in (omega arith, omega arith)
 
 -- ---- an accepted report lies within its buffer
 
-module _ (b : List ℕ) (s : Sheet) (bs : Bytes b) (j : judge b ≡ accepted s) where
+module _ (b : List ℕ) (s : Observation) (bs : Bytes b) (j : judge b ≡ accepted s) where
   pub size-within : size s ≤ length b
   size-within = omega (arith, length-append (packing s) (drop (size s) b), ap length (judged b s bs j .starts))
 
@@ -348,5 +348,5 @@ module _ (b : List ℕ) (s : Sheet) (bs : Bytes b) (j : judge b ≡ accepted s) 
       (omega (arith, size-range s g), omega arith, omega (arith, fine-size (g .fine)))
 
   -- so does a report with as many nibbles behind the card
-  pub same-within : (t : Sheet) → length (tailNibbles (t .attachments)) ≡ length (tailNibbles (s .attachments)) → size t ≤ length b
+  pub same-within : (t : Observation) → length (tailNibbles (t .attachments)) ≡ length (tailNibbles (s .attachments)) → size t ≤ length b
   same-within t e = omega (arith, size-is t, size-is s, size-within)

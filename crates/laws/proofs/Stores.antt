@@ -10,7 +10,7 @@ use lib.ListN.{length, set, drop, replicate, length-append, length-replicate, re
 use lib.Seq.{sets, sets-eq, length-sets}
 use borrow.Author.Tests.{lt-ltb, le-ltb}
 use Rattle.format.specs.ShipText.{codeNibbles, fulls, rest, spaceRun}
-use Rattle.format.specs.Machine.{over}
+use Rattle.format.specs.Calls.{over}
 use Rattle.laws.proofs.ShipText.{fulls-more, fulls-length}
 
 sets-append : (xs ys d : List ℕ) (at : ℕ) → sets d at (xs ++ ys) ≡ sets (sets d at xs) (at + length xs) ys

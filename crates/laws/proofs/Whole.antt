@@ -1,4 +1,4 @@
--- Laws of fresh, unpack and pack: fresh makes a good sheet, and pack makes one of all that it accepts; demand 2, pack after
+-- Laws of fresh, unpack and pack: fresh makes a good observation, and pack makes one of all that it accepts; demand 2, pack after
 -- unpack and unpack after pack; the smallest and the largest report.
 -- Assumes nothing.
 use Prim.Native.Nat.{ℕ, zero, suc, _+_, _-_, _^_, _≤_, _<_}
@@ -18,10 +18,10 @@ use Rattle.format.specs.Field.{Field, table, fieldAt, required, inRange, scaled
 use Rattle.format.specs.Nibbles.{attachment, attachmentNibbles, tailNibbles, attachmentsOf, among}
 use Rattle.format.specs.Flags.{flagsFit, totalWeight, allMissing, qualityCode, flagsValid}
 use Rattle.format.specs.ShipText.{textStep, stateAfter, endFrom, atEnd, textValid}
-use Rattle.format.specs.Sheet.{Sheet, packing, size}
+use Rattle.format.specs.Observation.{Observation, packing, size}
 use Rattle.format.specs.Report.{bodyValid, attachmentChecks, Verdict, judge}
-use Rattle.format.specs.Machine.{Answer, valueCheck, withAttachments, allNibbles, over}
-use Rattle.format.specs.Whole.{wroteBy, masked, contents, freshSheet, valueOrZero, isPresent, presence, countPresent, tail, unpacked, unpackGives, unpackChecks, unpackedBy, unpack, bitAt, bitOutside, packChecks, entriesGiven, countIn, packSheet, packOrder, pack}
+use Rattle.format.specs.Calls.{Answer, valueCheck, withAttachments, allNibbles, over}
+use Rattle.format.specs.Whole.{wroteBy, masked, contents, freshObservation, valueOrZero, isPresent, presence, countPresent, tail, unpacked, unpackGives, unpackChecks, unpackedBy, unpack, bitAt, bitOutside, packChecks, entriesGiven, countIn, packObservation, packOrder, pack}
 use Rattle.format.specs.declared.Scaled.{Scaled}
 use Rattle.laws.proofs.Lists.{true-false, cond-case}
 use Rattle.laws.proofs.Order.{first-nil, no-check, no-checks, first-none, first-append-none}
@@ -64,17 +64,17 @@ some-none : (v : Scaled) → some v ≡ none → ⊥
 some-none v e = let z : _≡_ {A = ℕ} 0 1 = cc in omega arith
 
 module _ (box10 year month x y : Scaled) where
-  fresh-present : Present 1 (freshSheet box10 year month x y .values)
-  unfolding freshSheet
+  fresh-present : Present 1 (freshObservation box10 year month x y .values)
+  unfolding freshObservation
   fresh-present i l r n =
       let z : 1 + i - 1 ≡ i = omega arith in
-      required-is (λ (k : ℕ). getD (freshSheet box10 year month x y .values) (k - 1) none ≡ none → ⊥)
+      required-is (λ (k : ℕ). getD (freshObservation box10 year month x y .values) (k - 1) none ≡ none → ⊥)
       (some-none box10) (some-none year) (some-none month) (some-none x) (some-none y) (1 + i) r (rw z n)
 
-  -- values in range make a good sheet
+  -- values in range make a good observation
   fresh-good : valueCheck BOX10 box10 .fits ≡ false → valueCheck YEAR year .fits ≡ false → valueCheck MONTH month .fits ≡ false
-      → valueCheck X x .fits ≡ false → valueCheck Y y .fits ≡ false → Good (freshSheet box10 year month x y)
-  unfolding freshSheet
+      → valueCheck X x .fits ≡ false → valueCheck Y y .fits ≡ false → Good (freshObservation box10 year month x y)
+  unfolding freshObservation
   fresh-good e1 e2 e3 e6 e7 = record {
     rptin = omega arith;
     fair = fair-field Y y e7 (fair-field X x e6 (fair-field MONTH month e3 (fair-field YEAR year e2 (fair-field BOX10 box10 e1 (rw table-length at (missing-all table))))));
@@ -83,18 +83,18 @@ module _ (box10 year month x y : Scaled) where
   }
 
   -- the smallest report
-  pub fresh-size : size (freshSheet box10 year month x y) ≡ 38
-  unfolding freshSheet tailNibbles
-  fresh-size = size-is (freshSheet box10 year month x y)
+  pub fresh-size : size (freshObservation box10 year month x y) ≡ 38
+  unfolding freshObservation tailNibbles
+  fresh-size = size-is (freshObservation box10 year month x y)
 
 -- ---- what pack has passed
 
 -- the first refusal of its checks, or that there is none, decides what it leaves
 pub pack-outcome : (values : List ℤ) (word rptin : ℕ) (ns out : List ℕ) (o : Option Refusal) → first (packOrder (length out) values word rptin ns) ≡ o
-    → wroteBy o (some (pos (size (packSheet values word rptin ns))) ∷ []) (packing (packSheet values word rptin ns)) out ≡ pack values word rptin ns out
+    → wroteBy o (some (pos (size (packObservation values word rptin ns))) ∷ []) (packing (packObservation values word rptin ns)) out ≡ pack values word rptin ns out
 unfolding pack
 pack-outcome values word rptin ns out o e =
-    ap (λ (x : Option Refusal). wroteBy x (some (pos (size (packSheet values word rptin ns))) ∷ []) (packing (packSheet values word rptin ns)) out) (sym e)
+    ap (λ (x : Option Refusal). wroteBy x (some (pos (size (packObservation values word rptin ns))) ∷ []) (packing (packObservation values word rptin ns)) out) (sym e)
 
 -- that none of its checks refuses, part by part; `packs-none` below is the way back
 pub record Packs (n : ℕ) (values : List ℤ) (word rptin : ℕ) (ns : List ℕ) : Type 0 where
@@ -103,7 +103,7 @@ pub record Packs (n : ℕ) (values : List ℤ) (word rptin : ℕ) (ns : List ℕ
   pub fields : first (packChecks 1 table word values) ≡ none
   pub nibbles : allNibbles ns ≡ true
   pub attachments : first (attachmentChecks (countIn ns) 1 [] ns) ≡ none
-  pub room : size (packSheet values word rptin ns) ≤ n
+  pub room : size (packObservation values word rptin ns) ≤ n
 
 pub packs : (n : ℕ) (values : List ℤ) (word rptin : ℕ) (ns : List ℕ) → first (packOrder n values word rptin ns) ≡ none → Packs n values word rptin ns
 unfolding packOrder
@@ -120,10 +120,10 @@ packs n values word rptin ns e =
       fields = c3 .0;
       nibbles = not-false _ (c4 .0);
       attachments = c5 .0;
-      room = ltb-false n (size (packSheet values word rptin ns)) (c6 .0);
+      room = ltb-false n (size (packObservation values word rptin ns)) (c6 .0);
     }
 
--- ---- the sheet that pack makes is good
+-- ---- the observation that pack makes is good
 
 given-fair : (k : ℕ) (fs : List Field) (word : ℕ) (vs : List ℤ) → length fs ≤ length vs → first (packChecks k fs word vs) ≡ none
     → FairAll fs (entriesGiven k word (take (length fs) vs))
@@ -172,14 +172,14 @@ values-given k word (v ∷ vs) = ap₂ _∷_ (go (bitAt word k)) (values-given (
     go true = refl
     go false = refl
 
--- the values on the sheet are those given, where the word says so
+-- the values on the observation are those given, where the word says so
 pack-values : (values : List ℤ) (word rptin : ℕ) (ns : List ℕ)
-    → map valueOrZero (packSheet values word rptin ns .values) ≡ masked 1 word (take 46 values)
-unfolding packSheet
+    → map valueOrZero (packObservation values word rptin ns .values) ≡ masked 1 word (take 46 values)
+unfolding packObservation
 pack-values values word rptin ns = values-given 1 word (take 46 values)
 
-pack-rptin : (values : List ℤ) (word rptin : ℕ) (ns : List ℕ) → packSheet values word rptin ns .rptin ≡ rptin
-unfolding packSheet
+pack-rptin : (values : List ℤ) (word rptin : ℕ) (ns : List ℕ) → packObservation values word rptin ns .rptin ≡ rptin
+unfolding packObservation
 pack-rptin values word rptin ns = refl
 
 module _ (n : ℕ) (values : List ℤ) (word rptin : ℕ) (ns : List ℕ) (e : first (packOrder n values word rptin ns) ≡ none) where
@@ -187,12 +187,12 @@ module _ (n : ℕ) (values : List ℤ) (word rptin : ℕ) (ns : List ℕ) (e : f
   passed = packs n values word rptin ns e
 
   -- its presence word is the word given
-  pack-presence : presence (packSheet values word rptin ns) ≡ word
-  unfolding packSheet
+  pack-presence : presence (packObservation values word rptin ns) ≡ word
+  unfolding packObservation
   pack-presence = word-back word (take 46 values) (length-take-le 46 values (passed .long)) (passed .inside)
 
-  pack-agrees : Agrees 1 word (packSheet values word rptin ns .values)
-  pack-agrees i = ap (λ (w : ℕ). bitAt w (1 + i)) (sym pack-presence) ∙ presence-bit 1 (packSheet values word rptin ns .values) i
+  pack-agrees : Agrees 1 word (packObservation values word rptin ns .values)
+  pack-agrees i = ap (λ (w : ℕ). bitAt w (1 + i)) (sym pack-presence) ∙ presence-bit 1 (packObservation values word rptin ns .values) i
 
   pack-needed : Needed word
   pack-needed k r =
@@ -206,24 +206,24 @@ module _ (n : ℕ) (values : List ℤ) (word rptin : ℕ) (ns : List ℕ) (e : f
   walked = checks-fine (countIn ns) 1 [] ns (all-nibbles ns (passed .nibbles)) (passed .attachments)
 
   -- as many attachments as are counted from the tail, and nothing of the tail is left behind them
-  pack-count : length (packSheet values word rptin ns .attachments) ≡ countIn ns
-  unfolding packSheet
+  pack-count : length (packObservation values word rptin ns .attachments) ≡ countIn ns
+  unfolding packObservation
   pack-count = walked .count
 
-  pub pack-tail : tail (packSheet values word rptin ns) ≡ ns
-  unfolding packSheet
+  pub pack-tail : tail (packObservation values word rptin ns) ≡ ns
+  unfolding packObservation
   pack-tail = sym (count-all ns (all-nibbles ns (passed .nibbles)) (passed .attachments))
 
-  pack-good : rptin < 2 ^ 16 → Good (packSheet values word rptin ns)
-  unfolding packSheet
+  pack-good : rptin < 2 ^ 16 → Good (packObservation values word rptin ns)
+  unfolding packObservation
   pack-good r = record {
     rptin = r;
     fair = rw table-length at (given-fair 1 table word values (rw table-length (passed .long)) (passed .fields));
-    present = needed-present word (packSheet values word rptin ns .values) pack-agrees pack-needed;
+    present = needed-present word (packObservation values word rptin ns .values) pack-agrees pack-needed;
     fine = walked .fine;
   }
 
--- ---- pack accepts the parts of a good sheet, and makes that sheet of them
+-- ---- pack accepts the parts of a good observation, and makes that observation of them
 
 present-needed : (word : ℕ) (es : List (Option Scaled)) → length es ≡ 46 → Agrees 1 word es → Present 1 es → Needed word
 present-needed word es l a h k r =
@@ -257,19 +257,19 @@ packs-none n values word rptin ns p =
     (no-checks _ _ (p .fields)
     (no-check _ _ (ap not (p .nibbles))
     (no-checks _ _ (p .attachments)
-    (no-check _ _ (le-ltb n (size (packSheet values word rptin ns)) (p .room)) first-nil)))))
+    (no-check _ _ (le-ltb n (size (packObservation values word rptin ns)) (p .room)) first-nil)))))
 
-module _ (s : Sheet) (g : Good s) where
+module _ (s : Observation) (g : Good s) where
   values-length : length (s .values) ≡ 46
   values-length = length-fair (g .fair) ∙ table-length
 
   values-out : length (map valueOrZero (s .values)) ≡ 46
   values-out = length-map (s .values) valueOrZero ∙ values-length
 
-  -- the sheet comes back from what unpack gives of it
-  sheet-back : packSheet (map valueOrZero (s .values)) (presence s) (s .rptin) (tail s) ≡ s
-  unfolding packSheet
-  sheet-back =
+  -- the observation comes back from what unpack gives of it
+  observation-back : packObservation (map valueOrZero (s .values)) (presence s) (s .rptin) (tail s) ≡ s
+  unfolding packObservation
+  observation-back =
       let v : entriesGiven 1 (presence s) (take 46 (map valueOrZero (s .values))) ≡ s .values =
       ap (entriesGiven 1 (presence s)) (take-all 46 (map valueOrZero (s .values)) (omega (arith, values-out)))
       ∙ given-back 1 (presence s) (s .values) (presence-bit 1 (s .values)) in
@@ -277,37 +277,37 @@ module _ (s : Sheet) (g : Good s) where
       ap₂ attachmentsOf (tail-count (s .attachments)) (sym (append-nil (tail s))) ∙ tail-reads (s .attachments) [] in
       λ i. record { rptin = s .rptin; values = v i; attachments = a i }
 
-  sheet-packs : (n : ℕ) → size s ≤ n → Packs n (map valueOrZero (s .values)) (presence s) (s .rptin) (tail s)
-  sheet-packs n h = record {
+  observation-packs : (n : ℕ) → size s ≤ n → Packs n (map valueOrZero (s .values)) (presence s) (s .rptin) (tail s)
+  observation-packs n h = record {
     long = omega (arith, values-out);
     inside = presence-inside s values-length;
     fields = given-checks 1 (presence s) (g .fair) (presence-bit 1 (s .values)) (present-needed (presence s) (s .values) values-length (presence-bit 1 (s .values)) (g .present));
     nibbles = nibbles-all (tail s) (fine-nibbles (g .fine));
     attachments = rw (tail-count (s .attachments)) (rw append-nil at (fine-checks 1 [] (g .fine)));
-    room = rw sheet-back h;
+    room = rw observation-back h;
   }
 
 -- ---- demand 2
 
--- pack of a sheet's parts writes its packing
-pack-good-sheet : (s : Sheet) (out : List ℕ) → Good s → size s ≤ length out
+-- pack of an observation's parts writes its packing
+pack-good-observation : (s : Observation) (out : List ℕ) → Good s → size s ≤ length out
     → pack (map valueOrZero (s .values)) (presence s) (s .rptin) (tail s) out
     ≡ record { answer = Answer.accepted (some (pos (size s)) ∷ []); out = over (packing s) out }
 unfolding pack
-pack-good-sheet s out g h =
-    rw (packs-none (length out) (map valueOrZero (s .values)) (presence s) (s .rptin) (tail s) (sheet-packs s g (length out) h), sheet-back s g)
+pack-good-observation s out g h =
+    rw (packs-none (length out) (map valueOrZero (s .values)) (presence s) (s .rptin) (tail s) (observation-packs s g (length out) h), observation-back s g)
 
 -- pack after unpack: the parts of an accepted report are packed to the same bytes
-pack-after-unpack : (b : List ℕ) (s : Sheet) (out : List ℕ) → Bytes b → judge b ≡ Verdict.accepted s → size s ≤ length out
+pack-after-unpack : (b : List ℕ) (s : Observation) (out : List ℕ) → Bytes b → judge b ≡ Verdict.accepted s → size s ≤ length out
     → (pack (map valueOrZero (s .values)) (presence s) (s .rptin) (tail s) out
     ≡ record { answer = Answer.accepted (some (pos (size s)) ∷ []); out = over (packing s) out })
     × (packing s ≡ take (size s) b)
 pack-after-unpack b s out bs j h =
     let t = judged b s bs j in
-    (pack-good-sheet s out (t .good) h, sym (report-is b s bs j))
+    (pack-good-observation s out (t .good) h, sym (report-is b s bs j))
 
 -- unpack of an accepted report, with room for what it gives
-pub unpack-accepted : (b : List ℕ) (s : Sheet) (vs : List ℤ) (ns : List ℕ) → judge b ≡ Verdict.accepted s → 46 ≤ length vs → length (tail s) ≤ length ns
+pub unpack-accepted : (b : List ℕ) (s : Observation) (vs : List ℤ) (ns : List ℕ) → judge b ≡ Verdict.accepted s → 46 ≤ length vs → length (tail s) ≤ length ns
     → unpack b vs ns ≡ unpacked (Answer.accepted (unpackGives s)) (over (map valueOrZero (s .values)) vs) (over (tail s) ns)
 unfolding unpack
 unpack-accepted b s vs ns j hv hn =
@@ -323,7 +323,7 @@ checks-more k (f ∷ fs) word (v ∷ vs) more l = rw (checks-more (suc k) fs wor
 
 pack-more : (values more : List ℤ) (word rptin : ℕ) (ns out : List ℕ) → 46 ≤ length values
     → pack (values ++ more) word rptin ns out ≡ pack values word rptin ns out
-unfolding pack packOrder packSheet
+unfolding pack packOrder packObservation
 pack-more values more word rptin ns out l =
     let n : 46 ≤ length (values ++ more) = omega (arith, length-append values more) in
     rw (
@@ -334,7 +334,7 @@ pack-more values more word rptin ns out l =
     )
 
 -- pack after unpack, of the two outputs as unpack left them
-pub pack-unpacked : (b : List ℕ) (s : Sheet) (vs : List ℤ) (ns out : List ℕ) → Bytes b → judge b ≡ Verdict.accepted s
+pub pack-unpacked : (b : List ℕ) (s : Observation) (vs : List ℤ) (ns out : List ℕ) → Bytes b → judge b ≡ Verdict.accepted s
     → 46 ≤ length vs → length (tail s) ≤ length ns → size s ≤ length out
     → pack (unpack b vs ns .values) (presence s) (s .rptin) (take (length (tail s)) (unpack b vs ns .tail)) out
     ≡ record { answer = Answer.accepted (some (pos (size s)) ∷ []); out = over (take (size s) b) out }
@@ -347,19 +347,19 @@ pack-unpacked b s vs ns out bs j hv hn ho =
 -- unpack after pack: what pack accepts is unpacked to what it was made of, the values of missing fields as 0
 module _ (values : List ℤ) (word rptin : ℕ) (ns out : List ℕ) (r : rptin < 2 ^ 16)
     (e : first (packOrder (length out) values word rptin ns) ≡ none) where
-  pub judge-pack : judge (pack values word rptin ns out .out) ≡ Verdict.accepted (packSheet values word rptin ns)
+  pub judge-pack : judge (pack values word rptin ns out .out) ≡ Verdict.accepted (packObservation values word rptin ns)
   unfolding pack
-  judge-pack = rw e (judge-packing (packSheet values word rptin ns) _ (pack-good (length out) values word rptin ns e r))
+  judge-pack = rw e (judge-packing (packObservation values word rptin ns) _ (pack-good (length out) values word rptin ns e r))
 
   pub unpack-after-pack : (vs : List ℤ) (ts : List ℕ) → 46 ≤ length vs → length ns ≤ length ts
       → unpack (pack values word rptin ns out .out) vs ts
       ≡ unpacked
-      (Answer.accepted (contents word (ones word) rptin (countIn ns) (size (packSheet values word rptin ns)) (length ns)))
+      (Answer.accepted (contents word (ones word) rptin (countIn ns) (size (packObservation values word rptin ns)) (length ns)))
       (over (masked 1 word (take 46 values)) vs)
       (over ns ts)
   unfolding unpackGives
   unpack-after-pack vs ts hv ht =
-      let s = packSheet values word rptin ns in
+      let s = packObservation values word rptin ns in
       let w = pack-presence (length out) values word rptin ns e in
       let t = pack-tail (length out) values word rptin ns e in
       let c : countPresent (s .values) ≡ ones word = sym (count-ones 1 (s .values)) ∙ ap ones w in
@@ -369,9 +369,9 @@ module _ (values : List ℤ) (word rptin : ℕ) (ns out : List ℕ) (r : rptin <
 -- ---- the largest report
 
 -- the values of a fresh report, and all fifteen ids: the flags with 16 nibbles, the others with 255
-unfoldable pub largest : Sheet
+unfoldable pub largest : Observation
 largest =
-    withAttachments (freshSheet (scaled (pos 1)) (scaled (pos 1900)) (scaled (pos 1)) (scaled (pos 0)) (scaled (pos 0)))
+    withAttachments (freshObservation (scaled (pos 1)) (scaled (pos 1900)) (scaled (pos 1)) (scaled (pos 0)) (scaled (pos 0)))
     (attachment 1 (replicate 16 0)
     ∷ map (λ (i : ℕ). attachment i (replicate 255 0)) (2 ∷ 3 ∷ 4 ∷ 5 ∷ 6 ∷ 7 ∷ 8 ∷ 9 ∷ 10 ∷ 11 ∷ 12 ∷ 13 ∷ 14 ∷ 15 ∷ []))
 
@@ -394,12 +394,12 @@ largest-good =
     record { rptin = g .rptin; fair = g .fair; present = g .present; fine = largest-fine }
 
 -- "38 to 1853 bytes": both are reached
-pub least-reached : (b : List ℕ) × Bytes b × (s : Sheet) × (judge b ≡ Verdict.accepted s) × (size s ≡ 38)
+pub least-reached : (b : List ℕ) × Bytes b × (s : Observation) × (judge b ≡ Verdict.accepted s) × (size s ≡ 38)
 unfolding inRange fieldAt table
 least-reached =
-    let s : Sheet = freshSheet (scaled (pos 1)) (scaled (pos 1900)) (scaled (pos 1)) (scaled (pos 0)) (scaled (pos 0)) in
+    let s : Observation = freshObservation (scaled (pos 1)) (scaled (pos 1900)) (scaled (pos 1)) (scaled (pos 0)) (scaled (pos 0)) in
     let g = fresh-good (scaled (pos 1)) (scaled (pos 1900)) (scaled (pos 1)) (scaled (pos 0)) (scaled (pos 0)) refl refl refl refl refl in
     (packing s, packing-bytes s g, s, rw append-nil at (judge-packing s [] g), fresh-size _ _ _ _ _)
 
-pub most-reached : (b : List ℕ) × Bytes b × (s : Sheet) × (judge b ≡ Verdict.accepted s) × (size s ≡ 1853)
+pub most-reached : (b : List ℕ) × Bytes b × (s : Observation) × (judge b ≡ Verdict.accepted s) × (size s ≡ 1853)
 most-reached = (packing largest, packing-bytes largest largest-good, largest, rw append-nil at (judge-packing largest [] largest-good), largest-size)

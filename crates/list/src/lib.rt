@@ -2,7 +2,7 @@
 ghost use mathlib.Core.Path.{_≡_};
 ghost use Prim.Native.Nat.{_≤_};
 ghost use lib.ListN.{length};
-ghost use Rattle.format.specs.Machine.{over};
+ghost use Rattle.format.specs.Calls.{over};
 ghost use Rattle.format.specs.Reply.{answerOf};
 ghost use Rattle.script.specs.Script.{headOf, turn, Performs};
 ghost use Rattle.list.specs.Counts.{leaves, nothing, one, Begun};

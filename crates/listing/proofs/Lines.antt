@@ -13,8 +13,8 @@ use lib.Dec.{T, ltb, ltb→lt}
 use lib.IntN.{ℤ, pos, negsuc, natAbs, subℕ, _+ℤ_}
 use Rattle.format.specs.Field.{Field, table, fieldAt, scaledOf, codedOf, entryOf, codes, entries}
 use Rattle.format.specs.Nibbles.{attachmentsOf, behind}
-use Rattle.format.specs.Sheet.{checksum}
-use Rattle.format.specs.Report.{checksumOf, codesOf, countOf, tailOf, sheetOf, judge}
+use Rattle.format.specs.Observation.{checksum}
+use Rattle.format.specs.Report.{checksumOf, codesOf, countOf, tailOf, observationOf, judge}
 use Rattle.format.specs.Lister.{decimal, signedDecimal, line, fieldLine, fieldLines, listingOf, listing}
 use Rattle.format.specs.declared.Coded.{Coded}
 use Rattle.format.specs.declared.Scaled.{Scaled}
@@ -120,15 +120,15 @@ module _ (b : List ℕ) (x : Inspected) (is : x ≡ inspected b 0) where
     codes-table = codes-length b ∙ sym table-length
 
     pub fine-long : 38 ≤ length b
-    fine-long = passes b (sheetOf b) (judge-fine b 0 r x is e .0) .0 .long
+    fine-long = passes b (observationOf b) (judge-fine b 0 r x is e .0) .0 .long
 
     module _ (n : ℕ) (stored : n ≡ checksumOf b) where
       -- the checksum that an accepted report stores is that of its fields
       sum-is : n ≡ checksum (codesOf b)
-      sum-is = stored ∙ passes b (sheetOf b) (judge-fine b 0 r x is e .0) .0 .sum
+      sum-is = stored ∙ passes b (observationOf b) (judge-fine b 0 r x is e .0) .0 .sum
 
       pub fine-lists : listingOf (judge b) ≡ valueLines b 0 ++ totalLines n (r .count)
-      unfolding valueLines totalLines sheetOf
+      unfolding valueLines totalLines observationOf
       fine-lists =
           let f = judge-fine b 0 r x is e in
           let sum : checksum (codes table (entries table (codesOf b))) ≡ n = ap checksum (codes-entries table (codesOf b) codes-table) ∙ sym sum-is in
@@ -143,7 +143,7 @@ module _ (b : List ℕ) (x : Inspected) (is : x ≡ inspected b 0) where
       pub fine-short : r .count < 2 ^ 64 → length (valueLines b 0 ++ totalLines n (r .count)) ≤ 512
       unfolding valueLines totalLines
       fine-short g =
-          let p = passes b (sheetOf b) (judge-fine b 0 r x is e .0) .0 in
+          let p = passes b (observationOf b) (judge-fine b 0 r x is e .0) .0 in
           let fields = lines-short 1 (checks-fair 1 table (codesOf b) codes-table (p .fields) .0) table-small (omega (arith, entries-length b)) in
           omega (
             arith,

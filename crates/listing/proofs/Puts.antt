@@ -7,7 +7,7 @@ use mathlib.Core.Path.{_≡_, refl, sym, ap, subst, _∙_}
 use mathlib.Core.List.{List, [], _∷_, _++_}
 use lib.ListN.{length, set, length-append, length-set}
 use lib.Seq.{sets, length-sets}
-use Rattle.format.specs.Machine.{over}
+use Rattle.format.specs.Calls.{over}
 use Rattle.laws.proofs.Stores.{stores, stores-over}
 use Rattle.listing.specs.Lines.{Room, Puts}
 

@@ -4,7 +4,7 @@ ghost use mathlib.Core.List.{[], _∷_, _++_};
 ghost use Prim.Native.Nat.{_+_, _≤_, _<_};
 ghost use lib.ListN.{length};
 ghost use Rattle.format.specs.Field.{fieldAt, entryOf};
-ghost use Rattle.format.specs.Machine.{over};
+ghost use Rattle.format.specs.Calls.{over};
 ghost use Rattle.format.specs.Report.{judge};
 ghost use Rattle.format.specs.Lister.{decimal, signedDecimal, line, fieldLine, listingOf, listing};
 ghost use Rattle.listing.specs.Lines.{Room, Puts, valueLines, totalLines, refusalLine};
@@ -88,7 +88,7 @@ fn put_total(out: &mut [u8], at: usize, letter: u8, n: u64) -> usize
     put_number(out, at + 2, n, 10)
 }
 
-fn put_sheet(s: &[u8], out: &mut [u8], ck: u64, ac: u64) -> usize
+fn put_observation(s: &[u8], out: &mut [u8], ck: u64, ac: u64) -> usize
     requires { ⌜ (38 ≤ length (now s)) × Room (now out) 0 (valueLines (now s) 0 ++ totalLines ck ac) ⌝ }
     ensures { λ r. ⌜ Puts (now (out .entry)) (now (out .exit)) 0 (valueLines (now (s .entry)) 0 ++ totalLines ck ac) r ⌝ }
 {
@@ -114,7 +114,7 @@ fn list_all(s: &[u8], out: &mut [u8]) -> usize
     let i = report::inspect(s, 0);
     match i {
         Inspected::Refused(n, p) => put_refusal(out, n as u64, p as u64),
-        Inspected::Fine(r) => put_sheet(s, out, card::checksum(s), r.count as u64),
+        Inspected::Fine(r) => put_observation(s, out, card::checksum(s), r.count as u64),
     }
 }
 

@@ -16,12 +16,12 @@ use Rattle.format.specs.Order.{Refusal, first}
 use Rattle.format.specs.Field.{Field, table, inRange}
 use Rattle.format.specs.Flags.{flagAt}
 use Rattle.format.specs.Nibbles.{Attachment, Nibbles}
-use Rattle.format.specs.Sheet.{Sheet}
+use Rattle.format.specs.Observation.{Observation}
 use Rattle.format.specs.Report.{Verdict, judge}
-use Rattle.format.specs.Machine as machine
-use Rattle.format.specs.Machine.{Call, readField, setField, clearField, readFlag, setFlag, clearFlag, put, fetch, remove, putText, fetchText, accepted, contentOf, content, valueNumber, gives, checks, steppedBy, step}
+use Rattle.format.specs.Calls as call
+use Rattle.format.specs.Calls.{Call, readField, setField, clearField, readFlag, setFlag, clearFlag, put, fetch, remove, putText, fetchText, accepted, contentOf, content, valueNumber, gives, checks, steppedBy, step}
 use Rattle.format.specs.Buffer.{After, after, effectOn, effect}
-use Rattle.format.specs.Whole.{Wrote, packSheet, packOrder, pack}
+use Rattle.format.specs.Whole.{Wrote, packObservation, packOrder, pack}
 use Rattle.format.specs.declared.Scaled.{Scaled}
 use Rattle.pack.specs.Answers.{packAnswer}
 use Rattle.pack.specs.declared.Packed.{Packed}
@@ -77,7 +77,7 @@ content-low i (one {a = a} {more = more} at new f) =
 
 -- ---- the eleven calls
 
-gives-counts : (s : Sheet) (c : Call) → Good s → Counts (accepted (gives s c))
+gives-counts : (s : Observation) (c : Call) → Good s → Counts (accepted (gives s c))
 unfolding gives
 gives-counts s (readField k) g = value-counts (g .fair) table-low (k - 1)
 gives-counts s (setField k v) g = tt
@@ -94,7 +94,7 @@ gives-counts s (remove i) g = tt
 gives-counts s (putText t) g = tt
 gives-counts s (fetchText out) g = let h = content-low 4 (g .fine) .0 in omega (arith, read-text-length (content s 4))
 
-step-counts : (n : ℕ) (s : Sheet) (c : Call) → Good s → Counts (step n s c .answer)
+step-counts : (n : ℕ) (s : Observation) (c : Call) → Good s → Counts (step n s c .answer)
 unfolding step
 step-counts n s c g = go (first (checks n s c))
   where
@@ -111,7 +111,7 @@ effect-counts b c h = go (judge b) refl
     go (Verdict.accepted s) q = step-counts (length b) s c (judged b s h q .good)
 
 -- what such a call answers
-pub call-counts : (a : machine.Answer) (b d o : List ℕ) (c : Call) → after a d o ≡ effect b c → Bytes b → Counts a
+pub call-counts : (a : call.Answer) (b d o : List ℕ) (c : Call) → after a d o ≡ effect b c → Bytes b → Counts a
 call-counts a b d o c e h = subst Counts (sym (ap (λ (w : After). w .answer) e)) (effect-counts b c h)
 
 -- ---- pack: a report's size
@@ -120,8 +120,8 @@ packed-counts : (values : List ℤ) (word rptin : ℕ) (ns out : List ℕ) → r
     → Counts (pack values word rptin ns out .answer)
 packed-counts values word rptin ns out r h = go (first (packOrder (length out) values word rptin ns)) refl
   where
-    s : Sheet
-    s = packSheet values word rptin ns
+    s : Observation
+    s = packObservation values word rptin ns
 
     go : (o : Option Refusal) → first (packOrder (length out) values word rptin ns) ≡ o → Counts (pack values word rptin ns out .answer)
     go (some x) q = unfold pack in rw q tt

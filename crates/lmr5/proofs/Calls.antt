@@ -11,8 +11,8 @@ use mir.Syntax.{w64}
 use mir.Val.{SFits, toZ, ofZ}
 use mir.ValLaws.{toZ-ofZ, toZ-pos}
 use Rattle.words.specs.Words.{unsigned}
-use Rattle.format.specs.Machine as machine
-use Rattle.format.specs.Machine.{accepted}
+use Rattle.format.specs.Calls as call
+use Rattle.format.specs.Calls.{accepted}
 use Rattle.format.specs.Buffer.{After, after}
 use Rattle.format.specs.Report.{Verdict, judge}
 use Rattle.format.specs.Reply.{refusal}
@@ -41,11 +41,11 @@ pub flag-given : (n : ℕ) (r : Answer) → n < 256 → r ≡ numbered (accepted
 flag-given n r f h = count-given n r (omega arith) h
 
 -- each of the eleven calls
-pub call-numbered : (a : machine.Answer) (b o : List ℕ) (w : After) (r : Answer) → after a b o ≡ w → r ≡ numbered a → left r b o ≡ numberedAfter w
+pub call-numbered : (a : call.Answer) (b o : List ℕ) (w : After) (r : Answer) → after a b o ≡ w → r ≡ numbered a → left r b o ≡ numberedAfter w
 call-numbered a b o w r h e = ap (λ (x : Answer). left x b o) e ∙ ap numberedAfter h
 
 -- judge
-abbrev pub judgedAnswer : Judged → machine.Answer
+abbrev pub judgedAnswer : Judged → call.Answer
 judgedAnswer (Refused n p) = refusal n p
 judgedAnswer (Accepted size) = accepted (some (pos size) ∷ [])
 
@@ -57,12 +57,12 @@ judge-numbered b j k r h g e = e ∙ ap (λ (x : Judged). numbered (judgedAnswer
     same (Verdict.accepted s) = refl
 
 -- fresh and pack
-pub wrote-numbered : (a : machine.Answer) (o : List ℕ) (w : Wrote) (r : Answer) → record { answer = a; out = o } ≡ w → r ≡ numbered a
+pub wrote-numbered : (a : call.Answer) (o : List ℕ) (w : Wrote) (r : Answer) → record { answer = a; out = o } ≡ w → r ≡ numbered a
     → record { answer = r; out = o } ≡ numberedWrote w
 wrote-numbered a o w r h e = rw e (ap numberedWrote h)
 
 -- unpack
-pub unpack-numbered : (a : machine.Answer) (vs : List ℤ) (ns before : List ℕ) (x : Opened) (u : Unpacked) → unpacked a vs ns ≡ u
+pub unpack-numbered : (a : call.Answer) (vs : List ℤ) (ns before : List ℕ) (x : Opened) (u : Unpacked) → unpacked a vs ns ≡ u
     → x ≡ openedBy a vs ns before
     → x ≡ numberedUnpacked u before
 unpack-numbered a vs ns before x u h e = e ∙ ap (λ (v : Unpacked). numberedUnpacked v before) h

@@ -5,10 +5,10 @@ use mathlib.Core.List.{List, [], _∷_, map}
 use mathlib.Core.Option.{Option, none, some}
 use lib.IntN.{ℤ, pos, negsuc}
 use Rattle.words.specs.Words.{unsigned}
-use Rattle.format.specs.Sheet.{size}
+use Rattle.format.specs.Observation.{size}
 use Rattle.format.specs.Report.{Verdict}
-use Rattle.format.specs.Machine as machine
-use Rattle.format.specs.Machine.{refused, accepted}
+use Rattle.format.specs.Calls as call
+use Rattle.format.specs.Calls.{refused, accepted}
 use Rattle.format.specs.Buffer.{After}
 use Rattle.format.specs.Whole.{Wrote, Unpacked}
 use Rattle.lmr5.specs.declared.Answer.{Answer}
@@ -17,14 +17,14 @@ abbrev pub numbers : ℕ → ℕ → ℕ → ℤ → Answer
 numbers refusal given place value = record { refusal = refusal; given = given; place = place; value = value }
 
 -- the refusal's number and place, 0 where it is accepted; then 0, or 1 and the number that is given, or 2 where it is missing
-abbrev pub numbered : machine.Answer → Answer
+abbrev pub numbered : call.Answer → Answer
 numbered (refused r) = numbers (r .number) 0 (r .place) (pos 0)
 numbered (accepted []) = numbers 0 0 0 (pos 0)
 numbered (accepted (some z ∷ more)) = numbers 0 1 0 z
 numbered (accepted (none ∷ more)) = numbers 0 2 0 (pos 0)
 
 -- a number that is given, unless negative, is below 2^63
-abbrev pub Counts : machine.Answer → Type 0
+abbrev pub Counts : call.Answer → Type 0
 Counts (refused r) = Unit {0}
 Counts (accepted []) = Unit {0}
 Counts (accepted (some (pos n) ∷ more)) = n < 2 ^ 63
@@ -47,7 +47,7 @@ numberedAfter a = left (numbered (a .answer)) (a .buffer) (a .out)
 -- ---- whole reports
 
 -- judging gives the report's size in bytes
-abbrev pub judging : Verdict → machine.Answer
+abbrev pub judging : Verdict → call.Answer
 judging (Verdict.refused r) = refused r
 judging (Verdict.accepted s) = accepted (some (pos (size s)) ∷ [])
 
@@ -74,7 +74,7 @@ word none = 0
 word (some z) = unsigned z
 
 -- what unpack gives stands in the contents; refused, it leaves them
-abbrev pub openedBy : machine.Answer → List ℤ → List ℕ → List ℕ → Opened
+abbrev pub openedBy : call.Answer → List ℤ → List ℕ → List ℕ → Opened
 openedBy (refused r) vs ns contents = opening (numbered (refused r)) vs ns contents
 openedBy (accepted given) vs ns contents = opening (numbered (accepted [])) vs ns (map word given)
 

@@ -7,7 +7,7 @@ ghost use lib.ListN.{length};
 ghost use lib.IntN.{pos};
 ghost use Rattle.format.specs.Field.{scaled};
 ghost use Rattle.format.specs.Report.{judge};
-ghost use Rattle.format.specs.Machine as machine;
+ghost use Rattle.format.specs.Calls as call;
 ghost use Rattle.format.specs.Buffer.{effect};
 ghost use Rattle.format.specs.Whole as spec;
 ghost use Rattle.format.specs.Reply.{refusal, answerOf};
@@ -52,7 +52,7 @@ fn refused(n: u8, p: usize) -> Answer
 }
 
 fn done() -> Answer
-    ensures { λ r. ⌜ r ≡ numbered (machine.accepted []) ⌝ }
+    ensures { λ r. ⌜ r ≡ numbered (call.accepted []) ⌝ }
 {
     Answer {
         refusal: 0,
@@ -63,7 +63,7 @@ fn done() -> Answer
 }
 
 fn missing() -> Answer
-    ensures { λ r. ⌜ r ≡ numbered (machine.accepted (none ∷ [])) ⌝ }
+    ensures { λ r. ⌜ r ≡ numbered (call.accepted (none ∷ [])) ⌝ }
 {
     Answer {
         refusal: 0,
@@ -74,7 +74,7 @@ fn missing() -> Answer
 }
 
 fn given(v: i64) -> Answer
-    ensures { λ r. ⌜ r ≡ numbered (machine.accepted (some v ∷ [])) ⌝ }
+    ensures { λ r. ⌜ r ≡ numbered (call.accepted (some v ∷ [])) ⌝ }
 {
     Answer {
         refusal: 0,
@@ -86,7 +86,7 @@ fn given(v: i64) -> Answer
 
 fn counted(n: usize) -> Answer
     requires { ⌜ n < 2 ^ 63 ⌝ }
-    ensures { λ r. ⌜ r ≡ numbered (machine.accepted (some (pos n) ∷ [])) ⌝ }
+    ensures { λ r. ⌜ r ≡ numbered (call.accepted (some (pos n) ∷ [])) ⌝ }
 {
     given(n as i64)
 }
@@ -200,42 +200,42 @@ pub extern "C" fn lmr5_pack(
 
 #[no_mangle]
 pub extern "C" fn lmr5_read_field(report: &[u8], field: usize) -> Answer
-    ensures { λ r. ⌜ left r (now (report .entry)) [] ≡ numberedAfter (effect (now (report .entry)) (machine.readField field)) ⌝ }
+    ensures { λ r. ⌜ left r (now (report .entry)) [] ≡ numberedAfter (effect (now (report .entry)) (call.readField field)) ⌝ }
 {
     answer_of(fields::read_field(&*report, field))
 }
 
 #[no_mangle]
 pub extern "C" fn lmr5_set_field(report: &mut [u8], field: usize, value: i64) -> Answer
-    ensures { λ r. ⌜ left r (now (report .exit)) [] ≡ numberedAfter (effect (now (report .entry)) (machine.setField field (scaled value))) ⌝ }
+    ensures { λ r. ⌜ left r (now (report .exit)) [] ≡ numberedAfter (effect (now (report .entry)) (call.setField field (scaled value))) ⌝ }
 {
     answer_of(fields::set_field(report, field, Scaled(value)))
 }
 
 #[no_mangle]
 pub extern "C" fn lmr5_clear_field(report: &mut [u8], field: usize) -> Answer
-    ensures { λ r. ⌜ left r (now (report .exit)) [] ≡ numberedAfter (effect (now (report .entry)) (machine.clearField field)) ⌝ }
+    ensures { λ r. ⌜ left r (now (report .exit)) [] ≡ numberedAfter (effect (now (report .entry)) (call.clearField field)) ⌝ }
 {
     answer_of(fields::clear_field(report, field))
 }
 
 #[no_mangle]
 pub extern "C" fn lmr5_read_flag(report: &[u8], flag: usize) -> Answer
-    ensures { λ r. ⌜ left r (now (report .entry)) [] ≡ numberedAfter (effect (now (report .entry)) (machine.readFlag flag)) ⌝ }
+    ensures { λ r. ⌜ left r (now (report .entry)) [] ≡ numberedAfter (effect (now (report .entry)) (call.readFlag flag)) ⌝ }
 {
     answer_of(flag_calls::read_flag(&*report, flag))
 }
 
 #[no_mangle]
 pub extern "C" fn lmr5_set_flag(report: &mut [u8], flag: usize, value: usize) -> Answer
-    ensures { λ r. ⌜ left r (now (report .exit)) [] ≡ numberedAfter (effect (now (report .entry)) (machine.setFlag flag value)) ⌝ }
+    ensures { λ r. ⌜ left r (now (report .exit)) [] ≡ numberedAfter (effect (now (report .entry)) (call.setFlag flag value)) ⌝ }
 {
     answer_of(flag_calls::set_flag(report, flag, value))
 }
 
 #[no_mangle]
 pub extern "C" fn lmr5_clear_flag(report: &mut [u8], flag: usize) -> Answer
-    ensures { λ r. ⌜ left r (now (report .exit)) [] ≡ numberedAfter (effect (now (report .entry)) (machine.clearFlag flag)) ⌝ }
+    ensures { λ r. ⌜ left r (now (report .exit)) [] ≡ numberedAfter (effect (now (report .entry)) (call.clearFlag flag)) ⌝ }
 {
     answer_of(flag_calls::clear_flag(report, flag))
 }
@@ -244,35 +244,35 @@ pub extern "C" fn lmr5_clear_flag(report: &mut [u8], flag: usize) -> Answer
 
 #[no_mangle]
 pub extern "C" fn lmr5_put(report: &mut [u8], id: usize, content: &[u8]) -> Answer
-    ensures { λ r. ⌜ left r (now (report .exit)) [] ≡ numberedAfter (effect (now (report .entry)) (machine.put id (now (content .entry)))) ⌝ }
+    ensures { λ r. ⌜ left r (now (report .exit)) [] ≡ numberedAfter (effect (now (report .entry)) (call.put id (now (content .entry)))) ⌝ }
 {
     answer_of(puts::put(report, id, content))
 }
 
 #[no_mangle]
 pub extern "C" fn lmr5_fetch(report: &[u8], id: usize, out: &mut [u8]) -> Answer
-    ensures { λ r. ⌜ left r (now (report .entry)) (now (out .exit)) ≡ numberedAfter (effect (now (report .entry)) (machine.fetch id (now (out .entry)))) ⌝ }
+    ensures { λ r. ⌜ left r (now (report .entry)) (now (out .exit)) ≡ numberedAfter (effect (now (report .entry)) (call.fetch id (now (out .entry)))) ⌝ }
 {
     answer_of(fetches::fetch(&*report, id, out))
 }
 
 #[no_mangle]
 pub extern "C" fn lmr5_drop(report: &mut [u8], id: usize) -> Answer
-    ensures { λ r. ⌜ left r (now (report .exit)) [] ≡ numberedAfter (effect (now (report .entry)) (machine.remove id)) ⌝ }
+    ensures { λ r. ⌜ left r (now (report .exit)) [] ≡ numberedAfter (effect (now (report .entry)) (call.remove id)) ⌝ }
 {
     answer_of(attachments::remove(report, id))
 }
 
 #[no_mangle]
 pub extern "C" fn lmr5_put_text(report: &mut [u8], text: &[u8]) -> Answer
-    ensures { λ r. ⌜ left r (now (report .exit)) [] ≡ numberedAfter (effect (now (report .entry)) (machine.putText (now (text .entry)))) ⌝ }
+    ensures { λ r. ⌜ left r (now (report .exit)) [] ≡ numberedAfter (effect (now (report .entry)) (call.putText (now (text .entry)))) ⌝ }
 {
     answer_of(puts::put_text(report, text))
 }
 
 #[no_mangle]
 pub extern "C" fn lmr5_fetch_text(report: &[u8], out: &mut [u8]) -> Answer
-    ensures { λ r. ⌜ left r (now (report .entry)) (now (out .exit)) ≡ numberedAfter (effect (now (report .entry)) (machine.fetchText (now (out .entry)))) ⌝ }
+    ensures { λ r. ⌜ left r (now (report .entry)) (now (out .exit)) ≡ numberedAfter (effect (now (report .entry)) (call.fetchText (now (out .entry)))) ⌝ }
 {
     answer_of(fetches::fetch_text(&*report, out))
 }

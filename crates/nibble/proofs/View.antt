@@ -12,7 +12,7 @@ use lib.Seq.{length-take-le, getD-take, getD-drop, take-take, drop-drop, drop-co
 use lib.Dec.{ltb, leb}
 use borrow.Author.Tests.{le-leb, lt-leb, leb-true, leb-false, lt-ltb, le-ltb, ltb-true, ltb-false}
 use Rattle.format.specs.Nibbles.{lengthAt, idAt, Nibbles}
-use Rattle.format.specs.Machine.{allNibbles}
+use Rattle.format.specs.Calls.{allNibbles}
 use Rattle.laws.proofs.Bits.{drop-below}
 use Rattle.laws.proofs.Lists.{test-case}
 use Rattle.laws.proofs.Nibbles.{length-nibbles}

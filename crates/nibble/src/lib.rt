@@ -3,7 +3,7 @@ ghost use mathlib.Core.Path.{_≡_};
 ghost use Prim.Native.Nat.{_+_, _≤_, _<_, _^_, max};
 ghost use lib.Dec.{ltb};
 ghost use lib.ListN.{length, getD};
-ghost use Rattle.format.specs.Machine.{allNibbles};
+ghost use Rattle.format.specs.Calls.{allNibbles};
 ghost use Rattle.nibble.specs.View.{view, stepAt, headerAt, moved};
 
 // A place, counted in nibbles. Packed: two nibbles a byte; else one a byte.

@@ -14,12 +14,12 @@ use borrow.Author.Tests.{lt-ltb, le-ltb, eq-eqb, ne-eqb, eqb-true, eqb-false}
 use Rattle.format.specs.Order.{Refusal, check, first}
 use Rattle.format.specs.Field.{table}
 use Rattle.format.specs.Nibbles.{nibbles, odd, tailNibbles, attachmentsOf}
-use Rattle.format.specs.Sheet.{Sheet, checksum, cardNumbers, packing, size}
+use Rattle.format.specs.Observation.{Observation, checksum, cardNumbers, packing, size}
 use Rattle.format.specs.Report.{numbersOf, attachmentChecks, tailOf}
-use Rattle.format.specs.Machine.{Answer, allNibbles, over}
+use Rattle.format.specs.Calls.{Answer, allNibbles, over}
 use Rattle.format.specs.Buffer.{zeros}
 use Rattle.format.specs.Reply.{refusal}
-use Rattle.format.specs.Whole.{bitOutside, packChecks, countIn, packSheet, packOrder, pack}
+use Rattle.format.specs.Whole.{bitOutside, packChecks, countIn, packObservation, packOrder, pack}
 use Rattle.tail.specs.Walk.{tailAt, walkedBy, walked}
 use Rattle.tail.specs.declared.Tail.{Tail}
 use Rattle.tail.specs.declared.Walked.{Walked}
@@ -121,7 +121,7 @@ module _ (values : List ℤ) (word rptin : ℕ) (ns out : List ℕ) where
 
   module _ (p : FieldsPass values word) where
     behind-fields : (o : Option Refusal)
-        → first (check (not (allNibbles ns)) 14 0 ∷ (attachmentChecks (countIn ns) 1 [] ns ++ (check (ltb (length out) (size (packSheet values word rptin ns))) 13 0 ∷ []))) ≡ o
+        → first (check (not (allNibbles ns)) 14 0 ∷ (attachmentChecks (countIn ns) 1 [] ns ++ (check (ltb (length out) (size (packObservation values word rptin ns))) 13 0 ∷ []))) ≡ o
         → first (packOrder (length out) values word rptin ns) ≡ o
     unfolding packOrder
     behind-fields o e = first-skip _ _ (le-ltb (length values) 46 (p .long)) ∙ first-skip _ _ (p .inside) ∙ first-append-skip _ _ (p .fields) ∙ e
@@ -137,8 +137,8 @@ module _ (values : List ℤ) (word rptin : ℕ) (ns out : List ℕ) where
     checked : walks.Walked (countIn ns) [] ns
     checked = checks-fine (countIn ns) 1 [] ns (all-nibbles ns (p .nibbles)) (p .attachments)
 
-    tail-is : tailNibbles (packSheet values word rptin ns .attachments) ≡ ns
-    unfolding packSheet
+    tail-is : tailNibbles (packObservation values word rptin ns .attachments) ≡ ns
+    unfolding packObservation
     tail-is = sym (count-all ns (all-nibbles ns (p .nibbles)) (p .attachments))
 
     pub few : (countIn ns < 16) × (length ns ≤ 3631)
@@ -146,14 +146,14 @@ module _ (values : List ℤ) (word rptin : ℕ) (ns out : List ℕ) where
         let l : length ns ≡ length (tailNibbles (attachmentsOf (countIn ns) ns)) = ap length (count-all ns (all-nibbles ns (p .nibbles)) (p .attachments)) in
         (omega (arith, fine-count (checked .fine), checked .count), omega (arith, fine-size (checked .fine), l))
 
-    size-of : size (packSheet values word rptin ns) ≡ (75 + length ns) / 2 + (75 + length ns) % 2
-    size-of = omega (arith, size-is (packSheet values word rptin ns), ap length tail-is)
+    size-of : size (packObservation values word rptin ns) ≡ (75 + length ns) / 2 + (75 + length ns) % 2
+    size-of = omega (arith, size-is (packObservation values word rptin ns), ap length tail-is)
 
     pub short-out : length out < (75 + length ns) / 2 + (75 + length ns) % 2 → record { answer = refusal 13 0; out = out } ≡ pack values word rptin ns out
     short-out h =
         refused 13 0
         (behind-fields (p .passed) _
-        (first-skip _ _ (ap not (p .nibbles)) ∙ first-append-skip _ _ (p .attachments) ∙ first-fits _ _ (lt-ltb (length out) (size (packSheet values word rptin ns)) (omega (arith, size-of)))))
+        (first-skip _ _ (ap not (p .nibbles)) ∙ first-append-skip _ _ (p .attachments) ∙ first-fits _ _ (lt-ltb (length out) (size (packObservation values word rptin ns)) (omega (arith, size-of)))))
 
     -- the tail laid, its odd last nibble cleared, then the card written
     pub written : (o1 o2 o3 : List ℕ) (count : ℕ) → (75 + length ns) / 2 + (75 + length ns) % 2 ≤ length out → Bytes o3 → count ≡ countIn ns
@@ -161,9 +161,9 @@ module _ (values : List ℤ) (word rptin : ℕ) (ns out : List ℕ) where
         → nibbles o2 ≡ cond (odd (75 + length ns)) (set (nibbles o1) (75 + length ns) 0) (nibbles o1) → length o2 ≡ length o1
         → Carded o2 o3 (rptin ∷ (given values word ++ (checksum (given values word) ∷ count ∷ [])))
         → record { answer = Answer.accepted (some (pos ((75 + length ns) / 2 + (75 + length ns) % 2)) ∷ []); out = o3 } ≡ pack values word rptin ns out
-    unfolding packSheet cardNumbers
+    unfolding packObservation cardNumbers
     written o1 o2 o3 count room bs counted e1 l1 e2 l2 carded =
-        let s : Sheet = packSheet values word rptin ns in
+        let s : Observation = packObservation values word rptin ns in
         let n : ℕ = 75 + length ns in
         let m : max 0 (size s) ≡ size s = omega arith in
         let long : 38 ≤ length o3 = omega (arith, carded .long, l1, l2) in

@@ -9,7 +9,7 @@ use lib.IntN.{ℤ}
 use Rattle.format.specs.Order.{Refusal, first}
 use Rattle.format.specs.Field.{table}
 use Rattle.format.specs.Report.{attachmentChecks}
-use Rattle.format.specs.Machine.{allNibbles}
+use Rattle.format.specs.Calls.{allNibbles}
 use Rattle.format.specs.Whole.{bitOutside, packChecks, countIn}
 use Rattle.pack.specs.declared.Checked.{Checked}
 use Rattle.pack.specs.declared.Checked.the-variants.{Refused, Passed}

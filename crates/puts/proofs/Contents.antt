@@ -8,7 +8,7 @@ use mathlib.Core.List.{List}
 use lib.ListN.{length, take, drop}
 use lib.Seq.{take-length}
 use Rattle.format.specs.Report.{bodyValid}
-use Rattle.format.specs.Machine.{allNibbles}
+use Rattle.format.specs.Calls.{allNibbles}
 
 pub valid-is : (ns : List ℕ) (id : ℕ) {t r : Bool} → t ≡ allNibbles ns → t ≡ true → r ≡ bodyValid id (take (length ns) ns) → r ≡ allNibbles ns && bodyValid id ns
 valid-is ns id e k b = b ∙ ap (bodyValid id) (take-length ns) ∙ ap (λ (u : Bool). u && bodyValid id ns) (sym k ∙ e)

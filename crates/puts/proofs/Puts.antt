@@ -15,9 +15,9 @@ use Rattle.format.specs.Bits.{Bytes}
 use Rattle.format.specs.Order.{Check, first}
 use Rattle.format.specs.Nibbles.{attachment}
 use Rattle.format.specs.ShipText.{writeText}
-use Rattle.format.specs.Sheet.{size}
-use Rattle.format.specs.Report.{sheetOf, bodyValid}
-use Rattle.format.specs.Machine.{Call, put, putText, next, gives, lent, writes, allNibbles, withContent, idCheck, lengthCheck, contentCheck, callChecks, Answer}
+use Rattle.format.specs.Observation.{size}
+use Rattle.format.specs.Report.{observationOf, bodyValid}
+use Rattle.format.specs.Calls.{Call, put, putText, next, gives, outputOf, writes, allNibbles, withContent, idCheck, lengthCheck, contentCheck, callChecks, Answer}
 use Rattle.format.specs.Buffer.{layout, after, effect}
 use Rattle.format.specs.Reply.{refusal}
 use Rattle.laws.proofs.Lists.{test-case}
@@ -43,38 +43,38 @@ content-passes i ns valid = no-check (contentCheck i ns) [] (ap not valid) first
 
 module _ {b : List ℕ} {j : ℕ} {r : Report} (bs : Bytes b) (f : Found b j r) where
   -- a call that puts, when only 13 is left
-  putting-effect : (c : Call) (i : ℕ) (ns : List ℕ) → next (sheetOf b) c ≡ withContent (sheetOf b) i ns → writes (sheetOf b) c ≡ [] → lent c ≡ []
-      → gives (sheetOf b) c ≡ [] → first (callChecks (sheetOf b) c) ≡ none → putting b i ns ≡ effect b c
+  putting-effect : (c : Call) (i : ℕ) (ns : List ℕ) → next (observationOf b) c ≡ withContent (observationOf b) i ns → writes (observationOf b) c ≡ [] → outputOf c ≡ []
+      → gives (observationOf b) c ≡ [] → first (callChecks (observationOf b) c) ≡ none → putting b i ns ≡ effect b c
   putting-effect c i ns is w l g passed =
-      let t = withContent (sheetOf b) i ns in
-      test-case (ltb (length b) (size (withContent (sheetOf b) i ns)))
-      (λ q. rw q (ap (after (refusal 13 0) b) (sym l) ∙ effect-room b (sheetOf b) c bs (f .judged) passed (rw (is, q))))
+      let t = withContent (observationOf b) i ns in
+      test-case (ltb (length b) (size (withContent (observationOf b) i ns)))
+      (λ q. rw q (ap (after (refusal 13 0) b) (sym l) ∙ effect-room b (observationOf b) c bs (f .judged) passed (rw (is, q))))
       (λ q. rw q
-      (ap (λ (y : List (Option ℤ)). after (Answer.accepted y) (layout b (size (sheetOf b)) t) []) (sym g)
-      ∙ effect-done b (sheetOf b) c bs (f .judged) (layout b (size (sheetOf b)) t) [] passed
-      (rw is (ltb-false (length b) (size t) q)) (rw (w, l) (omega arith)) (ap (layout b (size (sheetOf b))) (sym is)) (rw (w, l))))
+      (ap (λ (y : List (Option ℤ)). after (Answer.accepted y) (layout b (size (observationOf b)) t) []) (sym g)
+      ∙ effect-done b (observationOf b) c bs (f .judged) (layout b (size (observationOf b)) t) [] passed
+      (rw is (ltb-false (length b) (size t) q)) (rw (w, l) (omega arith)) (ap (layout b (size (observationOf b))) (sym is)) (rw (w, l))))
 
   module _ (ns : List ℕ) (low : 1 ≤ j) (high : j ≤ 15) where
     pub put-short : length ns < 1 → after (refusal 12 0) b [] ≡ effect b (put j ns)
-    unfolding callChecks lent
-    put-short h = call-refuses b (sheetOf b) (put j ns) bs (f .judged) (idCheck j ∷ []) (lengthCheck ns) (contentCheck j ns ∷ []) refl (id-passes j _ low high first-nil) (range-low 1 255 (length ns) h)
+    unfolding callChecks outputOf
+    put-short h = call-refuses b (observationOf b) (put j ns) bs (f .judged) (idCheck j ∷ []) (lengthCheck ns) (contentCheck j ns ∷ []) refl (id-passes j _ low high first-nil) (range-low 1 255 (length ns) h)
 
     pub put-long : 255 < length ns → after (refusal 12 0) b [] ≡ effect b (put j ns)
-    unfolding callChecks lent
-    put-long h = call-refuses b (sheetOf b) (put j ns) bs (f .judged) (idCheck j ∷ []) (lengthCheck ns) (contentCheck j ns ∷ []) refl (id-passes j _ low high first-nil) (range-high 1 255 (length ns) h)
+    unfolding callChecks outputOf
+    put-long h = call-refuses b (observationOf b) (put j ns) bs (f .judged) (idCheck j ∷ []) (lengthCheck ns) (contentCheck j ns ∷ []) refl (id-passes j _ low high first-nil) (range-high 1 255 (length ns) h)
 
     module _ (filled : 1 ≤ length ns) (short : length ns ≤ 255) where
       pub put-invalid : allNibbles ns && bodyValid j ns ≡ false → after (refusal 14 0) b [] ≡ effect b (put j ns)
-      unfolding callChecks lent
+      unfolding callChecks outputOf
       put-invalid h =
-          call-refuses b (sheetOf b) (put j ns) bs (f .judged) (idCheck j ∷ lengthCheck ns ∷ []) (contentCheck j ns) [] refl (id-passes j _ low high (length-passes ns [] filled short first-nil)) (ap not h)
+          call-refuses b (observationOf b) (put j ns) bs (f .judged) (idCheck j ∷ lengthCheck ns ∷ []) (contentCheck j ns) [] refl (id-passes j _ low high (length-passes ns [] filled short first-nil)) (ap not h)
 
       module _ (valid : allNibbles ns && bodyValid j ns ≡ true) where
         pub put-fineAt : FineAt (attachment j ns)
         put-fineAt = put-checked j ns (range-fine 1 15 j low high) (range-fine 1 255 (length ns) filled short) valid
 
         pub put-effect : putting b j ns ≡ effect b (put j ns)
-        unfolding callChecks lent writes gives next
+        unfolding callChecks outputOf writes gives next
         put-effect =
             putting-effect (put j ns) j ns refl refl refl refl
             (id-passes j _ low high (length-passes ns _ filled short (content-passes j ns valid)))
@@ -91,10 +91,10 @@ long-by false m e = refl
 
 module _ {b : List ℕ} {r : Report} {t before ns : List ℕ} {w : Written} (bs : Bytes b) (f : Found b 4 r) (bt : Bytes t) (wrote : Writes t before ns w) where
   pub text-long : w ≡ Written.TooLong → after (refusal 12 0) b [] ≡ effect b (putText t)
-  unfolding callChecks lent writtenOf
+  unfolding callChecks outputOf writtenOf
   text-long e =
       let h = leb-false (length (writeText t)) 255 (long-by _ _ (sym e ∙ wrote .answer)) in
-      call-refuses b (sheetOf b) (putText t) bs (f .judged) [] (lengthCheck (writeText t)) (contentCheck 4 (writeText t) ∷ []) refl first-nil (range-high 1 255 (length (writeText t)) h)
+      call-refuses b (observationOf b) (putText t) bs (f .judged) [] (lengthCheck (writeText t)) (contentCheck 4 (writeText t) ∷ []) refl first-nil (range-high 1 255 (length (writeText t)) h)
 
   module _ {n : ℕ} (e : w ≡ Written.Fits n) where
     fits : (length (writeText t) ≤ 255) × (n ≡ length (writeText t))
@@ -104,9 +104,9 @@ module _ {b : List ℕ} {r : Report} {t before ns : List ℕ} {w : Written} (bs 
         (leb-true (length (writeText t)) 255 (q .0), q .1)
 
     pub text-empty : n < 1 → after (refusal 12 0) b [] ≡ effect b (putText t)
-    unfolding callChecks lent
+    unfolding callChecks outputOf
     text-empty h =
-        call-refuses b (sheetOf b) (putText t) bs (f .judged) [] (lengthCheck (writeText t)) (contentCheck 4 (writeText t) ∷ []) refl first-nil (range-low 1 255 (length (writeText t)) (omega (arith, fits .1)))
+        call-refuses b (observationOf b) (putText t) bs (f .judged) [] (lengthCheck (writeText t)) (contentCheck 4 (writeText t) ∷ []) refl first-nil (range-low 1 255 (length (writeText t)) (omega (arith, fits .1)))
 
     -- the text's nibbles stand at the front of what was written
     is-text : take n ns ≡ writeText t
@@ -126,7 +126,7 @@ module _ {b : List ℕ} {r : Report} {t before ns : List ℕ} {w : Written} (bs 
           rw is-text (put-checked 4 (writeText t) refl (range-fine 1 255 (length (writeText t)) (omega (arith, fits .1)) (fits .0)) valid)
 
       pub text-effect : putting b 4 (take n ns) ≡ effect b (putText t)
-      unfolding callChecks lent writes gives next
+      unfolding callChecks outputOf writes gives next
       text-effect =
           ap (putting b 4) is-text
           ∙ putting-effect bs f (putText t) 4 (writeText t) refl refl refl refl

@@ -7,8 +7,8 @@ ghost use Prim.Native.Nat.{_≤_};
 ghost use lib.ListN.{length, take};
 ghost use Rattle.format.specs.Nibbles.{attachment};
 ghost use Rattle.format.specs.Report.{bodyValid};
-ghost use Rattle.format.specs.Machine.{allNibbles};
-ghost use Rattle.format.specs.Machine as machine;
+ghost use Rattle.format.specs.Calls.{allNibbles};
+ghost use Rattle.format.specs.Calls as call;
 ghost use Rattle.format.specs.Buffer.{after, effect};
 ghost use Rattle.format.specs.Reply.{answerOf};
 ghost use Rattle.laws.proofs.Attachments.{FineAt};
@@ -44,7 +44,7 @@ fn content_valid(id: usize, content: &[u8]) -> bool
 // Puts to a report that was inspected.
 fn put_found(s: &mut [u8], id: usize, found: Report, content: &[u8]) -> Reply
     requires { ⌜ Found (now s) id found ⌝ }
-    ensures { λ r. ⌜ after (answerOf r) (now (s .exit)) [] ≡ effect (now (s .entry)) (machine.put id (now (content .entry))) ⌝ }
+    ensures { λ r. ⌜ after (answerOf r) (now (s .exit)) [] ≡ effect (now (s .entry)) (call.put id (now (content .entry))) ⌝ }
 {
     if id < 1 {
         return Reply::Refused(8, 0);
@@ -66,7 +66,7 @@ fn put_found(s: &mut [u8], id: usize, found: Report, content: &[u8]) -> Reply
 
 // Replaces the content of an id, or appends the attachment.
 pub fn put(s: &mut [u8], id: usize, content: &[u8]) -> Reply
-    ensures { λ r. ⌜ after (answerOf r) (now (s .exit)) [] ≡ effect (now (s .entry)) (machine.put id (now (content .entry))) ⌝ }
+    ensures { λ r. ⌜ after (answerOf r) (now (s .exit)) [] ≡ effect (now (s .entry)) (call.put id (now (content .entry))) ⌝ }
 {
     let i = report::inspect(s, id);
     match i {
@@ -96,7 +96,7 @@ fn put_written(s: &mut [u8], found: Report, ns: &[u8; 255], n: usize) -> Reply
 // Puts the ship text to a report that was inspected.
 fn put_text_found(s: &mut [u8], found: Report, text: &[u8]) -> Reply
     requires { ⌜ Found (now s) 4 found ⌝ }
-    ensures { λ r. ⌜ after (answerOf r) (now (s .exit)) [] ≡ effect (now (s .entry)) (machine.putText (now (text .entry))) ⌝ }
+    ensures { λ r. ⌜ after (answerOf r) (now (s .exit)) [] ≡ effect (now (s .entry)) (call.putText (now (text .entry))) ⌝ }
 {
     let mut ns = [0u8; 255];
     let w = writer::write(text, &mut ns);
@@ -113,7 +113,7 @@ fn put_text_found(s: &mut [u8], found: Report, text: &[u8]) -> Reply
 
 // Puts the ship text.
 pub fn put_text(s: &mut [u8], text: &[u8]) -> Reply
-    ensures { λ r. ⌜ after (answerOf r) (now (s .exit)) [] ≡ effect (now (s .entry)) (machine.putText (now (text .entry))) ⌝ }
+    ensures { λ r. ⌜ after (answerOf r) (now (s .exit)) [] ≡ effect (now (s .entry)) (call.putText (now (text .entry))) ⌝ }
 {
     let i = report::inspect(s, 4);
     match i {

@@ -16,7 +16,7 @@ use lib.IntN.{ℤ, pos}
 use Rattle.format.specs.Bits.{bitField}
 use Rattle.format.specs.Field.{Field, fieldAt, entryOf}
 use Rattle.format.specs.Report.{codesOf}
-use Rattle.format.specs.Machine.{over}
+use Rattle.format.specs.Calls.{over}
 use Rattle.format.specs.Whole.{valueOrZero, isPresent, presenceFrom}
 use Rattle.format.specs.declared.Coded.{Coded}
 use Rattle.format.specs.declared.Scaled.{Scaled}

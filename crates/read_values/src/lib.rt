@@ -6,7 +6,7 @@ ghost use Prim.Native.Nat.{_≤_, _<_, _^_};
 ghost use lib.ListN.{length};
 ghost use Rattle.format.specs.Field.{table, fieldAt, entryOf, entries};
 ghost use Rattle.format.specs.Report.{codesOf};
-ghost use Rattle.format.specs.Machine.{over};
+ghost use Rattle.format.specs.Calls.{over};
 ghost use Rattle.format.specs.Whole.{valueOrZero, isPresent, presenceFrom};
 ghost use Rattle.card.specs.Rows.{fieldIn, RowAt, RowsAt};
 ghost use Rattle.read_values.specs.Shown.{Shown};

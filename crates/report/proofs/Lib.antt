@@ -1,2 +1,2 @@
 pub mod Outcomes
-pub mod Sheets
+pub mod Observations

@@ -14,11 +14,11 @@ use Rattle.format.specs.Bits.{Bytes}
 use Rattle.format.specs.Order.{Refusal, check, first}
 use Rattle.format.specs.Field.{Field, table, required}
 use Rattle.format.specs.Nibbles.{nibbles, odd, tailNibbles, attachmentsOf}
-use Rattle.format.specs.Sheet.{checksum, size}
-use Rattle.format.specs.Report.{codesOf, checksumOf, countOf, tailOf, sheetOf, fieldChecks, attachmentChecks, tailLength, reportChecks, refused, accepted, verdict, judge}
+use Rattle.format.specs.Observation.{checksum, size}
+use Rattle.format.specs.Report.{codesOf, checksumOf, countOf, tailOf, observationOf, fieldChecks, attachmentChecks, tailLength, reportChecks, refused, accepted, verdict, judge}
 use Rattle.checks.specs.Answers.{checkedOf, cardCheck}
 use Rattle.checks.specs.declared.CardCheck.{CardCheck}
-use Rattle.format.specs.Machine.{contentOf}
+use Rattle.format.specs.Calls.{contentOf}
 use Rattle.tail.specs.Walk.{placeOf, tailAt, walkedBy, walked}
 use Rattle.tail.specs.declared.Tail.{Tail}
 use Rattle.tail.specs.declared.Walked.{Walked}
@@ -214,14 +214,14 @@ by-fine (some x) q r e = let z : _≡_ {A = ℕ} 0 1 = cc in absurd (omega arith
 
 pub judge-refused : (b : List ℕ) (i n p : ℕ) (x : Inspected) → x ≡ inspected b i → x ≡ Inspected.Refused n p → judge b ≡ refused (refusal n p)
 unfolding inspected judge
-judge-refused b i n p x is e = ap (λ (o : Option Refusal). verdict o (sheetOf b)) (by-refused (first (reportChecks b)) (reportOf b i (attachmentsOf (countOf b) (tailOf b))) n p (sym is ∙ e))
+judge-refused b i n p x is e = ap (λ (o : Option Refusal). verdict o (observationOf b)) (by-refused (first (reportChecks b)) (reportOf b i (attachmentsOf (countOf b) (tailOf b))) n p (sym is ∙ e))
 
 pub judge-fine : (b : List ℕ) (i : ℕ) (r : Report) (x : Inspected) → x ≡ inspected b i → x ≡ Inspected.Fine r
-    → (judge b ≡ accepted (sheetOf b)) × (r ≡ reportOf b i (sheetOf b .attachments))
-unfolding inspected judge sheetOf
+    → (judge b ≡ accepted (observationOf b)) × (r ≡ reportOf b i (observationOf b .attachments))
+unfolding inspected judge observationOf
 judge-fine b i r x is e =
     let f = by-fine (first (reportChecks b)) (reportOf b i (attachmentsOf (countOf b) (tailOf b))) r (sym is ∙ e) in
-    (ap (λ (o : Option Refusal). verdict o (sheetOf b)) (f .0), f .1)
+    (ap (λ (o : Option Refusal). verdict o (observationOf b)) (f .0), f .1)
 
 -- the answer of judging, by outcome
 module _ (b : List ℕ) (i : ℕ) (x : Inspected) (is : x ≡ inspected b i) where
@@ -231,6 +231,6 @@ module _ (b : List ℕ) (i : ℕ) (x : Inspected) (is : x ≡ inspected b i) whe
   pub judged-fine : (r : Report) → x ≡ Inspected.Fine r → Judged.Accepted (r .end / 2 + r .end % 2) ≡ judgedOf (judge b)
   judged-fine r e =
       let f = judge-fine b i r x is e in
-      let end : r .end ≡ 75 + length (tailNibbles (sheetOf b .attachments)) = ap (λ (q : Report). q .end) (f .1) in
-      let half : r .end / 2 + r .end % 2 ≡ size (sheetOf b) = omega (arith, size-is (sheetOf b)) in
+      let end : r .end ≡ 75 + length (tailNibbles (observationOf b .attachments)) = ap (λ (q : Report). q .end) (f .1) in
+      let half : r .end / 2 + r .end % 2 ≡ size (observationOf b) = omega (arith, size-is (observationOf b)) in
       ap Judged.Accepted half ∙ ap judgedOf (sym (f .0))

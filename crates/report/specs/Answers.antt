@@ -9,10 +9,10 @@ use lib.Dec.{eqb}
 use Rattle.format.specs.Field.{table}
 use Rattle.format.specs.Order.{Refusal, first}
 use Rattle.format.specs.Nibbles.{Attachment, nibbles, odd, tailNibbles, attachmentsOf}
-use Rattle.format.specs.Sheet.{Sheet, checksum, size}
+use Rattle.format.specs.Observation.{Observation, checksum, size}
 use Rattle.format.specs.Report.{codesOf, checksumOf, countOf, tailOf, fieldChecks, reportChecks, Verdict, refused, accepted, judge}
 use Rattle.format.specs.Bits.{Bytes}
-use Rattle.format.specs.Machine.{contentOf}
+use Rattle.format.specs.Calls.{contentOf}
 use Rattle.tail.specs.Walk.{placeOf}
 use Rattle.tail.specs.declared.Tail.{Tail}
 use Rattle.report.specs.declared.Judged.{Judged}
@@ -38,8 +38,8 @@ pub record Sizes (r : Judged) : Type 0 where
   pub least : (b : List ℕ) × Bytes b × (judgedOf (judge b) ≡ Accepted 38)
   pub most : (b : List ℕ) × Bytes b × (judgedOf (judge b) ≡ Accepted 1853)
 
--- two accepted reports of sheets s and t: equal byte for byte and by their sheets, or neither
-abbrev pub bothCompared : Compared → List ℕ → List ℕ → Sheet → Sheet → Type 0
+-- two accepted reports of observations s and t: equal byte for byte and by their observations, or neither
+abbrev pub bothCompared : Compared → List ℕ → List ℕ → Observation → Observation → Type 0
 bothCompared (CRefused n p) a b s t = ⊥
 bothCompared Same a b s t = (take (size s) a ≡ take (size t) b) × (s ≡ t)
 bothCompared Different a b s t = (take (size s) a ≡ take (size t) b → ⊥) × (s ≡ t → ⊥)

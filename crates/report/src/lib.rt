@@ -189,7 +189,7 @@ fn compare_second(a: &[u8], m: usize, b: &[u8]) -> Compared
     }
 }
 
-// Whether the reports that two buffers begin with are equal byte for byte, which they are exactly when their sheets are.
+// Whether the reports that two buffers begin with are equal byte for byte, which they are exactly when their observations are.
 pub fn same(a: &[u8], b: &[u8]) -> Compared
     ensures { λ r. ⌜ comparison r (now (a .entry)) (now (b .entry)) ⌝ }
 {

@@ -7,7 +7,7 @@ use mathlib.Core.List.{List, [], _∷_, _++_, append-assoc, append-nil}
 use mathlib.Core.Option.{Option, none, some}
 use lib.ListN.{length, getD, take, drop, length-append, length-drop}
 use lib.Seq.{drop-drop, drop-at, take-at, length-take-le, take-all, drop-length}
-use Rattle.format.specs.Machine.{Call, lent, Answer, over}
+use Rattle.format.specs.Calls.{Call, outputOf, Answer, over}
 use Rattle.format.specs.Buffer.{After, after, effect}
 use Rattle.format.specs.Reply.{answerOf}
 use Rattle.format.specs.declared.Reply.{Reply}
@@ -49,7 +49,7 @@ module _ (b s log : List ℕ) (k : ℕ) (e : Entry) (kind : getD s 0 0 ≡ k) (s
 
 -- an entry with no output, its call made as c′ and its bytes counted as t′
 pub turn-plain : (b s log : List ℕ) (k : ℕ) (c c′ : Call) (t t′ : ℕ) (a : Answer) (b′ log′ : List ℕ) → getD s 0 0 ≡ k → getD (kinds s) k none ≡ some (entry c t)
-    → lent c ≡ []
+    → outputOf c ≡ []
     → after a b′ [] ≡ effect b c′
     → log′ ≡ over (headOf a) log
     → c′ ≡ c
@@ -57,8 +57,8 @@ pub turn-plain : (b s log : List ℕ) (k : ℕ) (c c′ : Call) (t t′ : ℕ) (
     → t ≤ length s
     → 10 ≤ length log
     → record { buffer = b′; log = log′; calls = 1; taken = t′; written = 10 } ≡ turn b s log
-turn-plain b s log k c c′ t t′ a b′ log′ kind says none-lent f w made took whole room =
-    let z : recordSize c ≡ 10 = unfold recordSize in ap (λ (d : List ℕ). 10 + length d) none-lent in
+turn-plain b s log k c c′ t t′ a b′ log′ kind says no-output f w made took whole room =
+    let z : recordSize c ≡ 10 = unfold recordSize in ap (λ (d : List ℕ). 10 + length d) no-output in
     rw (took, ← z)
     (turn-made b s log k (entry c t) kind says whole (omega arith) a b′ [] log′ (f ∙ ap (effect b) made) (rw (append-nil (headOf a)) w))
 
@@ -105,7 +105,7 @@ part-counted s i n e =
     let x : i + 8 + n - (i + 8) ≡ n = omega arith in
     rw (x, e)
 
--- an output in the middle of a log, first lent, then written, and then the answer before it
+-- an output in the middle of a log, first copied there, then written, and then the answer before it
 module _ (log ys out : List ℕ) (n m : ℕ) (g : 10 + n ≤ length log) (same : m ≡ n) (ly : length ys ≡ n) where
   abbrev log₁ : List ℕ
   log₁ = take 10 log ++ (ys ++ drop m (drop 10 log))
@@ -113,8 +113,8 @@ module _ (log ys out : List ℕ) (n m : ℕ) (g : 10 + n ≤ length log) (same :
   ten : length (take 10 log) ≡ 10
   ten = length-take-le 10 log (omega arith)
 
-  pub lent-part : take m (drop 10 log₁) ≡ ys
-  lent-part = rw (drop-at (take 10 log) (ys ++ drop m (drop 10 log)) 10 ten, same) (take-at ys (drop n (drop 10 log)) n ly)
+  pub output-part : take m (drop 10 log₁) ≡ ys
+  output-part = rw (drop-at (take 10 log) (ys ++ drop m (drop 10 log)) 10 ten, same) (take-at ys (drop n (drop 10 log)) n ly)
 
   ten₁ : length (take 10 log₁) ≡ 10
   ten₁ = rw (take-at (take 10 log) (ys ++ drop m (drop 10 log)) 10 ten) ten
@@ -135,9 +135,9 @@ module _ (log ys out : List ℕ) (n m : ℕ) (g : 10 + n ≤ length log) (same :
 pub counted-length : (s : List ℕ) (i n : ℕ) → n ≡ numberAt s i → i + 8 + n ≤ length s → length (bytesAt s i) ≡ n
 counted-length s i n e h = rw (← e) (length-take-le n (drop (i + 8) s) (omega (arith, length-drop (i + 8) s)))
 
--- an output of the n bytes at i is lent as ys, at the log's place 10, to the call made as f′
+-- an output of the n bytes at i stands as ys, at the log's place 10, to the call made as f′
 module _ (b s log : List ℕ) (k i n : ℕ) (f f′ : List ℕ → Call) (kind : getD s 0 0 ≡ k) (says : getD (kinds s) k none ≡ some (entry (f (bytesAt s i)) (i + 8 + numberAt s i)))
-    (lends : (d : List ℕ) → lent (f d) ≡ d) (num : n ≡ numberAt s i) (whole : i + 8 + n ≤ length s) where
+    (lends : (d : List ℕ) → outputOf (f d) ≡ d) (num : n ≡ numberAt s i) (whole : i + 8 + n ≤ length s) where
   size : recordSize (f (bytesAt s i)) ≡ 10 + n
   unfolding recordSize
   size = ap (λ (d : List ℕ). 10 + length d) (lends (bytesAt s i)) ∙ ap (λ (m : ℕ). 10 + m) (counted-length s i n num whole)
@@ -156,7 +156,7 @@ module _ (b s log : List ℕ) (k i n : ℕ) (f f′ : List ℕ → Call) (kind :
       let counted : ys ≡ bytesAt s i = copied ∙ part-counted s i n num in
       let as-many : length ys ≡ n = ap length counted ∙ counted-length s i n num whole in
       let is : after a b out ≡ effect b (f (bytesAt s i)) =
-      g ∙ ap₂ (λ (h : List ℕ → Call) (d : List ℕ). effect b (h d)) made (lent-part log ys ys n (10 + n - 10) room m as-many ∙ counted) in
+      g ∙ ap₂ (λ (h : List ℕ → Call) (d : List ℕ). effect b (h d)) made (output-part log ys ys n (10 + n - 10) room m as-many ∙ counted) in
       let out-many : length out ≡ n =
       ap (λ (x : After). length (x .out)) is ∙ effect-out b (f (bytesAt s i)) ∙ ap length (lends (bytesAt s i)) ∙ counted-length s i n num whole in
       rw (← size, num)

@@ -6,7 +6,7 @@ use mathlib.Core.Option.{none, some}
 use lib.ListN.{length, take}
 use lib.Dec.{T}
 use lib.IntN.{pos, negsuc}
-use Rattle.format.specs.Machine.{Call, readField, setField, clearField, readFlag, setFlag, clearFlag, put, fetch, remove, putText, fetchText, lent, accepted}
+use Rattle.format.specs.Calls.{Call, readField, setField, clearField, readFlag, setFlag, clearFlag, put, fetch, remove, putText, fetchText, outputOf, accepted}
 use Rattle.format.specs.Buffer.{shown}
 use Rattle.format.specs.Reply.{refusal}
 use Rattle.format.proofs.Test.{Example, same, every}
@@ -70,5 +70,5 @@ examples =
     ∷ []
 
 hold : T (every examples)
-unfolding calls script again example examples same every lent numberFrom numberOf bytesOf bytes8 signed unsigned kinds within entryAt recordSize nextIn listOf entryOf scriptOf headOf recordOf records
+unfolding calls script again example examples same every outputOf numberFrom numberOf bytesOf bytes8 signed unsigned kinds within entryAt recordSize nextIn listOf entryOf scriptOf headOf recordOf records
 hold = tt

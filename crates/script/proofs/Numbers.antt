@@ -12,7 +12,7 @@ use lib.Pow.{pow-add, pow-mono, mod-pow-add}
 use lib.IntN.{ℤ, pos, negsuc}
 use lib.Signed.{mag}
 use borrow.Author.Tests.{lt-ltb, le-ltb}
-use Rattle.format.specs.Machine.{over}
+use Rattle.format.specs.Calls.{over}
 use Rattle.script.specs.Script.{numberFrom, numberOf, bytesOf, bytes8, numberAt}
 use Rattle.words.specs.Words.{signed, unsigned}
 

@@ -14,15 +14,15 @@ use lib.IntN.{ℤ}
 use borrow.Author.Tests.{ltb-false, le-leb, lt-leb, leb-true}
 use Rattle.format.specs.Bits.{Bytes}
 use Rattle.format.specs.Order.{Refusal, first}
-use Rattle.format.specs.Sheet.{Sheet, size}
+use Rattle.format.specs.Observation.{Observation, size}
 use Rattle.format.specs.Report.{Verdict, judge}
-use Rattle.format.specs.Machine.{Call, readField, setField, clearField, readFlag, setFlag, clearFlag, put, fetch, remove, putText, fetchText, next, lent, writes, roomCheck, callChecks, checks, Answer, refused, accepted, steppedBy, step, over}
+use Rattle.format.specs.Calls.{Call, readField, setField, clearField, readFlag, setFlag, clearFlag, put, fetch, remove, putText, fetchText, next, outputOf, writes, roomCheck, callChecks, checks, Answer, refused, accepted, steppedBy, step, over}
 use Rattle.format.specs.Buffer.{after, Shown, shown, Ran, effectOn, effect, calls, claim}
 use Rattle.laws.proofs.Lists.{or-false}
 use Rattle.laws.proofs.Order.{first-none, first-append-none}
 use Rattle.laws.proofs.Bits.{append-below}
 use Rattle.laws.proofs.List.{whole-list}
-use Rattle.script.specs.Script.{bytesOf, bytes8, Entry, entry, numberAt, bytesAt, kinds, within, entryAt, recordSize, logSize, nextIn, listOf, entryOf, scriptOf, Lent, Fits, AllFit, headOf, recordOf, records, answerAt, AnswerFits, Replayed, logged, replayed, Performs, idle, performed, turn}
+use Rattle.script.specs.Script.{bytesOf, bytes8, Entry, entry, numberAt, bytesAt, kinds, within, entryAt, recordSize, logSize, nextIn, listOf, entryOf, scriptOf, Slice, Fits, AllFit, headOf, recordOf, records, answerAt, AnswerFits, Replayed, logged, replayed, Performs, idle, performed, turn}
 use Rattle.words.specs.Words.{signed, unsigned}
 use Rattle.script.proofs.Numbers.{length-bytes8, number-bytes8, signed-unsigned, unsigned-lt}
 
@@ -288,7 +288,7 @@ bytes8-bytes : (n : ℕ) → Bytes (bytes8 n)
 unfolding bytes8
 bytes8-bytes n = bytesOf-bytes 8 n
 
-counted-bytes : (d : List ℕ) → Lent d → Bytes (bytes8 (length d) ++ d)
+counted-bytes : (d : List ℕ) → Slice d → Bytes (bytes8 (length d) ++ d)
 counted-bytes d h = append-below 256 (bytes8 (length d)) d (bytes8-bytes (length d)) (h .1)
 
 -- the forms of an entry: a number alone, and a number before other bytes
@@ -342,23 +342,23 @@ unfolding recordOf
 record-length a = simp (length-append, head-length)
 
 -- no call changes the length of its output
-step-out : (n : ℕ) (s : Sheet) (c : Call) → length (step n s c .out) ≡ length (lent c)
+step-out : (n : ℕ) (s : Observation) (c : Call) → length (step n s c .out) ≡ length (outputOf c)
 unfolding step
 step-out n s c = go (first (checks n s c)) refl
   where
-    go : (o : Option Refusal) → first (checks n s c) ≡ o → length (steppedBy o s c .out) ≡ length (lent c)
+    go : (o : Option Refusal) → first (checks n s c) ≡ o → length (steppedBy o s c .out) ≡ length (outputOf c)
     go (some r) q = refl
     go none q =
         let f = first-append-none (callChecks s c) (roomCheck n s c ∷ []) (unfold checks in q) in
-        let room = or-false (ltb n (size (next s c))) (ltb (length (lent c)) (length (writes s c))) (first-none (roomCheck n s c) [] (f .1) .0) in
-        let fits = ltb-false (length (lent c)) (length (writes s c)) (room .1) in
+        let room = or-false (ltb n (size (next s c))) (ltb (length (outputOf c)) (length (writes s c))) (first-none (roomCheck n s c) [] (f .1) .0) in
+        let fits = ltb-false (length (outputOf c)) (length (writes s c)) (room .1) in
         simp (length-append, length-drop) (omega arith)
 
-pub effect-out : (b : List ℕ) (c : Call) → length (effect b c .out) ≡ length (lent c)
+pub effect-out : (b : List ℕ) (c : Call) → length (effect b c .out) ≡ length (outputOf c)
 unfolding effect
 effect-out b c = go (judge b)
   where
-    go : (v : Verdict) → length (effectOn v b c .out) ≡ length (lent c)
+    go : (v : Verdict) → length (effectOn v b c .out) ≡ length (outputOf c)
     go (Verdict.refused r) = refl
     go (Verdict.accepted s) = step-out (length b) s c
 

@@ -8,7 +8,7 @@ use lib.ListN.{length, getD, take, drop}
 use lib.Dec.{leb, eqb}
 use lib.Signed.{mag}
 use Rattle.words.specs.Words.{signed, unsigned}
-use Rattle.format.specs.Machine.{Call, readField, setField, clearField, readFlag, setFlag, clearFlag, put, fetch, remove, putText, fetchText, lent, Answer, refused, accepted, over}
+use Rattle.format.specs.Calls.{Call, readField, setField, clearField, readFlag, setFlag, clearFlag, put, fetch, remove, putText, fetchText, outputOf, Answer, refused, accepted, over}
 use Rattle.format.specs.Buffer.{Shown, shown, Ran, effect, claim}
 use Rattle.format.specs.Reply.{refusal}
 use Rattle.format.specs.declared.Scaled.{Scaled}
@@ -52,7 +52,7 @@ bytesAt s i = take (numberAt s i) (drop (i + 8) s)
 abbrev pub valueAt : List ℕ → ℕ → Scaled
 valueAt s i = record { 0 = signed (numberAt s i) }
 
--- what an entry of each kind says, were it whole. An output is lent as it stands in the script
+-- what an entry of each kind says, were it whole. An output is taken as it stands in the script
 unfoldable pub kinds : List ℕ → List (Option Entry)
 kinds s =
     none ∷  -- 0
@@ -80,7 +80,7 @@ entryAt s = within (λ (e : Entry). e .taken) (length s) (getD (kinds s) (getD s
 
 -- the bytes of a call's record in the log
 unfoldable pub recordSize : Call → ℕ
-recordSize c = 10 + length (lent c)
+recordSize c = 10 + length (outputOf c)
 
 unfoldable pub logSize : List Call → ℕ
 logSize [] = 0
@@ -119,8 +119,8 @@ scriptOf [] = []
 scriptOf (c ∷ cs) = entryOf c ++ scriptOf cs
 
 -- what every call of the code has: numbers and lengths of 64 bits, a signed value of 64 bits, contents and outputs of bytes
-abbrev pub Lent : List ℕ → Type 0
-Lent s = (length s < 2 ^ 64) × Bytes s
+abbrev pub Slice : List ℕ → Type 0
+Slice s = (length s < 2 ^ 64) × Bytes s
 
 unfoldable pub Fits : Call → Type 0
 Fits (readField k) = k < 2 ^ 64
@@ -129,11 +129,11 @@ Fits (clearField k) = k < 2 ^ 64
 Fits (readFlag j) = j < 2 ^ 64
 Fits (setFlag j v) = (j < 2 ^ 64) × (v < 2 ^ 64)
 Fits (clearFlag j) = j < 2 ^ 64
-Fits (put i ns) = (i < 2 ^ 64) × Lent ns
-Fits (fetch i out) = (i < 2 ^ 64) × Lent out
+Fits (put i ns) = (i < 2 ^ 64) × Slice ns
+Fits (fetch i out) = (i < 2 ^ 64) × Slice out
 Fits (remove i) = i < 2 ^ 64
-Fits (putText t) = Lent t
-Fits (fetchText out) = Lent out
+Fits (putText t) = Slice t
+Fits (fetchText out) = Slice out
 
 unfoldable pub AllFit : List Call → Type 0
 AllFit [] = Unit {0}
@@ -203,7 +203,7 @@ replayed b script log =
 pub record Performs (r : Replayed) (b script log : List ℕ) : Type 0 where
   pub of-script : r ≡ replayed b script log
   pub of-list : (cs : List Call) → AllFit cs → scriptOf cs ≡ script → logSize cs ≤ length log → r ≡ logged cs (claim b cs) log
-  -- such a list's script can be lent, and a record tells its answer
+  -- such a list's script is bytes, and a record tells its answer
   pub in-bytes : (cs : List Call) → AllFit cs → Bytes (scriptOf cs)
   pub told : (a : Answer) (out : List ℕ) → AnswerFits a → answerAt (recordOf (shown a out)) ≡ a
 

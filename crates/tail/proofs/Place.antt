@@ -10,9 +10,9 @@ use lib.Seq.{drop-drop, drop-append-add}
 use lib.Dec.{eqb}
 use borrow.Author.Tests.{eq-eqb}
 use Rattle.format.specs.Nibbles.{Attachment, attachment, nibbles, attachmentNibbles, tailNibbles}
-use Rattle.format.specs.Sheet.{size}
-use Rattle.format.specs.Report.{tailOf, sheetOf, accepted, judge}
-use Rattle.format.specs.Machine.{stands, contentOf}
+use Rattle.format.specs.Observation.{size}
+use Rattle.format.specs.Report.{tailOf, observationOf, accepted, judge}
+use Rattle.format.specs.Calls.{stands, contentOf}
 use Rattle.format.specs.Buffer.{zeros}
 use Rattle.laws.proofs.Lists.{or-false, test-case}
 use Rattle.format.specs.Bits.{Bytes}
@@ -59,20 +59,20 @@ module _ (i : ℕ) where
 
 -- ---- in an accepted report
 
-module _ (b : List ℕ) (i : ℕ) (bs : Bytes b) (j : judge b ≡ accepted (sheetOf b))
-    (p : Placed i (contentOf i (sheetOf b .attachments)) (sheetOf b .attachments)) where
+module _ (b : List ℕ) (i : ℕ) (bs : Bytes b) (j : judge b ≡ accepted (observationOf b))
+    (p : Placed i (contentOf i (observationOf b .attachments)) (observationOf b .attachments)) where
   abbrev list : List Attachment
-  list = sheetOf b .attachments
+  list = observationOf b .attachments
 
   abbrev content : List ℕ
-  content = contentOf i (sheetOf b .attachments)
+  content = contentOf i (observationOf b .attachments)
 
   -- what follows the attachments
   abbrev pub beyond : List ℕ
-  beyond = zeros (2 * size (sheetOf b) - (75 + length (tailNibbles list))) ++ drop (2 * size (sheetOf b)) (nibbles b)
+  beyond = zeros (2 * size (observationOf b) - (75 + length (tailNibbles list))) ++ drop (2 * size (observationOf b)) (nibbles b)
 
   pub tail-split : tailOf b ≡ tailNibbles (p .before) ++ (attachmentNibbles (attachment i content) ++ (tailNibbles (p .after) ++ beyond))
-  tail-split = tail-taken b (sheetOf b) bs j ∙ ap (λ (x : List ℕ). x ++ beyond) (around i p) ∙ simp append-assoc
+  tail-split = tail-taken b (observationOf b) bs j ∙ ap (λ (x : List ℕ). x ++ beyond) (around i p) ∙ simp append-assoc
 
   module _ (place : ℕ) (is : place ≡ placeOf 75 i list) where
     -- its nibbles stand behind its header

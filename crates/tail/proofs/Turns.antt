@@ -15,7 +15,7 @@ use borrow.Author.Tests.{eqb-true, eqb-false, eq-eqb, ne-eqb}
 use Rattle.format.specs.Order.{Refusal, first}
 use Rattle.format.specs.Nibbles.{Attachment, attachment, tailNibbles, attachmentsOf, lengthAt, contentAt, behind, among, Nibbles}
 use Rattle.format.specs.Report.{attachmentChecks}
-use Rattle.format.specs.Machine.{contentOf}
+use Rattle.format.specs.Calls.{contentOf}
 use Rattle.laws.proofs.Lists.{test-case, or-false}
 use Rattle.laws.proofs.Attachments.{tail-length}
 use Rattle.nibble.specs.View.{view, from, moved}

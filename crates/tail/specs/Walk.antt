@@ -8,7 +8,7 @@ use lib.Dec.{eqb}
 use Rattle.format.specs.Order.{Refusal, first}
 use Rattle.format.specs.Nibbles.{Attachment, tailNibbles, attachmentsOf}
 use Rattle.format.specs.Report.{attachmentChecks}
-use Rattle.format.specs.Machine.{contentOf}
+use Rattle.format.specs.Calls.{contentOf}
 use Rattle.nibble.specs.View.{from}
 use Rattle.nibble.specs.declared.Cursor.{Cursor}
 use Rattle.tail.specs.declared.Tail.{Tail}

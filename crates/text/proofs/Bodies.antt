@@ -13,7 +13,7 @@ use borrow.Author.Tests.{le-leb}
 use Rattle.format.specs.declared.TextState.{TextState}
 use Rattle.format.specs.declared.TextState.the-variants.{Between}
 use Rattle.format.specs.ShipText.{byteOf, textStep, stateAfter, readFrom, endFrom, atEnd, textValid, readText}
-use Rattle.format.specs.Machine.{over}
+use Rattle.format.specs.Calls.{over}
 use Rattle.laws.proofs.ShipText.{read-append, end-append, credit, read-length, read-text-length}
 use Rattle.text.specs.declared.Code.{Code}
 use Rattle.text.specs.Rows.{place, next}

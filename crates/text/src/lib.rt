@@ -6,7 +6,7 @@ ghost use lib.Dec.{leb};
 ghost use lib.ListN.{length, getD, drop, replicate};
 ghost use lib.Seq.{sets};
 ghost use Rattle.format.specs.ShipText.{charCode, pairByte, textValid, readText};
-ghost use Rattle.format.specs.Machine.{over};
+ghost use Rattle.format.specs.Calls.{over};
 ghost use Rattle.nibble.specs.View.{view, part};
 ghost use Rattle.text.specs.Answers.{Writable, Shortest};
 ghost use Rattle.text.specs.Rows.{rows, next, pairRows};

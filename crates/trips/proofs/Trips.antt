@@ -12,11 +12,11 @@ use lib.IntN.{ℤ, pos}
 use lib.Seq.{length-take-le}
 use borrow.Author.Tests.{le-ltb, ltb-true, ltb-false}
 use Rattle.format.specs.Order.{Refusal, first}
-use Rattle.format.specs.Sheet.{Sheet, packing, size}
+use Rattle.format.specs.Observation.{Observation, packing, size}
 use Rattle.format.specs.Report.{Verdict, judge}
-use Rattle.format.specs.Machine.{Answer, over}
+use Rattle.format.specs.Calls.{Answer, over}
 use Rattle.format.specs.Reply.{refusal}
-use Rattle.format.specs.Whole.{Wrote, wroteBy, Unpacked, unpacked, unpackOn, unpackedBy, unpackChecks, unpackGives, unpack, valueOrZero, presence, tail, packSheet, packOrder, pack}
+use Rattle.format.specs.Whole.{Wrote, wroteBy, Unpacked, unpacked, unpackOn, unpackedBy, unpackChecks, unpackGives, unpack, valueOrZero, presence, tail, packObservation, packOrder, pack}
 use Rattle.laws.proofs.Lists.{or-false}
 use Rattle.laws.proofs.Order.{first-fits, first-skip, first-nil}
 use Rattle.format.specs.Bits.{Bytes}
@@ -33,32 +33,32 @@ refused-accepted r gs e = let z : _≡_ {A = ℕ} 0 1 = cc in absurd (omega arit
 -- ---- pack after unpack
 
 -- the test that refuses the outputs of unpack
-abbrev tooShort : Sheet → List ℤ → List ℕ → Bool
+abbrev tooShort : Observation → List ℤ → List ℕ → Bool
 tooShort s vs ns = ltb (length vs) 46 || ltb (length ns) (length (tail s))
 
-by-test : (s : Sheet) (vs : List ℤ) (ns : List ℕ) (t : Bool) → tooShort s vs ns ≡ t
+by-test : (s : Observation) (vs : List ℤ) (ns : List ℕ) (t : Bool) → tooShort s vs ns ≡ t
     → unpackedBy (first (unpackChecks s vs ns)) s vs ns ≡ unpackedBy (cond t (some (record { number = 13; place = 0 })) none) s vs ns
 by-test s vs ns true e = ap (λ (o : Option Refusal). unpackedBy o s vs ns) (first-fits _ _ e)
 by-test s vs ns false e = ap (λ (o : Option Refusal). unpackedBy o s vs ns) (first-skip _ _ e ∙ first-nil)
 
 -- what unpack was given, and gave
 pub record Opened (b : List ℕ) (vs us : List ℤ) (ns ts : List ℕ) (c : Contents) : Type 0 where
-  pub sheet : Sheet
-  pub verdict : judge b ≡ Verdict.accepted sheet
+  pub observation : Observation
+  pub verdict : judge b ≡ Verdict.accepted observation
   pub long : 46 ≤ length vs
-  pub wide : length (tail sheet) ≤ length ns
-  pub values : us ≡ over (map valueOrZero (sheet .values)) vs
-  pub rest : ts ≡ over (tail sheet) ns
-  pub word : c .word ≡ presence sheet
-  pub rptin : c .rptin ≡ sheet .rptin
-  pub end : c .tail ≡ length (tail sheet)
+  pub wide : length (tail observation) ≤ length ns
+  pub values : us ≡ over (map valueOrZero (observation .values)) vs
+  pub rest : ts ≡ over (tail observation) ns
+  pub word : c .word ≡ presence observation
+  pub rptin : c .rptin ≡ observation .rptin
+  pub end : c .tail ≡ length (tail observation)
 
 module _ (b : List ℕ) (vs us : List ℤ) (ns ts : List ℕ) where
   pub restore-refused : (n p : ℕ) (out : List ℕ) → unpacked (refusal n p) us ts ≡ unpack b vs ns → trip (refusal n p) us ts out ≡ restored b vs ns out
   unfolding unpack restored
   restore-refused n p out = go (judge b)
     where
-      inner : (s : Sheet) (t : Bool) → tooShort s vs ns ≡ t → unpacked (refusal n p) us ts ≡ unpackedBy (first (unpackChecks s vs ns)) s vs ns
+      inner : (s : Observation) (t : Bool) → tooShort s vs ns ≡ t → unpacked (refusal n p) us ts ≡ unpackedBy (first (unpackChecks s vs ns)) s vs ns
           → trip (refusal n p) us ts out ≡ restoredOn (Verdict.accepted s) b vs ns out
       inner s true q e =
           let f = e ∙ by-test s vs ns true q in
@@ -69,7 +69,7 @@ module _ (b : List ℕ) (vs us : List ℤ) (ns ts : List ℕ) where
       go (Verdict.refused r) e = λ i. trip (e i .answer) (e i .values) (e i .tail) out
       go (Verdict.accepted s) e = inner s (tooShort s vs ns) refl e
 
-  numbers-word : (c : Contents) (s : Sheet) → Answer.accepted (contentsNumbers c) ≡ Answer.accepted (unpackGives s)
+  numbers-word : (c : Contents) (s : Observation) → Answer.accepted (contentsNumbers c) ≡ Answer.accepted (unpackGives s)
       → (c .word ≡ presence s) × (c .rptin ≡ s .rptin) × (c .tail ≡ length (tail s))
   unfolding unpackGives
   numbers-word c s e = ((cc), (cc), (cc))
@@ -78,7 +78,7 @@ module _ (b : List ℕ) (vs us : List ℤ) (ns ts : List ℕ) where
   unfolding unpack
   opened c = go (judge b) refl
     where
-      inner : (s : Sheet) → judge b ≡ Verdict.accepted s → (t : Bool) → tooShort s vs ns ≡ t
+      inner : (s : Observation) → judge b ≡ Verdict.accepted s → (t : Bool) → tooShort s vs ns ≡ t
           → unpacked (Answer.accepted (contentsNumbers c)) us ts ≡ unpackedBy (first (unpackChecks s vs ns)) s vs ns → Opened b vs us ns ts c
       inner s j true q e = refused-accepted _ _ (sym (ap (λ (u : Unpacked). u .answer) (e ∙ by-test s vs ns true q)))
       inner s j false q e =
@@ -86,7 +86,7 @@ module _ (b : List ℕ) (vs us : List ℤ) (ns ts : List ℕ) where
           let n = numbers-word c s (ap (λ (u : Unpacked). u .answer) f) in
           let h = or-false _ _ q in
           record {
-            sheet = s;
+            observation = s;
             verdict = j;
             long = ltb-false (length vs) 46 (h .0);
             wide = ltb-false (length ns) (length (tail s)) (h .1);
@@ -103,7 +103,7 @@ module _ (b : List ℕ) (vs us : List ℤ) (ns ts : List ℕ) where
 
 -- the tail that was given lies within its output
 pub opened-within : {b : List ℕ} {vs us : List ℤ} {ns ts : List ℕ} {c : Contents} → Opened b vs us ns ts c → c .tail ≤ length ts
-opened-within {ns = ns} o = omega (arith, o .end, ap length (o .rest), length-append (tail (o .sheet)) (drop (length (tail (o .sheet))) ns))
+opened-within {ns = ns} o = omega (arith, o .end, ap length (o .rest), length-append (tail (o .observation)) (drop (length (tail (o .observation))) ns))
 
 -- pack accepts what it accepted
 pack-accepted : (values : List ℤ) (word rptin : ℕ) (ns out : List ℕ) (gs : List (Option ℤ)) (o : List ℕ)
@@ -111,7 +111,7 @@ pack-accepted : (values : List ℤ) (word rptin : ℕ) (ns out : List ℕ) (gs :
 unfolding pack
 pack-accepted values word rptin ns out gs o e = go (first (packOrder (length out) values word rptin ns)) e
   where
-    go : (q : Option Refusal) → wroteBy q (some (pos (size (packSheet values word rptin ns))) ∷ []) (packing (packSheet values word rptin ns)) out ≡ record { answer = Answer.accepted gs; out = o } → q ≡ none
+    go : (q : Option Refusal) → wroteBy q (some (pos (size (packObservation values word rptin ns))) ∷ []) (packing (packObservation values word rptin ns)) out ≡ record { answer = Answer.accepted gs; out = o } → q ≡ none
     go none e = refl
     go (some r) e = refused-accepted _ _ (ap (λ (w : Wrote). w .answer) e)
 
@@ -126,44 +126,44 @@ pack-short values word rptin ns out more e h =
 module _ (b : List ℕ) (bs : Bytes b) (vs us : List ℤ) (ns ts : List ℕ) (c : Contents) (o : Opened b vs us ns ts c) where
   same-pack : (out : List ℕ)
       → pack us (c .word) (c .rptin) (take (c .tail) ts) out
-      ≡ pack (unpack b vs ns .values) (presence (o .sheet)) (o .sheet .rptin) (take (length (tail (o .sheet))) (unpack b vs ns .tail)) out
+      ≡ pack (unpack b vs ns .values) (presence (o .observation)) (o .observation .rptin) (take (length (tail (o .observation))) (unpack b vs ns .tail)) out
   same-pack out =
-      let is = sym (unpack-accepted b (o .sheet) vs ns (o .verdict) (o .long) (o .wide)) in
+      let is = sym (unpack-accepted b (o .observation) vs ns (o .verdict) (o .long) (o .wide)) in
       let u : us ≡ unpack b vs ns .values = o .values ∙ ap (λ (x : Unpacked). x .values) is in
       let t : ts ≡ unpack b vs ns .tail = o .rest ∙ ap (λ (x : Unpacked). x .tail) is in
       λ i. pack (u i) (o .word i) (o .rptin i) (take (o .end i) (t i)) out
 
-  pack-back : (out : List ℕ) → size (o .sheet) ≤ length out
+  pack-back : (out : List ℕ) → size (o .observation) ≤ length out
       → pack us (c .word) (c .rptin) (take (c .tail) ts) out
-      ≡ record { answer = Answer.accepted (some (pos (size (o .sheet))) ∷ []); out = over (take (size (o .sheet)) b) out }
-  pack-back out h = same-pack out ∙ pack-unpacked b (o .sheet) vs ns out bs (o .verdict) (o .long) (o .wide) h
+      ≡ record { answer = Answer.accepted (some (pos (size (o .observation))) ∷ []); out = over (take (size (o .observation)) b) out }
+  pack-back out h = same-pack out ∙ pack-unpacked b (o .observation) vs ns out bs (o .verdict) (o .long) (o .wide) h
 
-  pack-no-room : (out : List ℕ) → length out < size (o .sheet)
+  pack-no-room : (out : List ℕ) → length out < size (o .observation)
       → record { answer = refusal 13 0; out = out } ≡ pack us (c .word) (c .rptin) (take (c .tail) ts) out
   pack-no-room out h =
-      let more : List ℕ = replicate (size (o .sheet)) 0 in
-      let l : length (take (c .tail) ts) ≡ length (tail (o .sheet)) = length-take-le (c .tail) ts (opened-within o) ∙ o .end in
+      let more : List ℕ = replicate (size (o .observation)) 0 in
+      let l : length (take (c .tail) ts) ≡ length (tail (o .observation)) = length-take-le (c .tail) ts (opened-within o) ∙ o .end in
       pack-short us (c .word) (c .rptin) (take (c .tail) ts) out more
-      (pack-accepted us (c .word) (c .rptin) (take (c .tail) ts) more _ _ (pack-back more (omega (arith, length-replicate {A = ℕ} (size (o .sheet)) 0))))
-      (omega (arith, size-is (o .sheet), l))
+      (pack-accepted us (c .word) (c .rptin) (take (c .tail) ts) more _ _ (pack-back more (omega (arith, length-replicate {A = ℕ} (size (o .observation)) 0))))
+      (omega (arith, size-is (o .observation), l))
 
-  restored-is : (out : List ℕ) (t : Bool) → ltb (length out) (size (o .sheet)) ≡ t
-      → cond t (trip (refusal 13 0) (over (map valueOrZero (o .sheet .values)) vs) (over (tail (o .sheet)) ns) out)
-      (trip (Answer.accepted (some (pos (size (o .sheet))) ∷ [])) (over (map valueOrZero (o .sheet .values)) vs) (over (tail (o .sheet)) ns) (over (take (size (o .sheet)) b) out))
+  restored-is : (out : List ℕ) (t : Bool) → ltb (length out) (size (o .observation)) ≡ t
+      → cond t (trip (refusal 13 0) (over (map valueOrZero (o .observation .values)) vs) (over (tail (o .observation)) ns) out)
+      (trip (Answer.accepted (some (pos (size (o .observation))) ∷ [])) (over (map valueOrZero (o .observation .values)) vs) (over (tail (o .observation)) ns) (over (take (size (o .observation)) b) out))
       ≡ restored b vs ns out
   unfolding restored
-  restored-is out t e = rw (o .verdict, le-ltb (length vs) 46 (o .long), le-ltb (length ns) (length (tail (o .sheet))) (o .wide), e)
+  restored-is out t e = rw (o .verdict, le-ltb (length vs) 46 (o .long), le-ltb (length ns) (length (tail (o .observation))) (o .wide), e)
 
   pub restore-packed : (a : Answer) (out after : List ℕ) → record { answer = a; out = after } ≡ pack us (c .word) (c .rptin) (take (c .tail) ts) out
       → trip a us ts after ≡ restored b vs ns out
-  restore-packed a out after e = go (ltb (length out) (size (o .sheet))) refl
+  restore-packed a out after e = go (ltb (length out) (size (o .observation))) refl
     where
-      go : (t : Bool) → ltb (length out) (size (o .sheet)) ≡ t → trip a us ts after ≡ restored b vs ns out
+      go : (t : Bool) → ltb (length out) (size (o .observation)) ≡ t → trip a us ts after ≡ restored b vs ns out
       go true q =
-          let f = e ∙ sym (pack-no-room out (ltb-true (length out) (size (o .sheet)) q)) in
+          let f = e ∙ sym (pack-no-room out (ltb-true (length out) (size (o .observation)) q)) in
           (λ i. trip (f i .answer) (o .values i) (o .rest i) (f i .out)) ∙ restored-is out true q
       go false q =
-          let f = e ∙ pack-back out (ltb-false (length out) (size (o .sheet)) q) in
+          let f = e ∙ pack-back out (ltb-false (length out) (size (o .observation)) q) in
           (λ i. trip (f i .answer) (o .values i) (o .rest i) (f i .out)) ∙ restored-is out false q
 
 -- ---- unpack after pack
@@ -174,7 +174,7 @@ module _ (values : List ℤ) (word rptin : ℕ) (ns out : List ℕ) (vs : List �
   unfolding pack recovered
   recover-refused n p o = go (first (packOrder (length out) values word rptin ns))
     where
-      go : (q : Option Refusal) → record { answer = refusal n p; out = o } ≡ wroteBy q (some (pos (size (packSheet values word rptin ns))) ∷ []) (packing (packSheet values word rptin ns)) out
+      go : (q : Option Refusal) → record { answer = refusal n p; out = o } ≡ wroteBy q (some (pos (size (packObservation values word rptin ns))) ∷ []) (packing (packObservation values word rptin ns)) out
           → trip (refusal n p) vs ts o ≡ recoveredBy q values word rptin ns out vs ts
       go (some r) e = λ i. trip (e i .answer) vs ts (e i .out)
       go none e = refused-accepted _ _ (ap (λ (w : Wrote). w .answer) e)
@@ -184,7 +184,7 @@ module _ (values : List ℤ) (word rptin : ℕ) (ns out : List ℕ) (vs : List �
     unfolding unpack
     no-room t =
         ap (λ (v : Verdict). unpackOn v vs ts) (judge-pack values word rptin ns out r q)
-        ∙ by-test (packSheet values word rptin ns) vs ts true (rw (pack-tail (length out) values word rptin ns q) t)
+        ∙ by-test (packObservation values word rptin ns) vs ts true (rw (pack-tail (length out) values word rptin ns q) t)
 
     pub recover-written : (o : List ℕ) (a : Answer) (us : List ℤ) (qs : List ℕ) → o ≡ pack values word rptin ns out .out
         → unpacked a us qs ≡ unpack o vs ts → trip a us qs o ≡ recovered values word rptin ns out vs ts
@@ -196,7 +196,7 @@ module _ (values : List ℤ) (word rptin : ℕ) (ns out : List ℕ) (vs : List �
         f : unpacked a us qs ≡ unpack (pack values word rptin ns out .out) vs ts
         f = e ∙ ap (λ (x : List ℕ). unpack x vs ts) oi
 
-        report : o ≡ over (packing (packSheet values word rptin ns)) out
+        report : o ≡ over (packing (packObservation values word rptin ns)) out
         report = oi ∙ ap (λ (w : Wrote). w .out) (sym (pack-outcome values word rptin ns out none q))
 
         go : (t : Bool) → ltb (length vs) 46 || ltb (length ts) (length ns) ≡ t → trip a us qs o ≡ recoveredBy none values word rptin ns out vs ts

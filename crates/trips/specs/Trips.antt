@@ -8,11 +8,11 @@ use lib.Dec.{ltb}
 use lib.IntN.{ℤ, pos}
 use lib.Count.{ones}
 use Rattle.format.specs.Order.{Refusal, first}
-use Rattle.format.specs.Sheet.{packing, size}
+use Rattle.format.specs.Observation.{packing, size}
 use Rattle.format.specs.Report.{Verdict, judge}
-use Rattle.format.specs.Machine.{Answer, over}
+use Rattle.format.specs.Calls.{Answer, over}
 use Rattle.format.specs.Reply.{refusal}
-use Rattle.format.specs.Whole.{contents, valueOrZero, tail, countIn, packSheet, packOrder, masked}
+use Rattle.format.specs.Whole.{contents, valueOrZero, tail, countIn, packObservation, packOrder, masked}
 
 -- the answer of a round trip, and the values, the tail and the report after it
 pub record Trip : Type 0 where
@@ -39,12 +39,12 @@ restored b vs ns out = restoredOn (judge b) b vs ns out
 abbrev pub recoveredBy : Option Refusal → List ℤ → ℕ → ℕ → List ℕ → List ℕ → List ℤ → List ℕ → Trip
 recoveredBy (some r) values word rptin ns out vs ts = trip (Answer.refused r) vs ts out
 recoveredBy none values word rptin ns out vs ts =
-    cond (ltb (length vs) 46 || ltb (length ts) (length ns)) (trip (refusal 13 0) vs ts (over (packing (packSheet values word rptin ns)) out))
+    cond (ltb (length vs) 46 || ltb (length ts) (length ns)) (trip (refusal 13 0) vs ts (over (packing (packObservation values word rptin ns)) out))
     (trip
-    (Answer.accepted (contents word (ones word) rptin (countIn ns) (size (packSheet values word rptin ns)) (length ns)))
+    (Answer.accepted (contents word (ones word) rptin (countIn ns) (size (packObservation values word rptin ns)) (length ns)))
     (over (masked 1 word (take 46 values)) vs)
     (over ns ts)
-    (over (packing (packSheet values word rptin ns)) out))
+    (over (packing (packObservation values word rptin ns)) out))
 
 unfoldable pub recovered : List ℤ → ℕ → ℕ → List ℕ → List ℕ → List ℤ → List ℕ → Trip
 recovered values word rptin ns out vs ts =

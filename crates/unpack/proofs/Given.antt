@@ -15,9 +15,9 @@ use borrow.Author.Tests.{lt-ltb, le-ltb}
 use Rattle.format.specs.Order.{Refusal}
 use Rattle.format.specs.Field.{table, entries}
 use Rattle.format.specs.Nibbles.{attachmentsOf, behind, nibbles}
-use Rattle.format.specs.Sheet.{Sheet, packing, size}
-use Rattle.format.specs.Report.{Verdict, sheetOf, codesOf, rptinOf, countOf, tailOf}
-use Rattle.format.specs.Machine.{Answer, over}
+use Rattle.format.specs.Observation.{Observation, packing, size}
+use Rattle.format.specs.Report.{Verdict, observationOf, codesOf, rptinOf, countOf, tailOf}
+use Rattle.format.specs.Calls.{Answer, over}
 use Rattle.format.specs.Reply.{refusal}
 use Rattle.format.specs.Whole.{valueOrZero, presence, presenceFrom, countPresent, tail, unpacked, unpackGives, unpackedBy, unpackOn, unpack}
 use Rattle.report.specs.declared.Report.{Report}
@@ -38,7 +38,7 @@ unfolding attachmentsOf
 attachments-length zero ns = refl
 attachments-length (suc n) ns = ap suc (attachments-length n (behind ns))
 
-numbers-are : (w p rp c z t : ℕ) (s : Sheet) → w ≡ presence s → p ≡ countPresent (s .values) → rp ≡ s .rptin → c ≡ length (s .attachments) → z ≡ size s → t ≡ length (tail s)
+numbers-are : (w p rp c z t : ℕ) (s : Observation) → w ≡ presence s → p ≡ countPresent (s .values) → rp ≡ s .rptin → c ≡ length (s .attachments) → z ≡ size s → t ≡ length (tail s)
     → contentsNumbers (record { word = w; present = p; rptin = rp; count = c; size = z; tail = t }) ≡ unpackGives s
 unfolding unpackGives
 numbers-are w p rp c z t s e1 e2 e3 e4 e5 e6 = rw (e1, e2, e3, e4, e5, e6)
@@ -56,31 +56,31 @@ shown b r x is e = let f = judge-fine b 0 r x is e in record { verdict = f .0; i
 -- ---- an accepted report
 
 module _ (b : List ℕ) (r : Report) (bs : Bytes b) (sh : Shown b r) where
-  pub end-is : r .end ≡ 75 + length (tail (sheetOf b))
+  pub end-is : r .end ≡ 75 + length (tail (observationOf b))
   end-is = ap (λ (q : Report). q .end) (sh .is)
 
   pub end-room : (38 ≤ length b) × (r .end ≤ 2 * length b) × (r .end ≤ 3706)
   end-room =
-      let s : Sheet = sheetOf b in
+      let s : Observation = observationOf b in
       let t = judged b s bs (sh .verdict) in
       let range = size-range s (t .good) in
       let long : length b ≡ size s + length (drop (size s) b) = ap length (t .starts) ∙ length-append (packing s) (drop (size s) b) in
       (omega (arith, range .0, long), omega (arith, end-is, size-is s, long), omega (arith, end-is, size-is s, range .1))
 
   module _ (vs : List ℤ) (ts : List ℕ) where
-    short : ltb (length vs) 46 || ltb (length ts) (length (tail (sheetOf b))) ≡ true → unpacked (refusal 13 0) vs ts ≡ unpack b vs ts
+    short : ltb (length vs) 46 || ltb (length ts) (length (tail (observationOf b))) ≡ true → unpacked (refusal 13 0) vs ts ≡ unpack b vs ts
     unfolding unpack
     short e =
         rw (sh .verdict)
-        (ap (λ (o : Option Refusal). unpackedBy o (sheetOf b) vs ts) (sym (first-fits _ _ e)))
+        (ap (λ (o : Option Refusal). unpackedBy o (observationOf b) vs ts) (sym (first-fits _ _ e)))
 
     pub short-values : length vs < 46 → unpacked (refusal 13 0) vs ts ≡ unpack b vs ts
     short-values h = short (rw (lt-ltb (length vs) 46 h))
 
     pub short-tail : 46 ≤ length vs → length ts < r .end - 75 → unpacked (refusal 13 0) vs ts ≡ unpack b vs ts
-    short-tail hv h = short (rw (le-ltb (length vs) 46 hv, lt-ltb (length ts) (length (tail (sheetOf b))) (omega (arith, end-is))))
+    short-tail hv h = short (rw (le-ltb (length vs) 46 hv, lt-ltb (length ts) (length (tail (observationOf b))) (omega (arith, end-is))))
 
-    -- the values, the tail and the numbers are those of the sheet
+    -- the values, the tail and the numbers are those of the observation
     pub all-given : (word rptin : ℕ) (us : List ℤ) (ns : List ℕ) → 46 ≤ length vs → r .end - 75 ≤ length ts
         → us ≡ over (map valueOrZero (entries table (codesOf b))) vs
         → word ≡ presenceFrom 1 (entries table (codesOf b))
@@ -94,9 +94,9 @@ module _ (b : List ℕ) (r : Report) (bs : Bytes b) (sh : Shown b r) where
           size = r .end / 2 + r .end % 2;
           tail = r .end - 75;
         }))) us ns ≡ unpack b vs ts
-    unfolding sheetOf
+    unfolding observationOf
     all-given word rptin us ns hv hn eu ew en er =
-        let s : Sheet = sheetOf b in
+        let s : Observation = observationOf b in
         let n : r .end - 75 ≡ length (tail s) = omega (arith, end-is) in
         let z : r .end / 2 + r .end % 2 ≡ size s = omega (arith, end-is, size-is s) in
         let c : r .count ≡ length (s .attachments) = ap (λ (q : Report). q .count) (sh .is) ∙ sym (attachments-length (countOf b) (tailOf b)) in

@@ -2,7 +2,7 @@
 use mathlib.Core.List.{List}
 use mathlib.Core.Option.{Option}
 use lib.IntN.{ℤ}
-use Rattle.format.specs.Machine.{Answer, accepted}
+use Rattle.format.specs.Calls.{Answer, accepted}
 use Rattle.format.specs.Reply.{refusal}
 use Rattle.format.specs.Whole.{contents}
 use Rattle.unpack.specs.declared.Contents.{Contents}

@@ -8,7 +8,7 @@ ghost use Prim.Native.Nat.{_+_, _≤_, _<_};
 ghost use lib.ListN.{length};
 ghost use Rattle.format.specs.Bits.{total};
 ghost use Rattle.format.specs.Field.{fieldAt, scaled, inRange, codeOf};
-ghost use Rattle.format.specs.Sheet.{checksum};
+ghost use Rattle.format.specs.Observation.{checksum};
 ghost use Rattle.format.specs.Report.{numbersOf};
 ghost use Rattle.format.specs.Whole.{bitAt};
 ghost use Rattle.card.specs.Answers.{Carded};

@@ -1,15 +1,15 @@
--- `bits::patch` meets its contract: the shifts lose nothing at 64 bits, so that `machine-patch` answers all.
+-- `bits::patch` meets its contract: the shifts lose nothing at 64 bits, so that `word-patch` answers all.
 -- Assumes nothing.
 use native.Mathlib.Omega.{arith}
 use borrow.Author.Needs.{needs}
-use Rattle.bits.proofs.Window.{Patch, machine-patch}
+use Rattle.bits.proofs.Window.{Patch, word-patch}
 use Rattle.bits.proofs.patch.Statement.{statement}
 use Rattle.bits.proofs.patch.Tie as tie
 
 answer : (c : tie.After-cut) → Patch (c .before .args .n) (c .before .args .z) (c .before .args .width) (c .before .args .v) (c .cut .result)
 answer c =
     let st = c .before in
-    machine-patch (st .args .n) (st .args .z) (st .args .width) (st .args .v) (c .cut .result) (st .pre .0) (st .pre .1) (st .pre .2) (c .cut .ensures)
+    word-patch (st .args .n) (st .args .z) (st .args .width) (st .args .v) (c .cut .result) (st .pre .0) (st .pre .1) (st .pre .2) (c .cut .ensures)
 
 cut-requires : tie.Need-cut-requires
 cut-requires c κs = search needs

@@ -4,7 +4,7 @@ use Prim.Native.Nat.{ℕ, _%_}
 use mathlib.Core.Path.{ap}
 use Rattle.format.specs.Bits.{total}
 use Rattle.format.specs.Field.{table}
-use Rattle.format.specs.Sheet.{widths}
+use Rattle.format.specs.Observation.{widths}
 use Rattle.checks.specs.Parts.{partAt, picked, laid, atPlace, summed}
 use Rattle.checks.proofs.Places.{at-place, plus}
 use borrow.Author.Needs.{needs}

@@ -3,7 +3,7 @@
 use mathlib.Core.Path.{sym, _∙_}
 use Rattle.format.specs.Bits.{total}
 use Rattle.format.specs.Field.{table, fieldAt, required}
-use Rattle.format.specs.Sheet.{widths}
+use Rattle.format.specs.Observation.{widths}
 use Rattle.checks.specs.Parts.{runA, runB, runC, runD, runE, partAt, picked, laid, tested, Passed}
 use Rattle.checks.proofs.Parts.{or-zero, xor-zero, tested-none}
 use borrow.Author.Needs.{needs}

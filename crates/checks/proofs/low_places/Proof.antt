@@ -3,7 +3,7 @@
 use native.Mathlib.Omega.{arith}
 use Rattle.format.specs.Bits.{total}
 use Rattle.format.specs.Field.{table}
-use Rattle.format.specs.Sheet.{widths}
+use Rattle.format.specs.Observation.{widths}
 use Rattle.checks.specs.Parts.{partAt, picked, laid, atPlace, summed}
 use Rattle.checks.proofs.Places.{at-place, first-place, plus}
 use borrow.Author.Needs.{needs}

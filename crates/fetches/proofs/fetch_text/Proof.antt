@@ -1,6 +1,6 @@
 -- `fetches::fetch_text` meets its contract.
 -- Assumes nothing.
-use Rattle.format.specs.Machine.{fetchText, lent}
+use Rattle.format.specs.Calls.{fetchText, outputOf}
 use Rattle.calls.proofs.Found.{inspect-refused, inspect-found}
 use borrow.Author.Needs.{needs}
 use Rattle.fetches.proofs.fetch_text.Statement.{statement}
@@ -19,7 +19,7 @@ fetch-text-found-requires : tie.Need-fetch-text-found-requires
 fetch-text-found-requires c κs = inspect-found _ _ _ (c .before .before .before .before .inspect .ensures) _ (c .before .before .i2 .given .1)
 
 returns : tie.Need-returns
-unfolding lent
+unfolding outputOf
 returns c = inspect-refused _ _ _ (c .before .before .before .inspect .ensures) _ _ (fetchText (c .before .before .before .before .before .before .args .out .now)) (c .before .i .given .1)
 
 same-length : tie.Need-same-length

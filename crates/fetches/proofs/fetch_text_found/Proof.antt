@@ -2,7 +2,7 @@
 -- Assumes nothing.
 use mathlib.Core.Path.{refl, sym, _∙_}
 use mathlib.Core.List.{[]}
-use Rattle.format.specs.Machine.{fetchText, lent, callChecks}
+use Rattle.format.specs.Calls.{fetchText, outputOf, callChecks}
 use Rattle.laws.proofs.Order.{first-nil}
 use Rattle.laws.proofs.Nibbles.{length-nibbles}
 use Rattle.calls.proofs.Found.{reach, missing}
@@ -14,7 +14,7 @@ use Rattle.fetches.proofs.fetch_text_found.Statement.{statement}
 use Rattle.fetches.proofs.fetch_text_found.Tie as tie
 
 returns : tie.Need-returns
-unfolding callChecks lent
+unfolding callChecks outputOf
 returns c = missing (λ j. c .before .before .shared-slice-known .given j .fits) (c .before .before .before .pre) (fetchText (c .before .before .before .args .out .now)) [] refl first-nil (c .if1 .taken)
 
 add-fits : tie.Need-add-fits

@@ -1,6 +1,6 @@
 -- `fields::clear_field` meets its contract.
 -- Assumes nothing.
-use Rattle.format.specs.Machine.{clearField, lent}
+use Rattle.format.specs.Calls.{clearField, outputOf}
 use Rattle.calls.proofs.Found.{inspect-refused, inspect-found}
 use borrow.Author.Needs.{needs}
 use Rattle.fields.proofs.clear_field.Statement.{statement}
@@ -22,7 +22,7 @@ same-length : tie.Need-same-length
 same-length c = search needs
 
 returns : tie.Need-returns
-unfolding lent
+unfolding outputOf
 returns c = inspect-refused _ _ _ (c .before .before .before .inspect .ensures) _ _ (clearField (c .before .before .before .before .before .before .args .k)) (c .before .i .given .1)
 
 same-length-2 : tie.Need-same-length-2

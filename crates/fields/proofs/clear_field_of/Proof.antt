@@ -2,8 +2,8 @@
 -- Assumes nothing.
 use mathlib.Core.Path.{refl}
 use denote.Ref.{now}
-use Rattle.format.specs.Report.{sheetOf}
-use Rattle.format.specs.Machine.{clearField, callChecks, lent}
+use Rattle.format.specs.Report.{observationOf}
+use Rattle.format.specs.Calls.{clearField, callChecks, outputOf}
 use Rattle.laws.proofs.Order.{between-in}
 use Rattle.laws.proofs.Effects.{number-refuses}
 use Rattle.fields.proofs.Values.{field-required, field-cleared}
@@ -16,8 +16,8 @@ within-requires : tie.Need-within-requires
 within-requires c κs = search needs
 
 returns : tie.Need-returns
-unfolding callChecks lent
-returns c = number-refuses _ (sheetOf (now (c .before .before .before .args .s))) (clearField (c .before .before .before .args .k)) (λ i. c .before .before .slice-known .given i .fits) (c .before .before .before .pre)
+unfolding callChecks outputOf
+returns c = number-refuses _ (observationOf (now (c .before .before .before .args .s))) (clearField (c .before .before .before .args .k)) (λ i. c .before .before .slice-known .given i .fits) (c .before .before .before .pre)
     1 46 (c .before .before .before .args .k) _ refl _ (c .before .within .ensures) (c .if1 .taken)
 
 row-requires : tie.Need-row-requires

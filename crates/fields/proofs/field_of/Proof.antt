@@ -4,8 +4,8 @@ use mathlib.Core.Path.{refl, ap, _∙_}
 use mathlib.Core.List.{[]}
 use denote.Ref.{now}
 use Rattle.format.specs.Field.{Field, scaledOf}
-use Rattle.format.specs.Report.{sheetOf}
-use Rattle.format.specs.Machine.{readField, callChecks, lent}
+use Rattle.format.specs.Report.{observationOf}
+use Rattle.format.specs.Calls.{readField, callChecks, outputOf}
 use Rattle.laws.proofs.Order.{between-in}
 use Rattle.laws.proofs.Report.{passes}
 use Rattle.card.proofs.Rows.{field-row, row-window}
@@ -20,8 +20,8 @@ within-requires : tie.Need-within-requires
 within-requires c κs = search needs
 
 returns : tie.Need-returns
-unfolding callChecks lent
-returns c = number-refuses _ (sheetOf (now (c .before .before .before .args .s))) (readField (c .before .before .before .args .k)) (λ i. c .before .before .shared-slice-known .given i .fits) (c .before .before .before .pre)
+unfolding callChecks outputOf
+returns c = number-refuses _ (observationOf (now (c .before .before .before .args .s))) (readField (c .before .before .before .args .k)) (λ i. c .before .before .shared-slice-known .given i .fits) (c .before .before .before .pre)
     1 46 (c .before .before .before .args .k) [] refl _ (c .before .within .ensures) (c .if1 .taken)
 
 row-requires : tie.Need-row-requires

@@ -1,6 +1,6 @@
 -- `fields::read_field` meets its contract.
 -- Assumes nothing.
-use Rattle.format.specs.Machine.{readField, lent}
+use Rattle.format.specs.Calls.{readField, outputOf}
 use Rattle.calls.proofs.Found.{inspect-refused, inspect-found}
 use borrow.Author.Needs.{needs}
 use Rattle.fields.proofs.read_field.Statement.{statement}
@@ -19,7 +19,7 @@ field-of-requires : tie.Need-field-of-requires
 field-of-requires c κs = inspect-found _ _ _ (c .before .before .inspect .ensures) _ (c .enum-told .given .1) .judged
 
 returns : tie.Need-returns
-unfolding lent
+unfolding outputOf
 returns c = inspect-refused _ _ _ (c .before .before .before .inspect .ensures) _ _ (readField (c .before .before .before .before .before .args .k)) (c .before .i .given .1)
 
 returns-2 : tie.Need-returns-2

@@ -1,6 +1,6 @@
 -- `fields::set_field` meets its contract.
 -- Assumes nothing.
-use Rattle.format.specs.Machine.{setField, lent}
+use Rattle.format.specs.Calls.{setField, outputOf}
 use Rattle.calls.proofs.Found.{inspect-refused, inspect-found}
 use borrow.Author.Needs.{needs}
 use Rattle.fields.proofs.set_field.Statement.{statement}
@@ -22,7 +22,7 @@ same-length : tie.Need-same-length
 same-length c = search needs
 
 returns : tie.Need-returns
-unfolding lent
+unfolding outputOf
 returns c = inspect-refused _ _ _ (c .before .before .before .inspect .ensures) _ _ (setField (c .before .before .before .before .before .before .args .k) (c .before .before .before .before .before .before .args .v)) (c .before .i .given .1)
 
 same-length-2 : tie.Need-same-length-2

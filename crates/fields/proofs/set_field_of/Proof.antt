@@ -2,9 +2,9 @@
 -- Assumes nothing.
 use mathlib.Core.Path.{refl, sym, ap, _∙_}
 use denote.Ref.{now}
-use Rattle.format.specs.Report.{sheetOf}
+use Rattle.format.specs.Report.{observationOf}
 use Rattle.format.specs.Field.{Field, fieldAt}
-use Rattle.format.specs.Machine.{setField, callChecks, lent}
+use Rattle.format.specs.Calls.{setField, callChecks, outputOf}
 use Rattle.card.specs.Answers.{codingOf}
 use Rattle.card.proofs.Given.{coding-code}
 use Rattle.card.proofs.Rows.{field-row}
@@ -19,8 +19,8 @@ within-requires : tie.Need-within-requires
 within-requires c κs = search needs
 
 returns : tie.Need-returns
-unfolding callChecks lent
-returns c = number-refuses _ (sheetOf (now (c .before .before .before .args .s))) (setField (c .before .before .before .args .k) (c .before .before .before .args .v)) (λ i. c .before .before .slice-known .given i .fits) (c .before .before .before .pre)
+unfolding callChecks outputOf
+returns c = number-refuses _ (observationOf (now (c .before .before .before .args .s))) (setField (c .before .before .before .args .k) (c .before .before .before .args .v)) (λ i. c .before .before .slice-known .given i .fits) (c .before .before .before .pre)
     1 46 (c .before .before .before .args .k) _ refl _ (c .before .within .ensures) (c .if1 .taken)
 
 row-requires : tie.Need-row-requires

@@ -1,6 +1,6 @@
 -- `flag_calls::read_flag` meets its contract.
 -- Assumes nothing.
-use Rattle.format.specs.Machine.{readFlag, lent}
+use Rattle.format.specs.Calls.{readFlag, outputOf}
 use Rattle.calls.proofs.Found.{inspect-refused}
 use Rattle.flag_calls.proofs.Flags.{flags-found}
 use borrow.Author.Needs.{needs}
@@ -20,7 +20,7 @@ flag-of-requires : tie.Need-flag-of-requires
 flag-of-requires c κs = flags-found _ _ _ (c .before .before .before .inspect .ensures) (c .before .i2 .given .1)
 
 returns : tie.Need-returns
-unfolding lent
+unfolding outputOf
 returns c = inspect-refused _ _ _ (c .before .before .before .inspect .ensures) _ _ (readFlag (c .before .before .before .before .before .args .j)) (c .before .i .given .1)
 
 returns-2 : tie.Need-returns-2

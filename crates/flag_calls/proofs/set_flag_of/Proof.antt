@@ -3,9 +3,9 @@
 use mathlib.Core.Path.{refl, sym, _∙_}
 use mathlib.Core.List.{[], _∷_}
 use denote.Ref.{now}
-use Rattle.format.specs.Report.{sheetOf}
+use Rattle.format.specs.Report.{observationOf}
 use Rattle.laws.proofs.Order.{between-in, number-passes, first-nil, no-check}
-use Rattle.format.specs.Machine.{setFlag, flagNumberCheck, flagValueCheck, callChecks, lent}
+use Rattle.format.specs.Calls.{setFlag, flagNumberCheck, flagValueCheck, callChecks, outputOf}
 use Rattle.laws.proofs.Effects.{number-refuses}
 use Rattle.calls.proofs.Found.{missing}
 use Rattle.flag_calls.proofs.Flags.{value-passes, value-refuses, body-within, flag-set}
@@ -18,8 +18,8 @@ within-requires : tie.Need-within-requires
 within-requires c κs = search needs
 
 returns : tie.Need-returns
-unfolding callChecks lent
-returns c = number-refuses _ (sheetOf (now (c .before .before .before .args .s))) (setFlag (c .before .before .before .args .j) (c .before .before .before .args .v)) (λ i. c .before .before .slice-known .given i .fits) (c .before .before .before .pre .found .judged)
+unfolding callChecks outputOf
+returns c = number-refuses _ (observationOf (now (c .before .before .before .args .s))) (setFlag (c .before .before .before .args .j) (c .before .before .before .args .v)) (λ i. c .before .before .slice-known .given i .fits) (c .before .before .before .pre .found .judged)
     1 14 (c .before .before .before .args .j) _ refl _ (c .before .within .ensures) (c .if1 .taken)
 
 within-requires-2 : tie.Need-within-requires-2
@@ -29,7 +29,7 @@ returns-2 : tie.Need-returns-2
 returns-2 c = value-refuses _ (λ i. c .before .before .before .before .slice-known .given i .fits) _ (c .before .before .before .before .before .pre) (c .before .before .before .before .before .args .j) (c .before .before .before .before .before .args .v) _ _ (c .before .before .before .within .ensures) (c .before .before .if1 .left) (c .before .within2 .ensures) (c .if2 .taken)
 
 returns-3 : tie.Need-returns-3
-unfolding callChecks lent
+unfolding callChecks outputOf
 returns-3 c = missing (λ i. c .before .before .before .before .before .slice-known .given i .fits) (c .before .before .before .before .before .before .pre .found) (setFlag (c .before .before .before .before .before .before .args .j) (c .before .before .before .before .before .before .args .v)) (flagNumberCheck (c .before .before .before .before .before .before .args .j) ∷ flagValueCheck (c .before .before .before .before .before .before .args .j) (c .before .before .before .before .before .before .args .v) ∷ []) refl
     (no-check (flagNumberCheck (c .before .before .before .before .before .before .args .j)) (flagValueCheck (c .before .before .before .before .before .before .args .j) (c .before .before .before .before .before .before .args .v) ∷ []) (number-passes 1 14 (c .before .before .before .before .before .before .args .j) _ (c .before .before .before .before .within .ensures) (c .before .before .before .if1 .left))
     (no-check (flagValueCheck (c .before .before .before .before .before .before .args .j) (c .before .before .before .before .before .before .args .v)) [] (value-passes (c .before .before .before .before .before .before .args .j) (c .before .before .before .before .before .before .args .v) _ (c .before .before .within2 .ensures) (c .before .if2 .left)) first-nil)) (sym (c .before .before .before .before .before .before .pre .is) ∙ c .if3 .taken)

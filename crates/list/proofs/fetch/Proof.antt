@@ -3,8 +3,8 @@ use mathlib.Core.List.{List}
 use native.Mathlib.Omega.{arith}
 use Rattle.script.proofs.Driver.{turn-cut, output-full, turn-output}
 use mathlib.Core.Path.{refl, ap, _∙_}
-use Rattle.format.specs.Machine as machine
-use Rattle.format.specs.Machine.{Call, lent}
+use Rattle.format.specs.Calls as call
+use Rattle.format.specs.Calls.{Call, outputOf}
 use Rattle.script.specs.Script.{kinds, numberAt}
 use Rattle.list.specs.Counts.{leaves}
 use borrow.Author.Needs.{needs}
@@ -47,8 +47,8 @@ idle-requires-3 c κs = search needs
 
 -- src/lib.rt:114:9
 returns-3 : tie.Need-returns-3
-unfolding kinds lent
-returns-3 c = ap (leaves _ _) (c .idle3 .ensures) ∙ output-full _ (c .before .before .before .before .before .before .before .before .args .s .now) _ 8 9 _ (λ (d : List ℕ). machine.fetch (numberAt (c .before .before .before .before .before .before .before .before .args .s .now) 1) d) (λ (d : List ℕ). machine.fetch (numberAt (c .before .before .before .before .before .before .before .before .args .s .now) 1) d) (c .before .before .before .before .before .before .before .before .pre .of-kind) refl (λ d. refl) (c .before .before .before .number-at .ensures) (omega (arith, c .before .before .if2 .left, c .before .before .before .number-at .ensures, c .before .before .before .before .if1 .left)) (omega (arith, c .before .if3 .taken, c .before .before .before .before .before .before .before .before .pre .room))
+unfolding kinds outputOf
+returns-3 c = ap (leaves _ _) (c .idle3 .ensures) ∙ output-full _ (c .before .before .before .before .before .before .before .before .args .s .now) _ 8 9 _ (λ (d : List ℕ). call.fetch (numberAt (c .before .before .before .before .before .before .before .before .args .s .now) 1) d) (λ (d : List ℕ). call.fetch (numberAt (c .before .before .before .before .before .before .before .before .args .s .now) 1) d) (c .before .before .before .before .before .before .before .before .pre .of-kind) refl (λ d. refl) (c .before .before .before .number-at .ensures) (omega (arith, c .before .before .if2 .left, c .before .before .before .number-at .ensures, c .before .before .before .before .if1 .left)) (omega (arith, c .before .if3 .taken, c .before .before .before .before .before .before .before .before .pre .room))
 
 -- src/lib.rt:116:13
 add-e : tie.Need-add-e
@@ -112,8 +112,8 @@ same-length c = search needs
 
 -- src/lib.rt:102:1
 returns-4 : tie.Need-returns-4
-unfolding kinds lent
-returns-4 c = ap (leaves _ _) (c .before .before .answered .ensures .1) ∙ turn-output _ (c .before .before .before .before .before .before .before .before .before .before .before .before .before .before .before .before .before .before .before .before .args .s .now) (c .before .before .before .before .before .before .before .before .before .before .before .before .before .before .before .before .before .before .before .before .args .log .now) 8 9 _ (λ (d : List ℕ). machine.fetch (numberAt (c .before .before .before .before .before .before .before .before .before .before .before .before .before .before .before .before .before .before .before .before .args .s .now) 1) d) (λ (d : List ℕ). machine.fetch (c .before .before .before .before .before .before .before .before .before .before .before .before .before .before .before .before .before .before .before .before .args .k) d) (c .before .before .before .before .before .before .before .before .before .before .before .before .before .before .before .before .before .before .before .before .pre .of-kind) refl (λ d. refl) (c .before .before .before .before .before .before .before .before .before .before .before .before .before .before .before .number-at .ensures) (omega (arith, c .before .before .before .before .before .before .before .before .before .before .before .before .before .before .if2 .left, c .before .before .before .before .before .before .before .before .before .before .before .before .before .before .before .number-at .ensures, c .before .before .before .before .before .before .before .before .before .before .before .before .before .before .before .before .if1 .left)) _ _ _ _ (omega (arith, c .before .before .before .before .before .before .before .before .before .before .before .before .before .if3 .left, c .before .before .before .before .before .before .before .before .before .before .before .before .before .before .before .before .before .before .before .before .pre .room)) (ap {B = List ℕ → Call} (λ (x : ℕ) (d : List ℕ). machine.fetch x d) (c .before .before .before .before .before .before .before .before .before .before .before .before .before .before .before .before .before .before .before .before .pre .number)) (c .before .before .before .before .before .before .before .before .before .before .copy .ensures) (c .before .before .before .before .before .before .fetch .ensures) (c .before .before .answered .ensures .0)
+unfolding kinds outputOf
+returns-4 c = ap (leaves _ _) (c .before .before .answered .ensures .1) ∙ turn-output _ (c .before .before .before .before .before .before .before .before .before .before .before .before .before .before .before .before .before .before .before .before .args .s .now) (c .before .before .before .before .before .before .before .before .before .before .before .before .before .before .before .before .before .before .before .before .args .log .now) 8 9 _ (λ (d : List ℕ). call.fetch (numberAt (c .before .before .before .before .before .before .before .before .before .before .before .before .before .before .before .before .before .before .before .before .args .s .now) 1) d) (λ (d : List ℕ). call.fetch (c .before .before .before .before .before .before .before .before .before .before .before .before .before .before .before .before .before .before .before .before .args .k) d) (c .before .before .before .before .before .before .before .before .before .before .before .before .before .before .before .before .before .before .before .before .pre .of-kind) refl (λ d. refl) (c .before .before .before .before .before .before .before .before .before .before .before .before .before .before .before .number-at .ensures) (omega (arith, c .before .before .before .before .before .before .before .before .before .before .before .before .before .before .if2 .left, c .before .before .before .before .before .before .before .before .before .before .before .before .before .before .before .number-at .ensures, c .before .before .before .before .before .before .before .before .before .before .before .before .before .before .before .before .if1 .left)) _ _ _ _ (omega (arith, c .before .before .before .before .before .before .before .before .before .before .before .before .before .if3 .left, c .before .before .before .before .before .before .before .before .before .before .before .before .before .before .before .before .before .before .before .before .pre .room)) (ap {B = List ℕ → Call} (λ (x : ℕ) (d : List ℕ). call.fetch x d) (c .before .before .before .before .before .before .before .before .before .before .before .before .before .before .before .before .before .before .before .before .pre .number)) (c .before .before .before .before .before .before .before .before .before .before .copy .ensures) (c .before .before .before .before .before .before .fetch .ensures) (c .before .before .answered .ensures .0)
 
 pub fetch-spec : {M : Type 1} → statement M
 fetch-spec =

@@ -1,8 +1,8 @@
 use native.Mathlib.Omega.{arith}
 use Rattle.script.proofs.Driver.{turn-cut, output-full, turn-output}
 use mathlib.Core.Path.{refl, ap, _∙_}
-use Rattle.format.specs.Machine as machine
-use Rattle.format.specs.Machine.{lent}
+use Rattle.format.specs.Calls as call
+use Rattle.format.specs.Calls.{outputOf}
 use Rattle.script.specs.Script.{kinds}
 use Rattle.list.specs.Counts.{leaves}
 use borrow.Author.Needs.{needs}
@@ -32,8 +32,8 @@ idle-requires-2 c κs = search needs
 
 -- src/lib.rt:132:9
 returns-2 : tie.Need-returns-2
-unfolding kinds lent
-returns-2 c = ap (leaves _ _) (c .idle2 .ensures) ∙ output-full _ (c .before .before .before .before .before .before .args .s .now) _ 11 1 _ (machine.fetchText) (machine.fetchText) (c .before .before .before .before .before .before .pre .of-kind) refl (λ d. refl) (c .before .before .before .before .before .before .pre .number) (omega (arith, c .before .before .if1 .left, c .before .before .before .before .before .before .pre .number, c .before .before .before .before .before .before .pre .nine)) (omega (arith, c .before .if2 .taken, c .before .before .before .before .before .before .pre .room))
+unfolding kinds outputOf
+returns-2 c = ap (leaves _ _) (c .idle2 .ensures) ∙ output-full _ (c .before .before .before .before .before .before .args .s .now) _ 11 1 _ (call.fetchText) (call.fetchText) (c .before .before .before .before .before .before .pre .of-kind) refl (λ d. refl) (c .before .before .before .before .before .before .pre .number) (omega (arith, c .before .before .if1 .left, c .before .before .before .before .before .before .pre .number, c .before .before .before .before .before .before .pre .nine)) (omega (arith, c .before .if2 .taken, c .before .before .before .before .before .before .pre .room))
 
 -- src/lib.rt:134:13
 add-e : tie.Need-add-e
@@ -97,8 +97,8 @@ same-length c = search needs
 
 -- src/lib.rt:124:1
 returns-3 : tie.Need-returns-3
-unfolding kinds lent
-returns-3 c = ap (leaves _ _) (c .before .before .answered .ensures .1) ∙ turn-output _ (c .before .before .before .before .before .before .before .before .before .before .before .before .before .before .before .before .before .before .args .s .now) (c .before .before .before .before .before .before .before .before .before .before .before .before .before .before .before .before .before .before .args .log .now) 11 1 _ (machine.fetchText) (machine.fetchText) (c .before .before .before .before .before .before .before .before .before .before .before .before .before .before .before .before .before .before .pre .of-kind) refl (λ d. refl) (c .before .before .before .before .before .before .before .before .before .before .before .before .before .before .before .before .before .before .pre .number) (omega (arith, c .before .before .before .before .before .before .before .before .before .before .before .before .before .before .if1 .left, c .before .before .before .before .before .before .before .before .before .before .before .before .before .before .before .before .before .before .pre .number, c .before .before .before .before .before .before .before .before .before .before .before .before .before .before .before .before .before .before .pre .nine)) _ _ _ _ (omega (arith, c .before .before .before .before .before .before .before .before .before .before .before .before .before .if2 .left, c .before .before .before .before .before .before .before .before .before .before .before .before .before .before .before .before .before .before .pre .room)) (refl) (c .before .before .before .before .before .before .before .before .before .before .copy .ensures) (c .before .before .before .before .before .before .fetch-text .ensures) (c .before .before .answered .ensures .0)
+unfolding kinds outputOf
+returns-3 c = ap (leaves _ _) (c .before .before .answered .ensures .1) ∙ turn-output _ (c .before .before .before .before .before .before .before .before .before .before .before .before .before .before .before .before .before .before .args .s .now) (c .before .before .before .before .before .before .before .before .before .before .before .before .before .before .before .before .before .before .args .log .now) 11 1 _ (call.fetchText) (call.fetchText) (c .before .before .before .before .before .before .before .before .before .before .before .before .before .before .before .before .before .before .pre .of-kind) refl (λ d. refl) (c .before .before .before .before .before .before .before .before .before .before .before .before .before .before .before .before .before .before .pre .number) (omega (arith, c .before .before .before .before .before .before .before .before .before .before .before .before .before .before .if1 .left, c .before .before .before .before .before .before .before .before .before .before .before .before .before .before .before .before .before .before .pre .number, c .before .before .before .before .before .before .before .before .before .before .before .before .before .before .before .before .before .before .pre .nine)) _ _ _ _ (omega (arith, c .before .before .before .before .before .before .before .before .before .before .before .before .before .if2 .left, c .before .before .before .before .before .before .before .before .before .before .before .before .before .before .before .before .before .before .pre .room)) (refl) (c .before .before .before .before .before .before .before .before .before .before .copy .ensures) (c .before .before .before .before .before .before .fetch-text .ensures) (c .before .before .answered .ensures .0)
 
 pub fetch-text-spec : {M : Type 1} → statement M
 fetch-text-spec =

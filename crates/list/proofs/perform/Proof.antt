@@ -1,6 +1,6 @@
 use mathlib.Core.Path.{refl, ap, _∙_}
-use Rattle.format.specs.Machine as machine
-use Rattle.format.specs.Machine.{lent}
+use Rattle.format.specs.Calls as call
+use Rattle.format.specs.Calls.{outputOf}
 use Rattle.script.specs.Script.{kinds}
 use Rattle.script.proofs.Scripts.{turn-idle, next-none}
 use Rattle.script.proofs.Driver.{next-short, next-cramped, turn-plain, entry-rest}
@@ -111,8 +111,8 @@ same-length-2 c = search needs
 
 -- src/lib.rt:144:1
 returns-3 : tie.Need-returns-3
-unfolding kinds lent
-returns-3 c = ap (leaves _ _) (c .before .before .answered .ensures .1) ∙ turn-plain _ (c .before .before .before .before .before .before .before .before .before .before .before .before .before .before .args .s .now) _ 1 _ _ _ _ _ _ _ (c .before .before .before .before .before .before .match .keys1) refl refl (c .before .before .before .before .read-field .ensures) (c .before .before .answered .ensures .0) (ap machine.readField (c .before .before .before .before .before .before .before .before .number-at .ensures)) (refl) (c .before .before .before .before .before .before .before .before .before .before .if1 .left) (c .before .before .before .before .before .before .before .before .before .if2 .left)
+unfolding kinds outputOf
+returns-3 c = ap (leaves _ _) (c .before .before .answered .ensures .1) ∙ turn-plain _ (c .before .before .before .before .before .before .before .before .before .before .before .before .before .before .args .s .now) _ 1 _ _ _ _ _ _ _ (c .before .before .before .before .before .before .match .keys1) refl refl (c .before .before .before .before .read-field .ensures) (c .before .before .answered .ensures .0) (ap call.readField (c .before .before .before .before .before .before .before .before .number-at .ensures)) (refl) (c .before .before .before .before .before .before .before .before .before .before .if1 .left) (c .before .before .before .before .before .before .before .before .before .if2 .left)
 
 -- src/lib.rt:144:1
 same-length-3 : tie.Need-same-length-3
@@ -136,8 +136,8 @@ same-length-6 c = search needs
 
 -- src/lib.rt:144:1
 returns-5 : tie.Need-returns-5
-unfolding kinds lent
-returns-5 c = ap (leaves _ _) (c .before .before .answered2 .ensures .1) ∙ turn-plain _ (c .before .before .before .before .before .before .before .before .before .before .before .before .before .before .before .before .args .s .now) _ 3 _ _ _ _ _ _ _ (c .before .before .before .before .before .before .before .before .match .keys3) refl refl (c .before .before .before .before .before .before .clear-field .ensures) (c .before .before .answered2 .ensures .0) (ap machine.clearField (c .before .before .before .before .before .before .before .before .before .before .number-at .ensures)) (refl) (c .before .before .before .before .before .before .before .before .before .before .before .before .if1 .left) (c .before .before .before .before .before .before .before .before .before .before .before .if2 .left)
+unfolding kinds outputOf
+returns-5 c = ap (leaves _ _) (c .before .before .answered2 .ensures .1) ∙ turn-plain _ (c .before .before .before .before .before .before .before .before .before .before .before .before .before .before .before .before .args .s .now) _ 3 _ _ _ _ _ _ _ (c .before .before .before .before .before .before .before .before .match .keys3) refl refl (c .before .before .before .before .before .before .clear-field .ensures) (c .before .before .answered2 .ensures .0) (ap call.clearField (c .before .before .before .before .before .before .before .before .before .before .number-at .ensures)) (refl) (c .before .before .before .before .before .before .before .before .before .before .before .before .if1 .left) (c .before .before .before .before .before .before .before .before .before .before .before .if2 .left)
 
 -- src/lib.rt:144:1
 same-length-7 : tie.Need-same-length-7
@@ -149,8 +149,8 @@ same-length-8 c = search needs
 
 -- src/lib.rt:144:1
 returns-6 : tie.Need-returns-6
-unfolding kinds lent
-returns-6 c = ap (leaves _ _) (c .before .before .answered3 .ensures .1) ∙ turn-plain _ (c .before .before .before .before .before .before .before .before .before .before .before .before .before .before .args .s .now) _ 4 _ _ _ _ _ _ _ (c .before .before .before .before .before .before .match .keys4) refl refl (c .before .before .before .before .read-flag .ensures) (c .before .before .answered3 .ensures .0) (ap machine.readFlag (c .before .before .before .before .before .before .before .before .number-at .ensures)) (refl) (c .before .before .before .before .before .before .before .before .before .before .if1 .left) (c .before .before .before .before .before .before .before .before .before .if2 .left)
+unfolding kinds outputOf
+returns-6 c = ap (leaves _ _) (c .before .before .answered3 .ensures .1) ∙ turn-plain _ (c .before .before .before .before .before .before .before .before .before .before .before .before .before .before .args .s .now) _ 4 _ _ _ _ _ _ _ (c .before .before .before .before .before .before .match .keys4) refl refl (c .before .before .before .before .read-flag .ensures) (c .before .before .answered3 .ensures .0) (ap call.readFlag (c .before .before .before .before .before .before .before .before .number-at .ensures)) (refl) (c .before .before .before .before .before .before .before .before .before .before .if1 .left) (c .before .before .before .before .before .before .before .before .before .if2 .left)
 
 -- src/lib.rt:144:1
 same-length-9 : tie.Need-same-length-9
@@ -174,8 +174,8 @@ same-length-12 c = search needs
 
 -- src/lib.rt:144:1
 returns-8 : tie.Need-returns-8
-unfolding kinds lent
-returns-8 c = ap (leaves _ _) (c .before .before .answered4 .ensures .1) ∙ turn-plain _ (c .before .before .before .before .before .before .before .before .before .before .before .before .before .before .before .before .args .s .now) _ 6 _ _ _ _ _ _ _ (c .before .before .before .before .before .before .before .before .match .keys6) refl refl (c .before .before .before .before .before .before .clear-flag .ensures) (c .before .before .answered4 .ensures .0) (ap machine.clearFlag (c .before .before .before .before .before .before .before .before .before .before .number-at .ensures)) (refl) (c .before .before .before .before .before .before .before .before .before .before .before .before .if1 .left) (c .before .before .before .before .before .before .before .before .before .before .before .if2 .left)
+unfolding kinds outputOf
+returns-8 c = ap (leaves _ _) (c .before .before .answered4 .ensures .1) ∙ turn-plain _ (c .before .before .before .before .before .before .before .before .before .before .before .before .before .before .before .before .args .s .now) _ 6 _ _ _ _ _ _ _ (c .before .before .before .before .before .before .before .before .match .keys6) refl refl (c .before .before .before .before .before .before .clear-flag .ensures) (c .before .before .answered4 .ensures .0) (ap call.clearFlag (c .before .before .before .before .before .before .before .before .before .before .number-at .ensures)) (refl) (c .before .before .before .before .before .before .before .before .before .before .before .before .if1 .left) (c .before .before .before .before .before .before .before .before .before .before .before .if2 .left)
 
 -- src/lib.rt:144:1
 same-length-13 : tie.Need-same-length-13
@@ -211,8 +211,8 @@ same-length-18 c = search needs
 
 -- src/lib.rt:144:1
 returns-11 : tie.Need-returns-11
-unfolding kinds lent
-returns-11 c = ap (leaves _ _) (c .before .before .answered5 .ensures .1) ∙ turn-plain _ (c .before .before .before .before .before .before .before .before .before .before .before .before .before .before .before .before .args .s .now) _ 9 _ _ _ _ _ _ _ (c .before .before .before .before .before .before .before .before .match .keys9) refl refl (c .before .before .before .before .before .before .remove .ensures) (c .before .before .answered5 .ensures .0) (ap machine.remove (c .before .before .before .before .before .before .before .before .before .before .number-at .ensures)) (refl) (c .before .before .before .before .before .before .before .before .before .before .before .before .if1 .left) (c .before .before .before .before .before .before .before .before .before .before .before .if2 .left)
+unfolding kinds outputOf
+returns-11 c = ap (leaves _ _) (c .before .before .answered5 .ensures .1) ∙ turn-plain _ (c .before .before .before .before .before .before .before .before .before .before .before .before .before .before .before .before .args .s .now) _ 9 _ _ _ _ _ _ _ (c .before .before .before .before .before .before .before .before .match .keys9) refl refl (c .before .before .before .before .before .before .remove .ensures) (c .before .before .answered5 .ensures .0) (ap call.remove (c .before .before .before .before .before .before .before .before .before .before .number-at .ensures)) (refl) (c .before .before .before .before .before .before .before .before .before .before .before .before .if1 .left) (c .before .before .before .before .before .before .before .before .before .before .before .if2 .left)
 
 -- src/lib.rt:144:1
 same-length-19 : tie.Need-same-length-19

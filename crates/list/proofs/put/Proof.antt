@@ -2,8 +2,8 @@ use Prim.Native.Nat.{ℕ, _+_}
 use native.Mathlib.Omega.{arith}
 use Rattle.script.proofs.Driver.{turn-cut, turn-plain, part-counted}
 use mathlib.Core.Path.{refl, ap, ap₂, _∙_}
-use Rattle.format.specs.Machine as machine
-use Rattle.format.specs.Machine.{lent}
+use Rattle.format.specs.Calls as call
+use Rattle.format.specs.Calls.{outputOf}
 use Rattle.script.specs.Script.{kinds}
 use Rattle.list.specs.Counts.{leaves}
 use borrow.Author.Needs.{needs}
@@ -70,8 +70,8 @@ same-length-2 c = search needs
 
 -- src/lib.rt:72:1
 returns-3 : tie.Need-returns-3
-unfolding kinds lent
-returns-3 c = ap (leaves _ _) (c .before .before .answered .ensures .1) ∙ turn-plain _ (c .before .before .before .before .before .before .before .before .before .before .before .before .before .before .before .args .s .now) _ 7 _ _ _ _ _ _ _ (c .before .before .before .before .before .before .before .before .before .before .before .before .before .before .before .pre .of-kind) refl refl (c .before .before .before .before .before .before .put .ensures) (c .before .before .answered .ensures .0) (ap₂ machine.put (c .before .before .before .before .before .before .before .before .before .before .before .before .before .before .before .pre .number) (part-counted (c .before .before .before .before .before .before .before .before .before .before .before .before .before .before .before .args .s .now) 9 _ (c .before .before .before .before .before .before .before .before .before .before .number-at .ensures))) (ap (λ (n : ℕ). 17 + n) (c .before .before .before .before .before .before .before .before .before .before .number-at .ensures)) (omega (arith, c .before .before .before .before .before .before .before .before .before .if2 .left, c .before .before .before .before .before .before .before .before .before .before .number-at .ensures, c .before .before .before .before .before .before .before .before .before .before .before .if1 .left)) (c .before .before .before .before .before .before .before .before .before .before .before .before .before .before .before .pre .room)
+unfolding kinds outputOf
+returns-3 c = ap (leaves _ _) (c .before .before .answered .ensures .1) ∙ turn-plain _ (c .before .before .before .before .before .before .before .before .before .before .before .before .before .before .before .args .s .now) _ 7 _ _ _ _ _ _ _ (c .before .before .before .before .before .before .before .before .before .before .before .before .before .before .before .pre .of-kind) refl refl (c .before .before .before .before .before .before .put .ensures) (c .before .before .answered .ensures .0) (ap₂ call.put (c .before .before .before .before .before .before .before .before .before .before .before .before .before .before .before .pre .number) (part-counted (c .before .before .before .before .before .before .before .before .before .before .before .before .before .before .before .args .s .now) 9 _ (c .before .before .before .before .before .before .before .before .before .before .number-at .ensures))) (ap (λ (n : ℕ). 17 + n) (c .before .before .before .before .before .before .before .before .before .before .number-at .ensures)) (omega (arith, c .before .before .before .before .before .before .before .before .before .if2 .left, c .before .before .before .before .before .before .before .before .before .before .number-at .ensures, c .before .before .before .before .before .before .before .before .before .before .before .if1 .left)) (c .before .before .before .before .before .before .before .before .before .before .before .before .before .before .before .pre .room)
 
 pub put-spec : {M : Type 1} → statement M
 put-spec =

@@ -2,8 +2,8 @@ use Prim.Native.Nat.{ℕ, _+_}
 use native.Mathlib.Omega.{arith}
 use Rattle.script.proofs.Driver.{turn-cut, turn-plain, part-counted}
 use mathlib.Core.Path.{refl, ap, _∙_}
-use Rattle.format.specs.Machine as machine
-use Rattle.format.specs.Machine.{lent}
+use Rattle.format.specs.Calls as call
+use Rattle.format.specs.Calls.{outputOf}
 use Rattle.script.specs.Script.{kinds}
 use Rattle.list.specs.Counts.{leaves}
 use borrow.Author.Needs.{needs}
@@ -57,8 +57,8 @@ same-length-2 c = search needs
 
 -- src/lib.rt:89:1
 returns-2 : tie.Need-returns-2
-unfolding kinds lent
-returns-2 c = ap (leaves _ _) (c .before .before .answered .ensures .1) ∙ turn-plain _ (c .before .before .before .before .before .before .before .before .before .before .before .before .before .args .s .now) _ 10 _ _ _ _ _ _ _ (c .before .before .before .before .before .before .before .before .before .before .before .before .before .pre .of-kind) refl refl (c .before .before .before .before .before .before .put-text .ensures) (c .before .before .answered .ensures .0) (ap machine.putText (part-counted (c .before .before .before .before .before .before .before .before .before .before .before .before .before .args .s .now) 1 _ (c .before .before .before .before .before .before .before .before .before .before .before .before .before .pre .number))) (ap (λ (n : ℕ). 9 + n) (c .before .before .before .before .before .before .before .before .before .before .before .before .before .pre .number)) (omega (arith, c .before .before .before .before .before .before .before .before .before .if1 .left, c .before .before .before .before .before .before .before .before .before .before .before .before .before .pre .number, c .before .before .before .before .before .before .before .before .before .before .before .before .before .pre .nine)) (c .before .before .before .before .before .before .before .before .before .before .before .before .before .pre .room)
+unfolding kinds outputOf
+returns-2 c = ap (leaves _ _) (c .before .before .answered .ensures .1) ∙ turn-plain _ (c .before .before .before .before .before .before .before .before .before .before .before .before .before .args .s .now) _ 10 _ _ _ _ _ _ _ (c .before .before .before .before .before .before .before .before .before .before .before .before .before .pre .of-kind) refl refl (c .before .before .before .before .before .before .put-text .ensures) (c .before .before .answered .ensures .0) (ap call.putText (part-counted (c .before .before .before .before .before .before .before .before .before .before .before .before .before .args .s .now) 1 _ (c .before .before .before .before .before .before .before .before .before .before .before .before .before .pre .number))) (ap (λ (n : ℕ). 9 + n) (c .before .before .before .before .before .before .before .before .before .before .before .before .before .pre .number)) (omega (arith, c .before .before .before .before .before .before .before .before .before .if1 .left, c .before .before .before .before .before .before .before .before .before .before .before .before .before .pre .number, c .before .before .before .before .before .before .before .before .before .before .before .before .before .pre .nine)) (c .before .before .before .before .before .before .before .before .before .before .before .before .before .pre .room)
 
 pub put-text-spec : {M : Type 1} → statement M
 put-text-spec =

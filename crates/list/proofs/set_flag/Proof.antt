@@ -1,7 +1,7 @@
 use Rattle.script.proofs.Driver.{turn-cut, turn-plain}
 use mathlib.Core.Path.{refl, ap, ap₂, _∙_}
-use Rattle.format.specs.Machine as machine
-use Rattle.format.specs.Machine.{lent}
+use Rattle.format.specs.Calls as call
+use Rattle.format.specs.Calls.{outputOf}
 use Rattle.script.specs.Script.{kinds}
 use Rattle.list.specs.Counts.{leaves}
 use borrow.Author.Needs.{needs}
@@ -39,8 +39,8 @@ same-length-2 c = search needs
 
 -- src/lib.rt:59:1
 returns-2 : tie.Need-returns-2
-unfolding kinds lent
-returns-2 c = ap (leaves _ _) (c .before .before .answered .ensures .1) ∙ turn-plain _ (c .before .before .before .before .before .before .before .before .before .before .before .before .before .args .s .now) _ 5 _ _ _ _ _ _ _ (c .before .before .before .before .before .before .before .before .before .before .before .before .before .pre .of-kind) refl refl (c .before .before .before .before .before .before .set-flag .ensures) (c .before .before .answered .ensures .0) (ap₂ machine.setFlag (c .before .before .before .before .before .before .before .before .before .before .before .before .before .pre .number) (c .before .before .before .before .before .before .before .before .number-at .ensures)) (refl) (c .before .before .before .before .before .before .before .before .before .if1 .left) (c .before .before .before .before .before .before .before .before .before .before .before .before .before .pre .room)
+unfolding kinds outputOf
+returns-2 c = ap (leaves _ _) (c .before .before .answered .ensures .1) ∙ turn-plain _ (c .before .before .before .before .before .before .before .before .before .before .before .before .before .args .s .now) _ 5 _ _ _ _ _ _ _ (c .before .before .before .before .before .before .before .before .before .before .before .before .before .pre .of-kind) refl refl (c .before .before .before .before .before .before .set-flag .ensures) (c .before .before .answered .ensures .0) (ap₂ call.setFlag (c .before .before .before .before .before .before .before .before .before .before .before .before .before .pre .number) (c .before .before .before .before .before .before .before .before .number-at .ensures)) (refl) (c .before .before .before .before .before .before .before .before .before .if1 .left) (c .before .before .before .before .before .before .before .before .before .before .before .before .before .pre .room)
 
 pub set-flag-spec : {M : Type 1} → statement M
 set-flag-spec =

@@ -8,7 +8,7 @@ use lib.ListN.{length}
 use lib.Seq.{length-take-le}
 use borrow.Author.Needs.{needs}
 use Rattle.format.specs.Lister.{listing}
-use Rattle.format.specs.Machine.{over}
+use Rattle.format.specs.Calls.{over}
 use Rattle.listing.proofs.Lines.{listing-short}
 use Rattle.listing.proofs.list.Statement.{statement}
 use Rattle.listing.proofs.list.Tie as tie

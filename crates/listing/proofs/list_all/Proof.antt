@@ -46,8 +46,8 @@ enum-known-i-2 c = search needs
 checksum-requires : tie.Need-checksum-requires
 checksum-requires c κs = fine-long (c .before .before .before .before .before .before .before .args .s .now) _ (c .before .before .before .before .inspect .ensures) _ (c .before .before .i2 .given .1)
 
-put-sheet-requires : tie.Need-put-sheet-requires
-put-sheet-requires c κs = (fine-long (c .before .before .before .before .before .before .before .before .args .s .now) _ (c .before .before .before .before .before .inspect .ensures) _ (c .before .before .before .i2 .given .1), omega (arith, c .before .before .before .before .before .before .before .before .pre, fine c))
+put-observation-requires : tie.Need-put-observation-requires
+put-observation-requires c κs = (fine-long (c .before .before .before .before .before .before .before .before .args .s .now) _ (c .before .before .before .before .before .inspect .ensures) _ (c .before .before .before .i2 .given .1), omega (arith, c .before .before .before .before .before .before .before .before .pre, fine c))
 
 same-length : tie.Need-same-length
 same-length c = search needs
@@ -62,7 +62,7 @@ same-length-2 c = search needs
 
 returns-2 : tie.Need-returns-2
 returns-2 c =
-    puts-over (c .before .before .before .before .before .before .before .before .before .before .before .args .out .now) _ 0 _ _ (c .before .before .put-sheet .ensures) refl (omega (arith, c .before .before .before .before .before .before .before .before .before .before .before .pre, fine (c .before .before .before))) _
+    puts-over (c .before .before .before .before .before .before .before .before .before .before .before .args .out .now) _ 0 _ _ (c .before .before .put-observation .ensures) refl (omega (arith, c .before .before .before .before .before .before .before .before .before .before .before .pre, fine (c .before .before .before))) _
     (fine-lists (c .before .before .before .before .before .before .before .before .before .before .before .args .s .now) _ (c .before .before .before .before .before .before .before .before .inspect .ensures) _ (c .before .before .before .before .before .before .i2 .given .1) _ (c .before .before .before .checksum .ensures .0))
 
 pub list-all-spec : {M : Type 1} → statement M
@@ -75,7 +75,7 @@ list-all-spec =
     put-refusal-requires
     enum-known-i-2
     checksum-requires
-    put-sheet-requires
+    put-observation-requires
     same-length
     returns
     same-length-2

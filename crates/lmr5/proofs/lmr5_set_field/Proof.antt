@@ -5,7 +5,7 @@ use lib.IntN.{ℤ}
 use mir.Syntax.{w64}
 use mir.ValLaws.{toZ-ofZ}
 use Rattle.format.specs.Field.{scaled}
-use Rattle.format.specs.Machine.{setField}
+use Rattle.format.specs.Calls.{setField}
 use Rattle.format.specs.Buffer.{effect}
 use Rattle.lmr5.proofs.Bounds.{call-counts}
 use Rattle.lmr5.proofs.Calls.{call-numbered}

@@ -7,7 +7,7 @@ use mathlib.Core.List.{List}
 use lib.ListN.{length, drop}
 use lib.Dec.{leb}
 use denote.Ref.{now}
-use Rattle.format.specs.Machine.{allNibbles}
+use Rattle.format.specs.Calls.{allNibbles}
 use Rattle.nibble.proofs.View.{nibble-next, nibbles-end}
 use borrow.Author.Needs.{needs}
 use native.Mathlib.Omega.{arith}

@@ -1,7 +1,7 @@
 -- `puts::put_found` meets its contract.
 -- Assumes nothing.
 use mathlib.Core.Path.{refl, sym, _∙_}
-use Rattle.format.specs.Machine.{put, lent, callChecks}
+use Rattle.format.specs.Calls.{put, outputOf, callChecks}
 use Rattle.calls.proofs.Found.{id-low, id-high}
 use Rattle.puts.proofs.Puts.{put-short, put-long, put-invalid, put-fineAt, put-effect}
 use borrow.Author.Needs.{needs}
@@ -9,11 +9,11 @@ use Rattle.puts.proofs.put_found.Statement.{statement}
 use Rattle.puts.proofs.put_found.Tie as tie
 
 returns : tie.Need-returns
-unfolding callChecks lent
+unfolding callChecks outputOf
 returns c = id-low (λ j. c .before .before .slice-known .given j .fits) (c .before .before .before .pre) (put (c .before .before .before .args .id) (c .before .before .before .args .content .now)) _ refl (c .if1 .taken)
 
 returns-2 : tie.Need-returns-2
-unfolding callChecks lent
+unfolding callChecks outputOf
 returns-2 c = id-high (λ j. c .before .before .before .slice-known .given j .fits) (c .before .before .before .before .pre) (put (c .before .before .before .before .args .id) (c .before .before .before .before .args .content .now)) _ refl (c .if2 .taken)
 
 returns-3 : tie.Need-returns-3

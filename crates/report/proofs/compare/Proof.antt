@@ -1,6 +1,6 @@
 -- `report::compare` meets its contract.
 -- Assumes nothing.
-use Rattle.report.proofs.Sheets.{reaches, sizes-differ, bytes-same, bytes-differ}
+use Rattle.report.proofs.Observations.{reaches, sizes-differ, bytes-same, bytes-differ}
 use Rattle.report.proofs.compare.Statement.{statement}
 use Rattle.report.proofs.compare.Tie as tie
 

@@ -1,7 +1,7 @@
 -- `report::compare_second` meets its contract.
 -- Assumes nothing.
 use mathlib.Core.Path.{sym, _∙_}
-use Rattle.report.proofs.Sheets.{second-refused}
+use Rattle.report.proofs.Observations.{second-refused}
 use borrow.Author.Needs.{needs}
 use Rattle.report.proofs.compare_second.Statement.{statement}
 use Rattle.report.proofs.compare_second.Tie as tie

@@ -2,7 +2,7 @@
 -- Assumes nothing.
 use mathlib.Core.Path.{refl}
 use Rattle.report.proofs.Outcomes.{front-refused, card-alone, judged-refused, judged-fine}
-use Rattle.report.proofs.Sheets.{sizes}
+use Rattle.report.proofs.Observations.{sizes}
 use native.Mathlib.Omega.{arith}
 use borrow.Author.Needs.{needs}
 use Rattle.report.proofs.judge.Statement.{statement}

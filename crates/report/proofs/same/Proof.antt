@@ -1,7 +1,7 @@
 -- `report::same` meets its contract.
 -- Assumes nothing.
 use mathlib.Core.Path.{sym, _∙_}
-use Rattle.report.proofs.Sheets.{first-refused}
+use Rattle.report.proofs.Observations.{first-refused}
 use borrow.Author.Needs.{needs}
 use Rattle.report.proofs.same.Statement.{statement}
 use Rattle.report.proofs.same.Tie as tie

@@ -4,7 +4,7 @@ use Prim.Native.Nat.{_-_, _≤_}
 use mathlib.Core.Path.{_≡_, refl}
 use lib.ListN.{take}
 use denote.Ref.{now}
-use Rattle.report.proofs.Sheets.{front-other, front-more, front-same}
+use Rattle.report.proofs.Observations.{front-other, front-more, front-same}
 use borrow.Author.Needs.{needs}
 use native.Mathlib.Omega.{arith}
 use Rattle.report.proofs.same_front.Statement.{statement}

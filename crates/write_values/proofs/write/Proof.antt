@@ -5,7 +5,7 @@ use mathlib.Core.Path.{subst}
 use mathlib.Core.List.{List, [], _∷_, _++_}
 use denote.Ref.{now}
 use Rattle.format.specs.Report.{numbersOf}
-use Rattle.format.specs.Sheet.{checksum}
+use Rattle.format.specs.Observation.{checksum}
 use Rattle.card.specs.Answers.{Carded}
 use Rattle.card.proofs.Given.{carded-then}
 use Rattle.write_values.specs.Given.{given, fielded}

@@ -1,4 +1,4 @@
--- The sheet of the plain machine, and its packing.
+-- The observation of the plain machine, and its packing.
 use Prim.Native.Nat.{ℕ, _%_}
 use mathlib.Core.List.{List, [], _∷_, _++_, map}
 use mathlib.Core.Option.{Option}
@@ -9,13 +9,13 @@ use Rattle.format.specs.Nibbles.{Attachment, tailNibbles, padded, bytes}
 use Rattle.format.specs.declared.Scaled.{Scaled}
 
 -- "its sheet is RPTIN, 46 optional scaled values, and an ordered list of (id, nibbles)"; value k stands at place k - 1
-pub record Sheet : Type 0 where
+pub record Observation : Type 0 where
   pub rptin : ℕ
   pub values : List (Option Scaled)
   pub attachments : List Attachment
 
-abbrev pub sheet : ℕ → List (Option Scaled) → List Attachment → Sheet
-sheet rptin values attachments = record { rptin = rptin; values = values; attachments = attachments }
+abbrev pub observation : ℕ → List (Option Scaled) → List Attachment → Observation
+observation rptin values attachments = record { rptin = rptin; values = values; attachments = attachments }
 
 -- the bits of the card's 49 fields: RPTIN, fields 1 to 46, CK, AC
 unfoldable pub widths : List ℕ
@@ -25,18 +25,18 @@ widths = 16 ∷ (map (λ (f : Field). f .bits) table ++ (14 ∷ 4 ∷ []))
 unfoldable pub checksum : List ℕ → ℕ
 checksum cs = total cs % 255
 
--- the numbers on a sheet's card, "with CK and AC worked out"
-unfoldable pub cardNumbers : Sheet → List ℕ
+-- the numbers on an observation's card, "with CK and AC worked out"
+unfoldable pub cardNumbers : Observation → List ℕ
 cardNumbers s =
     s .rptin ∷ (codes table (s .values) ++ (checksum (codes table (s .values)) ∷ length (s .attachments) ∷ []))
 
 -- the card's 75 nibbles
-unfoldable pub cardNibbles : Sheet → List ℕ
+unfoldable pub cardNibbles : Observation → List ℕ
 cardNibbles s = readFields (replicate 75 4) (writeFields widths (cardNumbers s))
 
--- the packing of a sheet
-unfoldable pub packing : Sheet → List ℕ
+-- the packing of an observation
+unfoldable pub packing : Observation → List ℕ
 packing s = bytes (padded (cardNibbles s ++ tailNibbles (s .attachments)))
 
-abbrev pub size : Sheet → ℕ
+abbrev pub size : Observation → ℕ
 size s = length (packing s)

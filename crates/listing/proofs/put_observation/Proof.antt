@@ -1,4 +1,4 @@
--- `listing::put_sheet` meets its contract.
+-- `listing::put_observation` meets its contract.
 -- Assumes nothing.
 use Prim.Native.Nat.{ℕ}
 use mathlib.Core.List.{List, [], _∷_, _++_}
@@ -6,8 +6,8 @@ use borrow.Author.Needs.{needs}
 use Rattle.format.specs.Lister.{decimal, line}
 use Rattle.listing.specs.Lines.{Room, Puts, valueLines, totalLines}
 use Rattle.listing.proofs.Puts.{puts-append, room-front, room-behind}
-use Rattle.listing.proofs.put_sheet.Statement.{statement}
-use Rattle.listing.proofs.put_sheet.Tie as tie
+use Rattle.listing.proofs.put_observation.Statement.{statement}
+use Rattle.listing.proofs.put_observation.Tie as tie
 
 both : (ck ac : ℕ) (d o q : List ℕ) (at e f : ℕ) → Puts d o at (line (67 ∷ []) (decimal ck)) e → Puts o q e (line (65 ∷ []) (decimal ac)) f
     → Puts d q at (totalLines ck ac) f
@@ -39,7 +39,7 @@ returns c =
     puts-append (c .before .before .before .before .before .before .before .before .before .before .before .before .before .before .args .out .now) _ 0 (valueLines (c .before .before .before .before .before .before .before .before .before .before .before .before .before .before .args .s .now) 0) _ (c .before .before .before .before .before .before .before .before .before .before .put-fields .ensures) _ (totalLines (c .before .before .before .before .before .before .before .before .before .before .before .before .before .before .args .ck) (c .before .before .before .before .before .before .before .before .before .before .before .before .before .before .args .ac)) _
     (both (c .before .before .before .before .before .before .before .before .before .before .before .before .before .before .args .ck) (c .before .before .before .before .before .before .before .before .before .before .before .before .before .before .args .ac) _ _ _ _ _ _ (c .before .before .before .before .before .before .put-total .ensures) (c .before .before .put-total2 .ensures))
 
-pub put-sheet-spec : {M : Type 1} → statement M
-put-sheet-spec =
+pub put-observation-spec : {M : Type 1} → statement M
+put-observation-spec =
     tie.close
     (tie.spec put-fields-requires put-total-requires put-total-requires-2 same-length returns)

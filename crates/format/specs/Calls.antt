@@ -11,7 +11,7 @@ use Rattle.format.specs.Field.{fieldAt, isField, required, inRange}
 use Rattle.format.specs.Nibbles.{Attachment, attachment}
 use Rattle.format.specs.Flags.{isFlag, flagInRange, flagAt, withFlag}
 use Rattle.format.specs.ShipText.{writeText, readText}
-use Rattle.format.specs.Sheet.{Sheet, sheet, size}
+use Rattle.format.specs.Observation.{Observation, observation, size}
 use Rattle.format.specs.Report.{bodyValid}
 use Rattle.format.specs.declared.Scaled.{Scaled}
 
@@ -33,16 +33,16 @@ pub data Call : Type 0 where
   putText : List ℕ → Call
   fetchText : List ℕ → Call
 
--- ---- the sheet's parts
+-- ---- the observation's parts
 
-abbrev pub valueAt : Sheet → ℕ → Option Scaled
+abbrev pub valueAt : Observation → ℕ → Option Scaled
 valueAt s k = getD (s .values) (k - 1) none
 
-abbrev pub withValue : Sheet → ℕ → Option Scaled → Sheet
-withValue s k e = sheet (s .rptin) (set (s .values) (k - 1) e) (s .attachments)
+abbrev pub withValue : Observation → ℕ → Option Scaled → Observation
+withValue s k e = observation (s .rptin) (set (s .values) (k - 1) e) (s .attachments)
 
-abbrev pub withAttachments : Sheet → List Attachment → Sheet
-withAttachments s list = sheet (s .rptin) (s .values) list
+abbrev pub withAttachments : Observation → List Attachment → Observation
+withAttachments s list = observation (s .rptin) (s .values) list
 
 unfoldable pub stands : ℕ → List Attachment → Bool
 stands i [] = false
@@ -63,16 +63,16 @@ unfoldable pub removeFrom : ℕ → List Attachment → List Attachment
 removeFrom i [] = []
 removeFrom i (a ∷ more) = cond (eqb (a .id) i) more (a ∷ removeFrom i more)
 
-abbrev pub withContent : Sheet → ℕ → List ℕ → Sheet
+abbrev pub withContent : Observation → ℕ → List ℕ → Observation
 withContent s i ns = withAttachments s (putIn i ns (s .attachments))
 
-abbrev pub content : Sheet → ℕ → List ℕ
+abbrev pub content : Observation → ℕ → List ℕ
 content s i = contentOf i (s .attachments)
 
 -- ---- a step that is not refused
 
--- the sheet after it
-unfoldable pub next : Sheet → Call → Sheet
+-- the observation after it
+unfoldable pub next : Observation → Call → Observation
 next s (readField k) = s
 next s (setField k v) = withValue s k (some v)
 next s (clearField k) = withValue s k none
@@ -94,7 +94,7 @@ abbrev pub flagNumber : ℕ → Option ℤ
 flagNumber v = cond (eqb v 0) none (some (pos v))
 
 -- what it gives: numbers, each of which may be missing
-unfoldable pub gives : Sheet → Call → List (Option ℤ)
+unfoldable pub gives : Observation → Call → List (Option ℤ)
 gives s (readField k) = valueNumber (valueAt s k) ∷ []
 gives s (setField k v) = []
 gives s (clearField k) = []
@@ -108,20 +108,20 @@ gives s (putText t) = []
 gives s (fetchText out) = some (pos (length (readText (content s 4)))) ∷ []
 
 -- the output that it is lent, and what it writes there from the first byte on
-unfoldable pub lent : Call → List ℕ
-lent (readField k) = []
-lent (setField k v) = []
-lent (clearField k) = []
-lent (readFlag j) = []
-lent (setFlag j v) = []
-lent (clearFlag j) = []
-lent (put i ns) = []
-lent (fetch i out) = out
-lent (remove i) = []
-lent (putText t) = []
-lent (fetchText out) = out
+unfoldable pub outputOf : Call → List ℕ
+outputOf (readField k) = []
+outputOf (setField k v) = []
+outputOf (clearField k) = []
+outputOf (readFlag j) = []
+outputOf (setFlag j v) = []
+outputOf (clearFlag j) = []
+outputOf (put i ns) = []
+outputOf (fetch i out) = out
+outputOf (remove i) = []
+outputOf (putText t) = []
+outputOf (fetchText out) = out
 
-unfoldable pub writes : Sheet → Call → List ℕ
+unfoldable pub writes : Observation → Call → List ℕ
 writes s (readField k) = []
 writes s (setField k v) = []
 writes s (clearField k) = []
@@ -158,7 +158,7 @@ abbrev pub requiredCheck : ℕ → Check
 requiredCheck k = check (required k) 10 k
 
 -- 11: no such attachment
-abbrev pub standsCheck : Sheet → ℕ → Check
+abbrev pub standsCheck : Observation → ℕ → Check
 standsCheck s i = check (not (stands i (s .attachments))) 11 0
 
 -- 12: content of 0 or over 255 nibbles
@@ -174,11 +174,11 @@ abbrev pub contentCheck : ℕ → List ℕ → Check
 contentCheck i ns = check (not (allNibbles ns && bodyValid i ns)) 14 0
 
 -- 13: a lent buffer shorter than the new report, or the output
-abbrev pub roomCheck : ℕ → Sheet → Call → Check
-roomCheck n s c = check (ltb n (size (next s c)) || ltb (length (lent c)) (length (writes s c))) 13 0
+abbrev pub roomCheck : ℕ → Observation → Call → Check
+roomCheck n s c = check (ltb n (size (next s c)) || ltb (length (outputOf c)) (length (writes s c))) 13 0
 
 -- those of each call that may come before 13, "then 8, 9, 10, 11, 12, 14, 13"
-unfoldable pub callChecks : Sheet → Call → List Check
+unfoldable pub callChecks : Observation → Call → List Check
 callChecks s (readField k) = fieldNumberCheck k ∷ []
 callChecks s (setField k v) = fieldNumberCheck k ∷ valueCheck k v ∷ []
 callChecks s (clearField k) = fieldNumberCheck k ∷ requiredCheck k ∷ []
@@ -191,7 +191,7 @@ callChecks s (remove i) = idCheck i ∷ standsCheck s i ∷ []
 callChecks s (putText t) = lengthCheck (writeText t) ∷ contentCheck 4 (writeText t) ∷ []
 callChecks s (fetchText out) = standsCheck s 4 ∷ []
 
-unfoldable pub checks : ℕ → Sheet → Call → List Check
+unfoldable pub checks : ℕ → Observation → Call → List Check
 checks n s c = callChecks s c ++ (roomCheck n s c ∷ [])
 
 -- ---- a step, on a buffer of n bytes
@@ -201,19 +201,19 @@ pub data Answer : Type 0 where
   refused : Refusal → Answer
   accepted : List (Option ℤ) → Answer
 
--- the answer, the sheet after the step, and the bytes of the output after it
+-- the answer, the observation after the step, and the bytes of the output after it
 pub record Stepped : Type 0 where
   pub answer : Answer
-  pub sheet : Sheet
+  pub observation : Observation
   pub out : List ℕ
 
 -- the bytes of an output after these were written to its front
 abbrev pub over : {A : Type 0} → List A → List A → List A
 over xs out = xs ++ drop (length xs) out
 
-abbrev pub steppedBy : Option Refusal → Sheet → Call → Stepped
-steppedBy (some r) s c = record { answer = refused r; sheet = s; out = lent c }
-steppedBy none s c = record { answer = accepted (gives s c); sheet = next s c; out = over (writes s c) (lent c) }
+abbrev pub steppedBy : Option Refusal → Observation → Call → Stepped
+steppedBy (some r) s c = record { answer = refused r; observation = s; out = outputOf c }
+steppedBy none s c = record { answer = accepted (gives s c); observation = next s c; out = over (writes s c) (outputOf c) }
 
-unfoldable pub step : ℕ → Sheet → Call → Stepped
+unfoldable pub step : ℕ → Observation → Call → Stepped
 step n s c = steppedBy (first (checks n s c)) s c

@@ -1,4 +1,4 @@
--- Two reports, byte for byte and by their sheets.
+-- Two reports, byte for byte and by their observations.
 -- Assumes nothing.
 use Prim.Native.Nat.{ℕ, _+_, _≤_, _<_}
 use native.Mathlib.Omega.{arith}
@@ -8,7 +8,7 @@ use mathlib.Core.Bool.{true, false}
 use mathlib.Core.List.{List, [], _∷_, _++_}
 use lib.ListN.{length, getD, take, drop, length-append}
 use lib.Seq.{take-suc, getD-take}
-use Rattle.format.specs.Sheet.{Sheet, packing, size}
+use Rattle.format.specs.Observation.{Observation, packing, size}
 use Rattle.format.specs.Report.{Verdict, refused, accepted, judge}
 use Rattle.format.specs.Bits.{Bytes}
 use Rattle.laws.proofs.Report.{judged, size-range, reports-equal}
@@ -26,7 +26,7 @@ judged-refused (refused r) n p e =
     λ i. refused (record { number = a i; place = b i })
 judged-refused (accepted s) n p e = let z : _≡_ {A = ℕ} 0 1 = cc in absurd (omega arith)
 
-judged-accepted : (v : Verdict) (n : ℕ) → Judged.Accepted n ≡ judgedOf v → (s : Sheet) × (v ≡ accepted s) × (n ≡ size s)
+judged-accepted : (v : Verdict) (n : ℕ) → Judged.Accepted n ≡ judgedOf v → (s : Observation) × (v ≡ accepted s) × (n ≡ size s)
 judged-accepted (refused r) n e = let z : _≡_ {A = ℕ} 0 1 = cc in absurd (omega arith)
 judged-accepted (accepted s) n e = (s, refl, cc)
 
@@ -81,14 +81,14 @@ module _ (a b : List ℕ) where
   second-refused m n p ea eb = rw (judged-accepted (judge a) m ea .1, judged-refused (judge b) n p eb)
 
   module _ (ba : Bytes a) (bb : Bytes b) (m n : ℕ) (ea : Takes a m) (eb : Takes b n) where
-    -- the bytes are the same exactly when the sheets are
-    accepted-same : m ≡ n → take m a ≡ take m b → (s t : Sheet) → judge a ≡ accepted s → judge b ≡ accepted t → m ≡ size s → n ≡ size t
+    -- the bytes are the same exactly when the observations are
+    accepted-same : m ≡ n → take m a ≡ take m b → (s t : Observation) → judge a ≡ accepted s → judge b ≡ accepted t → m ≡ size s → n ≡ size t
         → bothCompared Compared.Same a b s t
     accepted-same r e s t js jt x y =
         let f : take (size s) a ≡ take (size t) b = ap (λ (k : ℕ). take k a) (sym x) ∙ e ∙ ap (λ (k : ℕ). take k b) (r ∙ y) in
         (f, reports-equal a b s t ba bb js jt .0 f)
 
-    accepted-differ : (s t : Sheet) → judge a ≡ accepted s → judge b ≡ accepted t → (s ≡ t → ⊥) → bothCompared Compared.Different a b s t
+    accepted-differ : (s t : Observation) → judge a ≡ accepted s → judge b ≡ accepted t → (s ≡ t → ⊥) → bothCompared Compared.Different a b s t
     accepted-differ s t js jt h = (λ e. h (reports-equal a b s t ba bb js jt .0 e), h)
 
     pub sizes-differ : (m ≡ n → ⊥) → comparison Compared.Different a b
