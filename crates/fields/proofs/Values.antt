@@ -32,7 +32,7 @@ use Rattle.laws.proofs.Order.{between-in, number-passes, first-nil, no-check}
 use Rattle.fields.specs.Accepted.{Accepted, replaced}
 
 -- the value of field k is the entry of its code
-pub value-is : (b : List ℕ) (k : ℕ) (c : Coded) → 1 ≤ k → k ≤ 46 → c .0 ≡ getD (codesOf b) (k - 1) 0 → valueAt (observationOf b) k ≡ entryOf (fieldAt k) c
+value-is : (b : List ℕ) (k : ℕ) (c : Coded) → 1 ≤ k → k ≤ 46 → c .0 ≡ getD (codesOf b) (k - 1) 0 → valueAt (observationOf b) k ≡ entryOf (fieldAt k) c
 unfolding observationOf
 value-is b k c l h e =
     let at : k - 1 + 1 ≡ k = omega arith in

@@ -7,7 +7,7 @@ use mathlib.Core.Path.{_≡_, refl, sym, ap, ap₂, _∙_}
 use mathlib.Core.Bool.{Bool, true, false, not}
 use mathlib.Core.List.{List, [], _∷_, _++_, append-assoc}
 use mathlib.Core.Option.{none}
-use lib.ListN.{length, getD, take, drop, set, length-append, length-set, length-drop, take-append-drop, List·getD-append}
+use lib.ListN.{length, getD, take, drop, set, length-append, length-set, length-drop, take-append-drop}
 use lib.Seq.{length-take-le, set-at, set-append-left, take-take, drop-drop, drop-cons, getD-drop, getD-take, drop-set-add, take-set-lt}
 use borrow.Author.Tests.{eq-eqb, ne-eqb, not-false, not-true}
 use Rattle.format.specs.Order.{first, between}
