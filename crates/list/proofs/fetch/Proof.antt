@@ -1,3 +1,5 @@
+-- `list::fetch` meets its contract.
+-- Assumes nothing.
 use Prim.Native.Nat.{ℕ}
 use mathlib.Core.List.{List}
 use native.Mathlib.Omega.{arith}
@@ -11,106 +13,81 @@ use borrow.Author.Needs.{needs}
 use Rattle.list.proofs.fetch.Statement.{statement}
 use Rattle.list.proofs.fetch.Tie as tie
 
--- src/lib.rt:107:9
 idle-requires : tie.Need-idle-requires
 idle-requires c κs = search needs
 
--- src/lib.rt:107:9
 returns : tie.Need-returns
 unfolding kinds
 returns c = ap (leaves _ _) (c .idle .ensures) ∙ turn-cut _ (c .before .before .before .before .before .args .s .now) _ 8 _ (c .before .before .before .before .before .pre .of-kind) refl (omega (arith, c .before .if1 .taken))
 
--- src/lib.rt:109:13
 number-at-requires : tie.Need-number-at-requires
 number-at-requires c κs = search needs
 
--- src/lib.rt:110:8
 sub-if2 : tie.Need-sub-if2
 sub-if2 c = search needs
 
--- src/lib.rt:111:9
 idle-requires-2 : tie.Need-idle-requires-2
 idle-requires-2 c κs = search needs
 
--- src/lib.rt:111:9
 returns-2 : tie.Need-returns-2
 unfolding kinds
 returns-2 c = ap (leaves _ _) (c .idle2 .ensures) ∙ turn-cut _ (c .before .before .before .before .before .before .before .args .s .now) _ 8 _ (c .before .before .before .before .before .before .before .pre .of-kind) refl (omega (arith, c .before .if2 .taken, c .before .before .number-at .ensures))
 
--- src/lib.rt:113:8
 sub-if3 : tie.Need-sub-if3
 sub-if3 c = search needs
 
--- src/lib.rt:114:9
 idle-requires-3 : tie.Need-idle-requires-3
 idle-requires-3 c κs = search needs
 
--- src/lib.rt:114:9
 returns-3 : tie.Need-returns-3
 unfolding kinds outputOf
 returns-3 c = ap (leaves _ _) (c .idle3 .ensures) ∙ output-full _ (c .before .before .before .before .before .before .before .before .args .s .now) _ 8 9 _ (λ (d : List ℕ). call.fetch (numberAt (c .before .before .before .before .before .before .before .before .args .s .now) 1) d) (λ (d : List ℕ). call.fetch (numberAt (c .before .before .before .before .before .before .before .before .args .s .now) 1) d) (c .before .before .before .before .before .before .before .before .pre .of-kind) refl (λ d. refl) (c .before .before .before .number-at .ensures) (omega (arith, c .before .before .if2 .left, c .before .before .before .number-at .ensures, c .before .before .before .before .if1 .left)) (omega (arith, c .before .if3 .taken, c .before .before .before .before .before .before .before .before .pre .room))
 
--- src/lib.rt:116:13
 add-e : tie.Need-add-e
 add-e c = search needs
 
--- src/lib.rt:117:14
 add-to : tie.Need-add-to
 add-to c = search needs
 
--- src/lib.rt:118:18
 sub-copy : tie.Need-sub-copy
 sub-copy c = search needs
 
--- src/lib.rt:118:18
 part-copy-start : tie.Need-part-copy-start
 part-copy-start c = search needs
 
--- src/lib.rt:118:18
 part-copy-end : tie.Need-part-copy-end
 part-copy-end c = search needs
 
--- src/lib.rt:118:29
 sub-copy-2 : tie.Need-sub-copy-2
 sub-copy-2 c = search needs
 
--- src/lib.rt:118:29
 part-copy-start-2 : tie.Need-part-copy-start-2
 part-copy-start-2 c = search needs
 
--- src/lib.rt:118:29
 part-copy-end-2 : tie.Need-part-copy-end-2
 part-copy-end-2 c = search needs
 
--- src/lib.rt:118:5
 copy-requires : tie.Need-copy-requires
 copy-requires c κs = search needs
 
--- src/lib.rt:119:38
 sub-fetch : tie.Need-sub-fetch
 sub-fetch c = search needs
 
--- src/lib.rt:119:38
 part-fetch-start : tie.Need-part-fetch-start
 part-fetch-start c = search needs
 
--- src/lib.rt:119:38
 part-fetch-end : tie.Need-part-fetch-end
 part-fetch-end c = search needs
 
--- src/lib.rt:119:9
 fetch-requires : tie.Need-fetch-requires
 fetch-requires c κs = search needs
 
--- src/lib.rt:120:5
 answered-requires : tie.Need-answered-requires
 answered-requires c κs = search needs
 
--- src/lib.rt:102:1
 same-length : tie.Need-same-length
 same-length c = search needs
 
--- src/lib.rt:102:1
 returns-4 : tie.Need-returns-4
 unfolding kinds outputOf
 returns-4 c = ap (leaves _ _) (c .before .before .answered .ensures .1) ∙ turn-output _ (c .before .before .before .before .before .before .before .before .before .before .before .before .before .before .before .before .before .before .before .before .args .s .now) (c .before .before .before .before .before .before .before .before .before .before .before .before .before .before .before .before .before .before .before .before .args .log .now) 8 9 _ (λ (d : List ℕ). call.fetch (numberAt (c .before .before .before .before .before .before .before .before .before .before .before .before .before .before .before .before .before .before .before .before .args .s .now) 1) d) (λ (d : List ℕ). call.fetch (c .before .before .before .before .before .before .before .before .before .before .before .before .before .before .before .before .before .before .before .before .args .k) d) (c .before .before .before .before .before .before .before .before .before .before .before .before .before .before .before .before .before .before .before .before .pre .of-kind) refl (λ d. refl) (c .before .before .before .before .before .before .before .before .before .before .before .before .before .before .before .number-at .ensures) (omega (arith, c .before .before .before .before .before .before .before .before .before .before .before .before .before .before .if2 .left, c .before .before .before .before .before .before .before .before .before .before .before .before .before .before .before .number-at .ensures, c .before .before .before .before .before .before .before .before .before .before .before .before .before .before .before .before .if1 .left)) _ _ _ _ (omega (arith, c .before .before .before .before .before .before .before .before .before .before .before .before .before .if3 .left, c .before .before .before .before .before .before .before .before .before .before .before .before .before .before .before .before .before .before .before .before .pre .room)) (ap {B = List ℕ → Call} (λ (x : ℕ) (d : List ℕ). call.fetch x d) (c .before .before .before .before .before .before .before .before .before .before .before .before .before .before .before .before .before .before .before .before .pre .number)) (c .before .before .before .before .before .before .before .before .before .before .copy .ensures) (c .before .before .before .before .before .before .fetch .ensures) (c .before .before .answered .ensures .0)

@@ -1,3 +1,5 @@
+-- `list::fetch_text` meets its contract.
+-- Assumes nothing.
 use native.Mathlib.Omega.{arith}
 use Rattle.script.proofs.Driver.{turn-cut, output-full, turn-output}
 use mathlib.Core.Path.{refl, ap, _∙_}
@@ -9,93 +11,71 @@ use borrow.Author.Needs.{needs}
 use Rattle.list.proofs.fetch_text.Statement.{statement}
 use Rattle.list.proofs.fetch_text.Tie as tie
 
--- src/lib.rt:128:8
 sub-if1 : tie.Need-sub-if1
 sub-if1 c = search needs
 
--- src/lib.rt:129:9
 idle-requires : tie.Need-idle-requires
 idle-requires c κs = search needs
 
--- src/lib.rt:129:9
 returns : tie.Need-returns
 unfolding kinds
 returns c = ap (leaves _ _) (c .idle .ensures) ∙ turn-cut _ (c .before .before .before .before .before .args .s .now) _ 11 _ (c .before .before .before .before .before .pre .of-kind) refl (omega (arith, c .before .if1 .taken, c .before .before .before .before .before .pre .number, c .before .before .before .before .before .pre .nine))
 
--- src/lib.rt:131:8
 sub-if2 : tie.Need-sub-if2
 sub-if2 c = search needs
 
--- src/lib.rt:132:9
 idle-requires-2 : tie.Need-idle-requires-2
 idle-requires-2 c κs = search needs
 
--- src/lib.rt:132:9
 returns-2 : tie.Need-returns-2
 unfolding kinds outputOf
 returns-2 c = ap (leaves _ _) (c .idle2 .ensures) ∙ output-full _ (c .before .before .before .before .before .before .args .s .now) _ 11 1 _ (call.fetchText) (call.fetchText) (c .before .before .before .before .before .before .pre .of-kind) refl (λ d. refl) (c .before .before .before .before .before .before .pre .number) (omega (arith, c .before .before .if1 .left, c .before .before .before .before .before .before .pre .number, c .before .before .before .before .before .before .pre .nine)) (omega (arith, c .before .if2 .taken, c .before .before .before .before .before .before .pre .room))
 
--- src/lib.rt:134:13
 add-e : tie.Need-add-e
 add-e c = search needs
 
--- src/lib.rt:135:14
 add-to : tie.Need-add-to
 add-to c = search needs
 
--- src/lib.rt:136:18
 sub-copy : tie.Need-sub-copy
 sub-copy c = search needs
 
--- src/lib.rt:136:18
 part-copy-start : tie.Need-part-copy-start
 part-copy-start c = search needs
 
--- src/lib.rt:136:18
 part-copy-end : tie.Need-part-copy-end
 part-copy-end c = search needs
 
--- src/lib.rt:136:28
 sub-copy-2 : tie.Need-sub-copy-2
 sub-copy-2 c = search needs
 
--- src/lib.rt:136:28
 part-copy-start-2 : tie.Need-part-copy-start-2
 part-copy-start-2 c = search needs
 
--- src/lib.rt:136:28
 part-copy-end-2 : tie.Need-part-copy-end-2
 part-copy-end-2 c = search needs
 
--- src/lib.rt:136:5
 copy-requires : tie.Need-copy-requires
 copy-requires c κs = search needs
 
--- src/lib.rt:137:40
 sub-fetch-text : tie.Need-sub-fetch-text
 sub-fetch-text c = search needs
 
--- src/lib.rt:137:40
 part-fetch-text-start : tie.Need-part-fetch-text-start
 part-fetch-text-start c = search needs
 
--- src/lib.rt:137:40
 part-fetch-text-end : tie.Need-part-fetch-text-end
 part-fetch-text-end c = search needs
 
--- src/lib.rt:137:9
 fetch-text-requires : tie.Need-fetch-text-requires
 fetch-text-requires c κs = search needs
 
--- src/lib.rt:138:5
 answered-requires : tie.Need-answered-requires
 answered-requires c κs = search needs
 
--- src/lib.rt:124:1
 same-length : tie.Need-same-length
 same-length c = search needs
 
--- src/lib.rt:124:1
 returns-3 : tie.Need-returns-3
 unfolding kinds outputOf
 returns-3 c = ap (leaves _ _) (c .before .before .answered .ensures .1) ∙ turn-output _ (c .before .before .before .before .before .before .before .before .before .before .before .before .before .before .before .before .before .before .args .s .now) (c .before .before .before .before .before .before .before .before .before .before .before .before .before .before .before .before .before .before .args .log .now) 11 1 _ (call.fetchText) (call.fetchText) (c .before .before .before .before .before .before .before .before .before .before .before .before .before .before .before .before .before .before .pre .of-kind) refl (λ d. refl) (c .before .before .before .before .before .before .before .before .before .before .before .before .before .before .before .before .before .before .pre .number) (omega (arith, c .before .before .before .before .before .before .before .before .before .before .before .before .before .before .if1 .left, c .before .before .before .before .before .before .before .before .before .before .before .before .before .before .before .before .before .before .pre .number, c .before .before .before .before .before .before .before .before .before .before .before .before .before .before .before .before .before .before .pre .nine)) _ _ _ _ (omega (arith, c .before .before .before .before .before .before .before .before .before .before .before .before .before .if2 .left, c .before .before .before .before .before .before .before .before .before .before .before .before .before .before .before .before .before .before .pre .room)) (refl) (c .before .before .before .before .before .before .before .before .before .before .copy .ensures) (c .before .before .before .before .before .before .fetch-text .ensures) (c .before .before .answered .ensures .0)

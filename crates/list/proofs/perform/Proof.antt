@@ -1,3 +1,5 @@
+-- `list::perform` meets its contract.
+-- Assumes nothing.
 use mathlib.Core.Path.{refl, ap, _∙_}
 use Rattle.format.specs.Calls as call
 use Rattle.format.specs.Calls.{outputOf}
@@ -9,236 +11,179 @@ use borrow.Author.Needs.{needs}
 use Rattle.list.proofs.perform.Statement.{statement}
 use Rattle.list.proofs.perform.Tie as tie
 
--- src/lib.rt:148:9
 idle-requires : tie.Need-idle-requires
 idle-requires c κs = search needs
 
--- src/lib.rt:148:9
 returns : tie.Need-returns
 returns c = ap (leaves _ _) (c .idle .ensures) ∙ turn-idle _ (c .before .before .before .before .before .args .s .now) _ (next-short _ (c .before .before .before .before .before .args .s .now) (c .before .if1 .taken))
 
--- src/lib.rt:151:9
 idle-requires-2 : tie.Need-idle-requires-2
 idle-requires-2 c κs = search needs
 
--- src/lib.rt:151:9
 returns-2 : tie.Need-returns-2
 returns-2 c = ap (leaves _ _) (c .idle2 .ensures) ∙ turn-idle _ (c .before .before .before .before .before .before .args .s .now) _ (next-cramped _ (c .before .before .before .before .before .before .args .s .now) (c .before .if2 .taken))
 
--- src/lib.rt:153:13
 number-at-requires : tie.Need-number-at-requires
 number-at-requires c κs = search needs
 
--- src/lib.rt:154:16
 shared-slice-read-kind : tie.Need-shared-slice-read-kind
 shared-slice-read-kind c = search needs
 
--- src/lib.rt:156:23
 read-field-requires : tie.Need-read-field-requires
 read-field-requires c κs = search needs
 
--- src/lib.rt:156:14
 answered-requires : tie.Need-answered-requires
 answered-requires c κs = search needs
 
--- src/lib.rt:157:14
 set-field-requires : tie.Need-set-field-requires
 set-field-requires c κs = search needs
 
--- src/lib.rt:158:23
 clear-field-requires : tie.Need-clear-field-requires
 clear-field-requires c κs = search needs
 
--- src/lib.rt:158:14
 answered-requires-2 : tie.Need-answered-requires-2
 answered-requires-2 c κs = search needs
 
--- src/lib.rt:159:23
 read-flag-requires : tie.Need-read-flag-requires
 read-flag-requires c κs = search needs
 
--- src/lib.rt:159:14
 answered-requires-3 : tie.Need-answered-requires-3
 answered-requires-3 c κs = search needs
 
--- src/lib.rt:160:14
 set-flag-requires : tie.Need-set-flag-requires
 set-flag-requires c κs = search needs
 
--- src/lib.rt:161:23
 clear-flag-requires : tie.Need-clear-flag-requires
 clear-flag-requires c κs = search needs
 
--- src/lib.rt:161:14
 answered-requires-4 : tie.Need-answered-requires-4
 answered-requires-4 c κs = search needs
 
--- src/lib.rt:162:14
 put-requires : tie.Need-put-requires
 put-requires c κs = search needs
 
--- src/lib.rt:163:14
 fetch-requires : tie.Need-fetch-requires
 fetch-requires c κs = search needs
 
--- src/lib.rt:164:23
 remove-requires : tie.Need-remove-requires
 remove-requires c κs = search needs
 
--- src/lib.rt:164:14
 answered-requires-5 : tie.Need-answered-requires-5
 answered-requires-5 c κs = search needs
 
--- src/lib.rt:165:15
 put-text-requires : tie.Need-put-text-requires
 put-text-requires c κs = search needs
 
--- src/lib.rt:166:15
 fetch-text-requires : tie.Need-fetch-text-requires
 fetch-text-requires c κs = search needs
 
--- src/lib.rt:167:14
 idle-requires-3 : tie.Need-idle-requires-3
 idle-requires-3 c κs = search needs
 
--- src/lib.rt:144:1
 same-length : tie.Need-same-length
 same-length c = search needs
 
--- src/lib.rt:144:1
 same-length-2 : tie.Need-same-length-2
 same-length-2 c = search needs
 
--- src/lib.rt:144:1
 returns-3 : tie.Need-returns-3
 unfolding kinds outputOf
 returns-3 c = ap (leaves _ _) (c .before .before .answered .ensures .1) ∙ turn-plain _ (c .before .before .before .before .before .before .before .before .before .before .before .before .before .before .args .s .now) _ 1 _ _ _ _ _ _ _ (c .before .before .before .before .before .before .match .keys1) refl refl (c .before .before .before .before .read-field .ensures) (c .before .before .answered .ensures .0) (ap call.readField (c .before .before .before .before .before .before .before .before .number-at .ensures)) (refl) (c .before .before .before .before .before .before .before .before .before .before .if1 .left) (c .before .before .before .before .before .before .before .before .before .if2 .left)
 
--- src/lib.rt:144:1
 same-length-3 : tie.Need-same-length-3
 same-length-3 c = search needs
 
--- src/lib.rt:144:1
 same-length-4 : tie.Need-same-length-4
 same-length-4 c = search needs
 
--- src/lib.rt:144:1
 returns-4 : tie.Need-returns-4
 returns-4 c = search needs
 
--- src/lib.rt:144:1
 same-length-5 : tie.Need-same-length-5
 same-length-5 c = search needs
 
--- src/lib.rt:144:1
 same-length-6 : tie.Need-same-length-6
 same-length-6 c = search needs
 
--- src/lib.rt:144:1
 returns-5 : tie.Need-returns-5
 unfolding kinds outputOf
 returns-5 c = ap (leaves _ _) (c .before .before .answered2 .ensures .1) ∙ turn-plain _ (c .before .before .before .before .before .before .before .before .before .before .before .before .before .before .before .before .args .s .now) _ 3 _ _ _ _ _ _ _ (c .before .before .before .before .before .before .before .before .match .keys3) refl refl (c .before .before .before .before .before .before .clear-field .ensures) (c .before .before .answered2 .ensures .0) (ap call.clearField (c .before .before .before .before .before .before .before .before .before .before .number-at .ensures)) (refl) (c .before .before .before .before .before .before .before .before .before .before .before .before .if1 .left) (c .before .before .before .before .before .before .before .before .before .before .before .if2 .left)
 
--- src/lib.rt:144:1
 same-length-7 : tie.Need-same-length-7
 same-length-7 c = search needs
 
--- src/lib.rt:144:1
 same-length-8 : tie.Need-same-length-8
 same-length-8 c = search needs
 
--- src/lib.rt:144:1
 returns-6 : tie.Need-returns-6
 unfolding kinds outputOf
 returns-6 c = ap (leaves _ _) (c .before .before .answered3 .ensures .1) ∙ turn-plain _ (c .before .before .before .before .before .before .before .before .before .before .before .before .before .before .args .s .now) _ 4 _ _ _ _ _ _ _ (c .before .before .before .before .before .before .match .keys4) refl refl (c .before .before .before .before .read-flag .ensures) (c .before .before .answered3 .ensures .0) (ap call.readFlag (c .before .before .before .before .before .before .before .before .number-at .ensures)) (refl) (c .before .before .before .before .before .before .before .before .before .before .if1 .left) (c .before .before .before .before .before .before .before .before .before .if2 .left)
 
--- src/lib.rt:144:1
 same-length-9 : tie.Need-same-length-9
 same-length-9 c = search needs
 
--- src/lib.rt:144:1
 same-length-10 : tie.Need-same-length-10
 same-length-10 c = search needs
 
--- src/lib.rt:144:1
 returns-7 : tie.Need-returns-7
 returns-7 c = search needs
 
--- src/lib.rt:144:1
 same-length-11 : tie.Need-same-length-11
 same-length-11 c = search needs
 
--- src/lib.rt:144:1
 same-length-12 : tie.Need-same-length-12
 same-length-12 c = search needs
 
--- src/lib.rt:144:1
 returns-8 : tie.Need-returns-8
 unfolding kinds outputOf
 returns-8 c = ap (leaves _ _) (c .before .before .answered4 .ensures .1) ∙ turn-plain _ (c .before .before .before .before .before .before .before .before .before .before .before .before .before .before .before .before .args .s .now) _ 6 _ _ _ _ _ _ _ (c .before .before .before .before .before .before .before .before .match .keys6) refl refl (c .before .before .before .before .before .before .clear-flag .ensures) (c .before .before .answered4 .ensures .0) (ap call.clearFlag (c .before .before .before .before .before .before .before .before .before .before .number-at .ensures)) (refl) (c .before .before .before .before .before .before .before .before .before .before .before .before .if1 .left) (c .before .before .before .before .before .before .before .before .before .before .before .if2 .left)
 
--- src/lib.rt:144:1
 same-length-13 : tie.Need-same-length-13
 same-length-13 c = search needs
 
--- src/lib.rt:144:1
 same-length-14 : tie.Need-same-length-14
 same-length-14 c = search needs
 
--- src/lib.rt:144:1
 returns-9 : tie.Need-returns-9
 returns-9 c = search needs
 
--- src/lib.rt:144:1
 same-length-15 : tie.Need-same-length-15
 same-length-15 c = search needs
 
--- src/lib.rt:144:1
 same-length-16 : tie.Need-same-length-16
 same-length-16 c = search needs
 
--- src/lib.rt:144:1
 returns-10 : tie.Need-returns-10
 returns-10 c = search needs
 
--- src/lib.rt:144:1
 same-length-17 : tie.Need-same-length-17
 same-length-17 c = search needs
 
--- src/lib.rt:144:1
 same-length-18 : tie.Need-same-length-18
 same-length-18 c = search needs
 
--- src/lib.rt:144:1
 returns-11 : tie.Need-returns-11
 unfolding kinds outputOf
 returns-11 c = ap (leaves _ _) (c .before .before .answered5 .ensures .1) ∙ turn-plain _ (c .before .before .before .before .before .before .before .before .before .before .before .before .before .before .before .before .args .s .now) _ 9 _ _ _ _ _ _ _ (c .before .before .before .before .before .before .before .before .match .keys9) refl refl (c .before .before .before .before .before .before .remove .ensures) (c .before .before .answered5 .ensures .0) (ap call.remove (c .before .before .before .before .before .before .before .before .before .before .number-at .ensures)) (refl) (c .before .before .before .before .before .before .before .before .before .before .before .before .if1 .left) (c .before .before .before .before .before .before .before .before .before .before .before .if2 .left)
 
--- src/lib.rt:144:1
 same-length-19 : tie.Need-same-length-19
 same-length-19 c = search needs
 
--- src/lib.rt:144:1
 same-length-20 : tie.Need-same-length-20
 same-length-20 c = search needs
 
--- src/lib.rt:144:1
 returns-12 : tie.Need-returns-12
 returns-12 c = search needs
 
--- src/lib.rt:144:1
 same-length-21 : tie.Need-same-length-21
 same-length-21 c = search needs
 
--- src/lib.rt:144:1
 same-length-22 : tie.Need-same-length-22
 same-length-22 c = search needs
 
--- src/lib.rt:144:1
 returns-13 : tie.Need-returns-13
 returns-13 c = search needs
 
--- src/lib.rt:144:1
 returns-14 : tie.Need-returns-14
 returns-14 c = ap (leaves _ _) (c .idle3 .ensures) ∙ turn-idle _ (c .before .before .before .before .before .before .before .before .before .args .s .now) _ (next-none _ (c .before .before .before .before .before .before .before .before .before .args .s .now) (entry-rest (c .before .before .before .before .before .before .before .before .before .args .s .now) (c .before .match .rest .0 .0 .0 .0 .0 .0 .0 .0 .0 .0 .1) (c .before .match .rest .0 .0 .0 .0 .0 .0 .0 .0 .0 .1) (c .before .match .rest .0 .0 .0 .0 .0 .0 .0 .0 .1) (c .before .match .rest .0 .0 .0 .0 .0 .0 .0 .1) (c .before .match .rest .0 .0 .0 .0 .0 .0 .1) (c .before .match .rest .0 .0 .0 .0 .0 .1) (c .before .match .rest .0 .0 .0 .0 .1) (c .before .match .rest .0 .0 .0 .1) (c .before .match .rest .0 .0 .1) (c .before .match .rest .0 .1) (c .before .match .rest .1)))
 

@@ -1,3 +1,5 @@
+-- `list::put` meets its contract.
+-- Assumes nothing.
 use Prim.Native.Nat.{ℕ, _+_}
 use native.Mathlib.Omega.{arith}
 use Rattle.script.proofs.Driver.{turn-cut, turn-plain, part-counted}
@@ -10,65 +12,50 @@ use borrow.Author.Needs.{needs}
 use Rattle.list.proofs.put.Statement.{statement}
 use Rattle.list.proofs.put.Tie as tie
 
--- src/lib.rt:77:9
 idle-requires : tie.Need-idle-requires
 idle-requires c κs = search needs
 
--- src/lib.rt:77:9
 returns : tie.Need-returns
 unfolding kinds
 returns c = ap (leaves _ _) (c .idle .ensures) ∙ turn-cut _ (c .before .before .before .before .before .args .s .now) _ 7 _ (c .before .before .before .before .before .pre .of-kind) refl (omega (arith, c .before .if1 .taken))
 
--- src/lib.rt:79:13
 number-at-requires : tie.Need-number-at-requires
 number-at-requires c κs = search needs
 
--- src/lib.rt:80:8
 sub-if2 : tie.Need-sub-if2
 sub-if2 c = search needs
 
--- src/lib.rt:81:9
 idle-requires-2 : tie.Need-idle-requires-2
 idle-requires-2 c κs = search needs
 
--- src/lib.rt:81:9
 returns-2 : tie.Need-returns-2
 unfolding kinds
 returns-2 c = ap (leaves _ _) (c .idle2 .ensures) ∙ turn-cut _ (c .before .before .before .before .before .before .before .args .s .now) _ 7 _ (c .before .before .before .before .before .before .before .pre .of-kind) refl (omega (arith, c .before .if2 .taken, c .before .before .number-at .ensures))
 
--- src/lib.rt:83:13
 add-e : tie.Need-add-e
 add-e c = search needs
 
--- src/lib.rt:84:36
 sub-put : tie.Need-sub-put
 sub-put c = search needs
 
--- src/lib.rt:84:36
 part-put-start : tie.Need-part-put-start
 part-put-start c = search needs
 
--- src/lib.rt:84:36
 part-put-end : tie.Need-part-put-end
 part-put-end c = search needs
 
--- src/lib.rt:84:9
 put-requires : tie.Need-put-requires
 put-requires c κs = search needs
 
--- src/lib.rt:85:5
 answered-requires : tie.Need-answered-requires
 answered-requires c κs = search needs
 
--- src/lib.rt:72:1
 same-length : tie.Need-same-length
 same-length c = search needs
 
--- src/lib.rt:72:1
 same-length-2 : tie.Need-same-length-2
 same-length-2 c = search needs
 
--- src/lib.rt:72:1
 returns-3 : tie.Need-returns-3
 unfolding kinds outputOf
 returns-3 c = ap (leaves _ _) (c .before .before .answered .ensures .1) ∙ turn-plain _ (c .before .before .before .before .before .before .before .before .before .before .before .before .before .before .before .args .s .now) _ 7 _ _ _ _ _ _ _ (c .before .before .before .before .before .before .before .before .before .before .before .before .before .before .before .pre .of-kind) refl refl (c .before .before .before .before .before .before .put .ensures) (c .before .before .answered .ensures .0) (ap₂ call.put (c .before .before .before .before .before .before .before .before .before .before .before .before .before .before .before .pre .number) (part-counted (c .before .before .before .before .before .before .before .before .before .before .before .before .before .before .before .args .s .now) 9 _ (c .before .before .before .before .before .before .before .before .before .before .number-at .ensures))) (ap (λ (n : ℕ). 17 + n) (c .before .before .before .before .before .before .before .before .before .before .number-at .ensures)) (omega (arith, c .before .before .before .before .before .before .before .before .before .if2 .left, c .before .before .before .before .before .before .before .before .before .before .number-at .ensures, c .before .before .before .before .before .before .before .before .before .before .before .if1 .left)) (c .before .before .before .before .before .before .before .before .before .before .before .before .before .before .before .pre .room)

@@ -1,3 +1,5 @@
+-- `list::put_text` meets its contract.
+-- Assumes nothing.
 use Prim.Native.Nat.{ℕ, _+_}
 use native.Mathlib.Omega.{arith}
 use Rattle.script.proofs.Driver.{turn-cut, turn-plain, part-counted}
@@ -10,52 +12,40 @@ use borrow.Author.Needs.{needs}
 use Rattle.list.proofs.put_text.Statement.{statement}
 use Rattle.list.proofs.put_text.Tie as tie
 
--- src/lib.rt:93:8
 sub-if1 : tie.Need-sub-if1
 sub-if1 c = search needs
 
--- src/lib.rt:94:9
 idle-requires : tie.Need-idle-requires
 idle-requires c κs = search needs
 
--- src/lib.rt:94:9
 returns : tie.Need-returns
 unfolding kinds
 returns c = ap (leaves _ _) (c .idle .ensures) ∙ turn-cut _ (c .before .before .before .before .before .args .s .now) _ 10 _ (c .before .before .before .before .before .pre .of-kind) refl (omega (arith, c .before .if1 .taken, c .before .before .before .before .before .pre .number, c .before .before .before .before .before .pre .nine))
 
--- src/lib.rt:96:13
 add-e : tie.Need-add-e
 add-e c = search needs
 
--- src/lib.rt:97:38
 sub-put-text : tie.Need-sub-put-text
 sub-put-text c = search needs
 
--- src/lib.rt:97:38
 part-put-text-start : tie.Need-part-put-text-start
 part-put-text-start c = search needs
 
--- src/lib.rt:97:38
 part-put-text-end : tie.Need-part-put-text-end
 part-put-text-end c = search needs
 
--- src/lib.rt:97:9
 put-text-requires : tie.Need-put-text-requires
 put-text-requires c κs = search needs
 
--- src/lib.rt:98:5
 answered-requires : tie.Need-answered-requires
 answered-requires c κs = search needs
 
--- src/lib.rt:89:1
 same-length : tie.Need-same-length
 same-length c = search needs
 
--- src/lib.rt:89:1
 same-length-2 : tie.Need-same-length-2
 same-length-2 c = search needs
 
--- src/lib.rt:89:1
 returns-2 : tie.Need-returns-2
 unfolding kinds outputOf
 returns-2 c = ap (leaves _ _) (c .before .before .answered .ensures .1) ∙ turn-plain _ (c .before .before .before .before .before .before .before .before .before .before .before .before .before .args .s .now) _ 10 _ _ _ _ _ _ _ (c .before .before .before .before .before .before .before .before .before .before .before .before .before .pre .of-kind) refl refl (c .before .before .before .before .before .before .put-text .ensures) (c .before .before .answered .ensures .0) (ap call.putText (part-counted (c .before .before .before .before .before .before .before .before .before .before .before .before .before .args .s .now) 1 _ (c .before .before .before .before .before .before .before .before .before .before .before .before .before .pre .number))) (ap (λ (n : ℕ). 9 + n) (c .before .before .before .before .before .before .before .before .before .before .before .before .before .pre .number)) (omega (arith, c .before .before .before .before .before .before .before .before .before .if1 .left, c .before .before .before .before .before .before .before .before .before .before .before .before .before .pre .number, c .before .before .before .before .before .before .before .before .before .before .before .before .before .pre .nine)) (c .before .before .before .before .before .before .before .before .before .before .before .before .before .pre .room)

@@ -1,3 +1,5 @@
+-- `list::replay` meets its contract.
+-- Assumes nothing.
 use Prim.Native.Nat.{_-_}
 use mathlib.Core.Path.{_≡_, refl, _∙_}
 use lib.ListN.{length}
@@ -14,67 +16,51 @@ Inv-loop b₀ script log₀ calls₀ at₀ to₀ b log calls at to = Kept b₀ s
 abbrev μ-loop : tie.MeasureT-loop
 μ-loop b₀ script log₀ calls₀ at₀ to₀ b log calls at to = length script - at
 
--- src/lib.rt:178:5
 loop-holds : tie.Need-loop-holds Inv-loop μ-loop
 loop-holds c = (kept-start _ _ _, refl)
 
--- src/lib.rt:179:28
 sub-perform : tie.Need-sub-perform Inv-loop μ-loop
 sub-perform c = let w = c .before .loop .inv .0 .within in search needs
 
--- src/lib.rt:179:28
 part-perform-start : tie.Need-part-perform-start Inv-loop μ-loop
 part-perform-start c = search needs
 
--- src/lib.rt:179:28
 part-perform-end : tie.Need-part-perform-end Inv-loop μ-loop
 part-perform-end c = search needs
 
--- src/lib.rt:179:43
 sub-perform-2 : tie.Need-sub-perform-2 Inv-loop μ-loop
 sub-perform-2 c = let r = c .before .before .loop .inv .0 .room in search needs
 
--- src/lib.rt:179:43
 part-perform-start-2 : tie.Need-part-perform-start-2 Inv-loop μ-loop
 part-perform-start-2 c = search needs
 
--- src/lib.rt:179:43
 part-perform-end-2 : tie.Need-part-perform-end-2 Inv-loop μ-loop
 part-perform-end-2 c = search needs
 
--- src/lib.rt:179:13
 perform-requires : tie.Need-perform-requires Inv-loop μ-loop
 perform-requires c κs = search needs
 
--- src/lib.rt:181:13
 same-length : tie.Need-same-length Inv-loop μ-loop
 same-length c = c .before .before .before .before .before .before .perform .kept .0 ∙ c .before .before .before .before .before .before .before .before .before .before .loop .inv .1
 
--- src/lib.rt:181:13
 same-length-2 : tie.Need-same-length-2 Inv-loop μ-loop
 same-length-2 c = (kept-parts _ _ _ _ _ _ _ _ (c .before .before .before .before .before .before .before .before .before .before .loop .inv .0) _ (c .before .before .before .before .before .before .perform .ensures)) .log-length
 
--- src/lib.rt:181:13
 returns : tie.Need-returns Inv-loop μ-loop
 returns c = parts-end _ _ _ _ _ _ _ _ (c .before .before .before .before .before .before .before .before .before .before .loop .inv .0) _ (c .before .before .before .before .before .before .perform .ensures) (c .if1 .taken) (λ i. c .before .before .before .before .before .before .before .before .before .before .before .before .before .slice-known .given i .fits)
 
--- src/lib.rt:187:9
 add-calls : tie.Need-add-calls Inv-loop μ-loop
 add-calls c = let k = kept-parts _ _ _ _ _ _ _ _ (c .before .before .before .before .before .before .before .before .before .before .before .loop .inv .0) _ (c .before .before .before .before .before .before .before .perform .ensures) in let w = k .within in let m = k .counted in search needs
 
--- src/lib.rt:188:9
 add-at : tie.Need-add-at Inv-loop μ-loop
 add-at c = let k = kept-parts _ _ _ _ _ _ _ _ (c .before .before .before .before .before .before .before .before .before .before .before .before .loop .inv .0) _ (c .before .before .before .before .before .before .before .before .perform .ensures) in let w = k .within in search needs
 
--- src/lib.rt:189:9
 add-to : tie.Need-add-to Inv-loop μ-loop
 add-to c = let k = kept-parts _ _ _ _ _ _ _ _ (c .before .before .before .before .before .before .before .before .before .before .before .before .before .loop .inv .0) _ (c .before .before .before .before .before .before .before .before .before .perform .ensures) in let w = k .room in let l = k .log-length in search needs
 
--- src/lib.rt:178:5
 loop-less : tie.Need-loop-less Inv-loop μ-loop
 loop-less c = let k = kept-parts _ _ _ _ _ _ _ _ (c .before .before .before .before .before .before .before .before .before .before .before .before .before .loop .inv .0) _ (c .before .before .before .before .before .before .before .before .before .perform .ensures) in let w = k .within in omega (arith, c .before .before .before .if1 .left)
 
--- src/lib.rt:178:5
 loop-again : tie.Need-loop-again Inv-loop μ-loop
 loop-again c = (kept-parts _ _ _ _ _ _ _ _ (c .before .before .before .before .before .before .before .before .before .before .before .before .before .loop .inv .0) _ (c .before .before .before .before .before .before .before .before .before .perform .ensures), c .before .before .before .before .before .before .before .before .before .perform .kept .0 ∙ c .before .before .before .before .before .before .before .before .before .before .before .before .before .loop .inv .1)
 

@@ -1,3 +1,5 @@
+-- `list::set_field` meets its contract.
+-- Assumes nothing.
 use mir.ValLaws.{toZ-ofZ}
 use mir.Syntax.{w64}
 use Prim.Native.Nat.{ℕ}
@@ -13,40 +15,31 @@ use borrow.Author.Needs.{needs}
 use Rattle.list.proofs.set_field.Statement.{statement}
 use Rattle.list.proofs.set_field.Tie as tie
 
--- src/lib.rt:50:9
 idle-requires : tie.Need-idle-requires
 idle-requires c κs = search needs
 
--- src/lib.rt:50:9
 returns : tie.Need-returns
 unfolding kinds
 returns c = ap (leaves _ _) (c .idle .ensures) ∙ turn-cut _ (c .before .before .before .before .before .args .s .now) _ 2 _ (c .before .before .before .before .before .pre .of-kind) refl (c .before .if1 .taken)
 
--- src/lib.rt:52:9
 number-at-requires : tie.Need-number-at-requires
 number-at-requires c κs = search needs
 
--- src/lib.rt:53:9
 signed-of-requires : tie.Need-signed-of-requires
 signed-of-requires c κs = search needs
 
--- src/lib.rt:54:9
 set-field-requires : tie.Need-set-field-requires
 set-field-requires c κs = search needs
 
--- src/lib.rt:55:5
 answered-requires : tie.Need-answered-requires
 answered-requires c κs = search needs
 
--- src/lib.rt:45:1
 same-length : tie.Need-same-length
 same-length c = search needs
 
--- src/lib.rt:45:1
 same-length-2 : tie.Need-same-length-2
 same-length-2 c = search needs
 
--- src/lib.rt:45:1
 returns-2 : tie.Need-returns-2
 unfolding kinds outputOf
 returns-2 c = ap (leaves _ _) (c .before .before .answered .ensures .1) ∙ turn-plain _ (c .before .before .before .before .before .before .before .before .before .before .before .before .before .before .args .s .now) _ 2 _ _ _ _ _ _ _ (c .before .before .before .before .before .before .before .before .before .before .before .before .before .before .pre .of-kind) refl refl (c .before .before .before .before .before .before .set-field .ensures) (c .before .before .answered .ensures .0) (ap₂ (λ (x : ℕ) (z : ℤ). call.setField x (record { 0 = z })) (c .before .before .before .before .before .before .before .before .before .before .before .before .before .before .pre .number) (toZ-ofZ w64 (c .before .before .before .before .before .before .before .before .signed-of .result) (search needs) ∙ c .before .before .before .before .before .before .before .before .signed-of .ensures ∙ ap signed (c .before .before .before .before .before .before .before .before .before .number-at .ensures))) (refl) (c .before .before .before .before .before .before .before .before .before .before .if1 .left) (c .before .before .before .before .before .before .before .before .before .before .before .before .before .before .pre .room)

@@ -1,3 +1,5 @@
+-- `list::set_flag` meets its contract.
+-- Assumes nothing.
 use Rattle.script.proofs.Driver.{turn-cut, turn-plain}
 use mathlib.Core.Path.{refl, ap, ap₂, _∙_}
 use Rattle.format.specs.Calls as call
@@ -8,36 +10,28 @@ use borrow.Author.Needs.{needs}
 use Rattle.list.proofs.set_flag.Statement.{statement}
 use Rattle.list.proofs.set_flag.Tie as tie
 
--- src/lib.rt:64:9
 idle-requires : tie.Need-idle-requires
 idle-requires c κs = search needs
 
--- src/lib.rt:64:9
 returns : tie.Need-returns
 unfolding kinds
 returns c = ap (leaves _ _) (c .idle .ensures) ∙ turn-cut _ (c .before .before .before .before .before .args .s .now) _ 5 _ (c .before .before .before .before .before .pre .of-kind) refl (c .before .if1 .taken)
 
--- src/lib.rt:66:13
 number-at-requires : tie.Need-number-at-requires
 number-at-requires c κs = search needs
 
--- src/lib.rt:67:9
 set-flag-requires : tie.Need-set-flag-requires
 set-flag-requires c κs = search needs
 
--- src/lib.rt:68:5
 answered-requires : tie.Need-answered-requires
 answered-requires c κs = search needs
 
--- src/lib.rt:59:1
 same-length : tie.Need-same-length
 same-length c = search needs
 
--- src/lib.rt:59:1
 same-length-2 : tie.Need-same-length-2
 same-length-2 c = search needs
 
--- src/lib.rt:59:1
 returns-2 : tie.Need-returns-2
 unfolding kinds outputOf
 returns-2 c = ap (leaves _ _) (c .before .before .answered .ensures .1) ∙ turn-plain _ (c .before .before .before .before .before .before .before .before .before .before .before .before .before .args .s .now) _ 5 _ _ _ _ _ _ _ (c .before .before .before .before .before .before .before .before .before .before .before .before .before .pre .of-kind) refl refl (c .before .before .before .before .before .before .set-flag .ensures) (c .before .before .answered .ensures .0) (ap₂ call.setFlag (c .before .before .before .before .before .before .before .before .before .before .before .before .before .pre .number) (c .before .before .before .before .before .before .before .before .number-at .ensures)) (refl) (c .before .before .before .before .before .before .before .before .before .if1 .left) (c .before .before .before .before .before .before .before .before .before .before .before .before .before .pre .room)

@@ -1,3 +1,4 @@
+-- `lists::main` meets its contract.
 use Prim.Native.Nat.{_≤_}
 use borrow.Author.Needs.{needs}
 use Rattle.lists.proofs.main.Statement.{statement}

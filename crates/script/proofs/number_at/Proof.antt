@@ -1,3 +1,5 @@
+-- `script::number_at` meets its contract.
+-- Assumes nothing.
 use Prim.Native.Nat.{_+_, _-_, _≤_}
 use lib.ListN.{length}
 use Rattle.script.proofs.Numbers.{Read, read-start, read-room, read-more, read-end}
@@ -11,43 +13,33 @@ Inv-loop s i n₀ j₀ n j = Read s i j n × (i + 8 ≤ length s)
 abbrev μ-loop : tie.MeasureT-loop
 μ-loop s i n₀ j₀ n j = 8 - j
 
--- src/lib.rt:24:5
 loop-holds : tie.Need-loop-holds Inv-loop μ-loop
 loop-holds c = (read-start (c .before .args .s .now) (c .before .args .i), c .before .pre)
 
--- src/lib.rt:25:13
 mul-n : tie.Need-mul-n Inv-loop μ-loop
 mul-n c = let h = read-room _ _ _ _ (c .before .loop .inv .0) (c .loop-test .taken) in search needs
 
--- src/lib.rt:25:30
 add-wide : tie.Need-add-wide Inv-loop μ-loop
 add-wide c = search needs
 
--- src/lib.rt:25:28
 shared-slice-read-wide : tie.Need-shared-slice-read-wide Inv-loop μ-loop
 shared-slice-read-wide c = search needs
 
--- src/lib.rt:25:23
 wide-requires : tie.Need-wide-requires Inv-loop μ-loop
 wide-requires c κs = search needs
 
--- src/lib.rt:25:13
 add-n : tie.Need-add-n Inv-loop μ-loop
 add-n c = let h = read-room _ _ _ _ (c .before .before .before .loop .inv .0) (c .before .before .loop-test .taken) in search needs
 
--- src/lib.rt:26:9
 add-j : tie.Need-add-j Inv-loop μ-loop
 add-j c = search needs
 
--- src/lib.rt:24:5
 loop-less : tie.Need-loop-less Inv-loop μ-loop
 loop-less c = search needs
 
--- src/lib.rt:24:5
 loop-again : tie.Need-loop-again Inv-loop μ-loop
 loop-again c = (read-more _ _ _ _ (c .before .before .before .loop .inv .0) _ (c .before .before .before .loop .inv .1) (c .before .before .loop-test .taken) (c .wide .ensures .0) (c .wide .ensures .1), c .before .before .before .loop .inv .1)
 
--- src/lib.rt:18:1
 returns : tie.Need-returns Inv-loop μ-loop
 returns c = read-end _ _ _ _ (c .before .loop .inv .0) (c .loop-test .left)
 

@@ -1,38 +1,32 @@
+-- `script::put_head` meets its contract.
+-- Assumes nothing.
 use lib.ListN.{length-set}
 use Rattle.script.proofs.Numbers.{head-set}
 use borrow.Author.Needs.{needs}
 use Rattle.script.proofs.put_head.Statement.{statement}
 use Rattle.script.proofs.put_head.Tie as tie
 
--- src/lib.rt:50:16
 sub-put-number : tie.Need-sub-put-number
 sub-put-number c = search needs
 
--- src/lib.rt:50:16
 part-put-number-start : tie.Need-part-put-number-start
 part-put-number-start c = search needs
 
--- src/lib.rt:50:16
 part-put-number-end : tie.Need-part-put-number-end
 part-put-number-end c = search needs
 
--- src/lib.rt:50:5
 put-number-requires : tie.Need-put-number-requires
 put-number-requires c κs = search needs
 
--- src/lib.rt:51:5
 slice-write-log : tie.Need-slice-write-log
 slice-write-log c = search needs
 
--- src/lib.rt:52:5
 slice-write-log-2 : tie.Need-slice-write-log-2
 slice-write-log-2 c = simp length-set (search needs)
 
--- src/lib.rt:46:1
 same-length : tie.Need-same-length
 same-length c = search needs
 
--- src/lib.rt:46:1
 returns : tie.Need-returns
 returns c = head-set (c .before .before .before .before .before .args .log .now) _ _ _ _ (c .before .before .before .before .before .pre) (c .before .before .put-number .ensures)
 

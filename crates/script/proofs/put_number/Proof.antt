@@ -1,3 +1,5 @@
+-- `script::put_number` meets its contract.
+-- Assumes nothing.
 use Prim.Native.Nat.{_≤_}
 use lib.ListN.{length}
 use Rattle.script.proofs.Numbers.{Left, left-start, left-less, left-none}
@@ -12,35 +14,27 @@ Inv-loop to₀ n left₀ i₀ to left i = Left to₀ to n i left × (8 ≤ lengt
 abbrev μ-loop : tie.MeasureT-loop
 μ-loop to₀ n left₀ i₀ to left i = i
 
--- src/lib.rt:38:5
 loop-holds : tie.Need-loop-holds Inv-loop μ-loop
 loop-holds c = (left-start _ _, c .pre)
 
--- src/lib.rt:39:9
 sub-i : tie.Need-sub-i Inv-loop μ-loop
 sub-i c = search needs
 
--- src/lib.rt:40:17
 cast-to : tie.Need-cast-to Inv-loop μ-loop
 cast-to c = search needs
 
--- src/lib.rt:40:9
 slice-write-to : tie.Need-slice-write-to Inv-loop μ-loop
 slice-write-to c = omega (arith, c .before .loop .inv .0 .same-length, c .before .loop .inv .0 .within, c .before .loop .inv .1, c .loop-test .taken)
 
--- src/lib.rt:38:5
 loop-less : tie.Need-loop-less Inv-loop μ-loop
 loop-less c = search needs
 
--- src/lib.rt:38:5
 loop-again : tie.Need-loop-again Inv-loop μ-loop
 loop-again c = (left-less _ _ _ _ _ (c .before .loop .inv .0) (c .loop-test .taken) (c .before .loop .inv .1), c .before .loop .inv .1)
 
--- src/lib.rt:32:1
 same-length : tie.Need-same-length Inv-loop μ-loop
 same-length c = c .before .loop .inv .0 .same-length
 
--- src/lib.rt:32:1
 returns : tie.Need-returns Inv-loop μ-loop
 returns c = left-none _ _ _ _ _ (c .before .loop .inv .0) (c .loop-test .left)
 

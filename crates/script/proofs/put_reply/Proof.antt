@@ -1,3 +1,5 @@
+-- `script::put_reply` meets its contract.
+-- Assumes nothing.
 use mir.ValLaws.{toZ-ofZ}
 use mir.Syntax.{w64}
 use Prim.Native.Nat.{ℕ}
@@ -11,112 +13,86 @@ use borrow.Author.Needs.{needs}
 use Rattle.script.proofs.put_reply.Statement.{statement}
 use Rattle.script.proofs.put_reply.Tie as tie
 
--- src/lib.rt:61:24
 enum-known-r : tie.Need-enum-known-r
 enum-known-r c = search needs
 
--- src/lib.rt:62:13
 put-head-requires : tie.Need-put-head-requires
 put-head-requires c κs = search needs
 
--- src/lib.rt:65:22
 enum-told : tie.Need-enum-told
 enum-told c = search needs
 
--- src/lib.rt:65:13
 put-head-requires-2 : tie.Need-put-head-requires-2
 put-head-requires-2 c κs = search needs
 
--- src/lib.rt:67:22
 enum-known-r-2 : tie.Need-enum-known-r-2
 enum-known-r-2 c = search needs
 
--- src/lib.rt:69:17
 unsigned-of-requires : tie.Need-unsigned-of-requires
 unsigned-of-requires c κs = search needs
 
--- src/lib.rt:70:13
 put-head-requires-3 : tie.Need-put-head-requires-3
 put-head-requires-3 c κs = search needs
 
--- src/lib.rt:72:21
 enum-known-r-3 : tie.Need-enum-known-r-3
 enum-known-r-3 c = search needs
 
--- src/lib.rt:73:33
 cast-put-head : tie.Need-cast-put-head
 cast-put-head c = search needs
 
--- src/lib.rt:73:13
 put-head-requires-4 : tie.Need-put-head-requires-4
 put-head-requires-4 c κs = search needs
 
--- src/lib.rt:76:22
 enum-told-2 : tie.Need-enum-told-2
 enum-told-2 c = search needs
 
--- src/lib.rt:76:13
 put-head-requires-5 : tie.Need-put-head-requires-5
 put-head-requires-5 c κs = search needs
 
--- src/lib.rt:78:22
 enum-known-r-4 : tie.Need-enum-known-r-4
 enum-known-r-4 c = search needs
 
--- src/lib.rt:79:13
 put-head-requires-6 : tie.Need-put-head-requires-6
 put-head-requires-6 c κs = search needs
 
--- src/lib.rt:56:1
 same-length : tie.Need-same-length
 same-length c = search needs
 
--- src/lib.rt:56:1
 returns : tie.Need-returns
 unfolding headOf
 returns c = reply-put _ (Refused (c .before .before .before .before .before .r .given .0 .0) (c .before .before .before .before .before .r .given .0 .1 .0)) _ _ 0 _ _ (c .before .before .before .before .before .r .given .1) refl (c .before .before .put-head .ensures)
 
--- src/lib.rt:56:1
 same-length-2 : tie.Need-same-length-2
 same-length-2 c = search needs
 
--- src/lib.rt:56:1
 returns-2 : tie.Need-returns-2
 unfolding headOf
 returns-2 c = reply-put _ Done _ _ 1 0 0 (c .before .before .before .before .enum-told .given .1) refl (c .before .before .put-head2 .ensures)
 
--- src/lib.rt:56:1
 same-length-3 : tie.Need-same-length-3
 same-length-3 c = search needs
 
--- src/lib.rt:56:1
 returns-3 : tie.Need-returns-3
 unfolding headOf
 returns-3 c = reply-put _ (Value (c .before .before .before .before .before .before .before .r2 .given .0 .0)) _ _ 2 0 _ (c .before .before .before .before .before .before .before .r2 .given .1) (ap (λ (n : ℕ). 2 ∷ 0 ∷ bytes8 n) (sym (c .before .before .before .before .unsigned-of .ensures ∙ ap unsigned (toZ-ofZ w64 (c .before .before .before .before .before .before .before .r2 .given .0 .0 .0) (search needs))))) (c .before .before .put-head3 .ensures)
 
--- src/lib.rt:56:1
 same-length-4 : tie.Need-same-length-4
 same-length-4 c = search needs
 
--- src/lib.rt:56:1
 returns-4 : tie.Need-returns-4
 unfolding headOf unsigned
 returns-4 c = reply-put _ (Flag (c .before .before .before .before .before .r3 .given .0 .0)) _ _ 2 0 _ (c .before .before .before .before .before .r3 .given .1) refl (c .before .before .put-head4 .ensures)
 
--- src/lib.rt:56:1
 same-length-5 : tie.Need-same-length-5
 same-length-5 c = search needs
 
--- src/lib.rt:56:1
 returns-5 : tie.Need-returns-5
 unfolding headOf
 returns-5 c = reply-put _ Missing _ _ 3 0 0 (c .before .before .before .before .enum-told2 .given .1) refl (c .before .before .put-head5 .ensures)
 
--- src/lib.rt:56:1
 same-length-6 : tie.Need-same-length-6
 same-length-6 c = search needs
 
--- src/lib.rt:56:1
 returns-6 : tie.Need-returns-6
 unfolding headOf unsigned
 returns-6 c = reply-put _ (Count (c .before .before .before .before .before .r4 .given .0 .0)) _ _ 2 0 _ (c .before .before .before .before .before .r4 .given .1) refl (c .before .before .put-head6 .ensures)

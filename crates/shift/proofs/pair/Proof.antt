@@ -1,3 +1,5 @@
+-- `shift::pair` meets its contract.
+-- Assumes nothing.
 use Prim.Native.Nat.{_+_, _*_}
 use native.Mathlib.Omega.{arith}
 use denote.Ref.{now}

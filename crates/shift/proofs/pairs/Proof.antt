@@ -1,3 +1,5 @@
+-- `shift::pairs` meets its contract.
+-- Assumes nothing.
 use Prim.Native.Nat.{ℕ, _*_}
 use native.Mathlib.Omega.{arith}
 use mathlib.Core.List.{List}

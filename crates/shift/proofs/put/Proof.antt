@@ -1,3 +1,5 @@
+-- `shift::put` meets its contract.
+-- Assumes nothing.
 use Prim.Native.Nat.{_/_}
 use native.Mathlib.Omega.{arith}
 use denote.Ref.{now}

@@ -1,3 +1,4 @@
+-- `vectors::get_values` meets its contract.
 use Prim.Native.Nat.{_-_}
 use mathlib.Core.Path.{_≡_}
 use lib.ListN.{length, length-set}

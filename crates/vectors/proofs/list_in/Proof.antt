@@ -1,3 +1,4 @@
+-- `vectors::list_in` meets its contract.
 use borrow.Author.Needs.{needs}
 use Rattle.listing.proofs.Lines.{listed-within, listed-taken}
 use Rattle.vectors.proofs.list_in.Statement.{statement}

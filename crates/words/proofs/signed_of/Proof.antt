@@ -1,3 +1,5 @@
+-- `words::signed_of` meets its contract.
+-- Assumes nothing.
 use borrow.Author.Needs.{needs}
 use Rattle.words.proofs.Complement.{low, high-fits, high}
 use Rattle.words.proofs.signed_of.Statement.{statement}
@@ -5,27 +7,21 @@ use Rattle.words.proofs.signed_of.Tie as tie
 use Rattle.words.proofs.signed_of.Reads as reads
 use Rattle.words.proofs.signed_of.Lts as lts
 
--- src/lib.rt:9:16
 cast-result : tie.Need-cast-result
 cast-result c = search needs
 
--- src/lib.rt:9:9
 returns : tie.Need-returns
 returns c = low _ (c .if1 .taken)
 
--- src/lib.rt:11:11
 sub-result : tie.Need-sub-result
 sub-result c = search needs
 
--- src/lib.rt:11:10
 cast-result-2 : tie.Need-cast-result-2
 cast-result-2 c = search needs
 
--- src/lib.rt:11:5
 sub-result-2 : tie.Need-sub-result-2
 sub-result-2 c = high-fits _ (c .if1 .left) (search needs)
 
--- src/lib.rt:5:1
 returns-2 : tie.Need-returns-2
 returns-2 c = high _ (c .if1 .left) (search needs)
 

@@ -1,3 +1,5 @@
+-- `words::unsigned_of` meets its contract.
+-- Assumes nothing.
 use borrow.Author.Needs.{needs}
 use Rattle.words.proofs.Complement.{above, below}
 use Rattle.words.proofs.unsigned_of.Statement.{statement}
@@ -5,27 +7,21 @@ use Rattle.words.proofs.unsigned_of.Tie as tie
 use Rattle.words.proofs.unsigned_of.Reads as reads
 use Rattle.words.proofs.unsigned_of.Lts as lts
 
--- src/lib.rt:18:16
 cast-result : tie.Need-cast-result
 cast-result c = let a = above (c .before .args .v) (search needs) (c .if1 .taken) in (a .least, a .most)
 
--- src/lib.rt:18:9
 returns : tie.Need-returns
 returns c = above (c .before .args .v) (search needs) (c .if1 .taken) .is
 
--- src/lib.rt:20:29
 sub-result : tie.Need-sub-result
 sub-result c = below (c .before .args .v) (search needs) (c .if1 .left) .sub
 
--- src/lib.rt:20:28
 cast-result-2 : tie.Need-cast-result-2
 cast-result-2 c = let a = below (c .before .args .v) (search needs) (c .if1 .left) in (a .least, a .most)
 
--- src/lib.rt:20:5
 sub-result-2 : tie.Need-sub-result-2
 sub-result-2 c = below (c .before .args .v) (search needs) (c .if1 .left) .within
 
--- src/lib.rt:14:1
 returns-2 : tie.Need-returns-2
 returns-2 c = below (c .before .args .v) (search needs) (c .if1 .left) .is
 
