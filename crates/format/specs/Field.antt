@@ -119,7 +119,7 @@ codedOf f v = coded (natAbs (v .0 -ℤ f .base))
 unfoldable pub inRange : Field → Scaled → Bool
 inRange f v = leZ (f .base +ℤ pos 1) (v .0) && leZ (v .0) (f .base +ℤ pos (f .highest))
 
--- a field's entry on the observation: missing where the coded number is 0
+-- a field's entry in an observation: missing where the coded number is 0
 unfoldable pub entryOf : Field → Coded → Option Scaled
 entryOf f c = cond (eqb (c .0) 0) none (some (scaledOf f c))
 

@@ -1,4 +1,4 @@
--- The observation of the plain machine, and its packing.
+-- An observation, which is the sheet of the plain machine, and its packing.
 use Prim.Native.Nat.{ℕ, _%_}
 use mathlib.Core.List.{List, [], _∷_, _++_, map}
 use mathlib.Core.Option.{Option}
@@ -34,7 +34,7 @@ cardNumbers s =
 unfoldable pub cardNibbles : Observation → List ℕ
 cardNibbles s = readFields (replicate 75 4) (writeFields widths (cardNumbers s))
 
--- the packing of an observation
+-- "the packing of a sheet"
 unfoldable pub packing : Observation → List ℕ
 packing s = bytes (padded (cardNibbles s ++ tailNibbles (s .attachments)))
 

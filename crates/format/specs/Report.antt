@@ -1,4 +1,4 @@
--- A report: its observation, "read off its bytes", and the refusals 1 to 7. A buffer holds its report from its first byte on.
+-- A report: its observation, the sheet "read off its bytes", and the refusals 1 to 7. A buffer holds its report from its first byte on.
 use Prim.Native.Nat.{ℕ, zero, suc, _+_}
 use mathlib.Core.Bool.{Bool, true, cond, not, _&&_, _||_}
 use mathlib.Core.List.{List, [], _∷_, _++_}
