@@ -87,7 +87,7 @@ fn lay_attachment(s: &mut [u8], at: usize, id: usize, content: &[u8])
     shift::put(s, at, (al / 16) as u8);
     shift::put(s, at + 1, (al % 16) as u8);
     shift::put(s, at + 2, id as u8);
-    shift::lay(s, at + 3, content);
+    transfer::lay(s, at + 3, content);
 }
 
 // Puts an attachment in place of old nibbles at a place of a report that ends at end; the report then has count attachments.

@@ -29,7 +29,7 @@ fn fetch_found(s: &[u8], id: usize, found: Report, out: &mut [u8]) -> Reply
     if out.len() < al {
         return Reply::Refused(13, 0);
     }
-    shift::fetch(&*s, place + 3, al, out);
+    transfer::fetch(&*s, place + 3, al, out);
     Reply::Count(al)
 }
 

@@ -73,7 +73,7 @@ fn write(values: &[i64], word: u64, rptin: u16, tail: &[u8], count: usize, out: 
     if out.len() < size {
         return Packed::Refused(13, 0);
     }
-    shift::lay(out, 75, tail);
+    transfer::lay(out, 75, tail);
     pad(out, n);
     write_values::write(out, rptin, values, word, count);
     Packed::Written(size)

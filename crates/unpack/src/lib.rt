@@ -37,7 +37,7 @@ fn give(s: &[u8], r: Report, values: &mut [i64], tail: &mut [u8]) -> Unpacked
         return Unpacked::Refused(13, 0);
     }
     let presence = read_values::show(s, values);
-    shift::fetch(s, 75, n, tail);
+    transfer::fetch(s, 75, n, tail);
     Unpacked::Given(Contents {
         word: presence,
         present: u64::count_ones(presence),

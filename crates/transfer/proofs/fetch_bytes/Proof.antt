@@ -1,4 +1,4 @@
--- `shift::fetch_bytes` meets its contract.
+-- `transfer::fetch_bytes` meets its contract.
 -- Assumes nothing.
 use Prim.Native.Nat.{ℕ, _+_, _*_, _-_, _/_, _≤_}
 use native.Mathlib.Omega.{arith}
@@ -10,10 +10,10 @@ use lib.Seq.{paste}
 use borrow.Author.Needs.{needs}
 use Rattle.format.specs.Nibbles.{nibbles}
 use Rattle.laws.proofs.Nibbles.{length-nibbles}
 use Rattle.shift.proofs.Paste.{paste-none, paste-two, laid-then}
 use Rattle.shift.proofs.Stores.{high-at, low-at}
-use Rattle.shift.proofs.fetch_bytes.Statement.{statement}
-use Rattle.shift.proofs.fetch_bytes.Tie as tie
+use Rattle.transfer.proofs.fetch_bytes.Statement.{statement}
+use Rattle.transfer.proofs.fetch_bytes.Tie as tie
 
 abbrev Inv-loop : tie.InvT-loop
 Inv-loop s at out₀ j n i k₀ out k = (k ≤ n) × (length out ≡ length out₀) × (out ≡ paste out₀ j (drop at (nibbles s)) (2 * k))

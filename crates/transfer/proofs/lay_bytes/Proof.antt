@@ -1,6 +1,6 @@
--- `shift::lay_bytes` meets its contract.
+-- `transfer::lay_bytes` meets its contract.
 -- Assumes nothing.
-use Prim.Native.Nat.{ℕ, _+_, _*_, _-_, _≤_}
+use Prim.Native.Nat.{ℕ, _*_, _-_, _≤_}
 use native.Mathlib.Omega.{arith}
 use mathlib.Core.List.{List}
 use mathlib.Core.Path.{_≡_, refl, ap, _∙_}
@@ -9,10 +9,10 @@ use lib.ListN.{length, drop}
 use lib.Seq.{paste}
 use borrow.Author.Needs.{needs}
 use Rattle.format.specs.Nibbles.{nibbles}
 use Rattle.shift.proofs.Paste.{paste-none}
 use Rattle.shift.proofs.Stores.{byte-turn}
-use Rattle.shift.proofs.lay_bytes.Statement.{statement}
-use Rattle.shift.proofs.lay_bytes.Tie as tie
+use Rattle.transfer.proofs.lay_bytes.Statement.{statement}
+use Rattle.transfer.proofs.lay_bytes.Tie as tie
 
 abbrev Inv-loop : tie.InvT-loop
 Inv-loop s₀ at ns j n i k₀ s k = (k ≤ n) × (length s ≡ length s₀) × (nibbles s ≡ paste (nibbles s₀) at (drop j ns) (2 * k))

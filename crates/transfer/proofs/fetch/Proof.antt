@@ -1,4 +1,4 @@
--- `shift::fetch` meets its contract.
+-- `transfer::fetch` meets its contract.
 -- Assumes nothing.
 use Prim.Native.Nat.{ℕ, _+_, _*_, _-_, _%_}
 use native.Mathlib.Nat.{zero-add}
@@ -10,9 +10,9 @@ use lib.ListN.{length, take, length-set, drop}
 use borrow.Author.Needs.{needs}
 use Rattle.format.specs.Nibbles.{nibbles}
 use Rattle.laws.proofs.Nibbles.{length-nibbles}
 use Rattle.shift.proofs.Paste.{ends}
-use Rattle.shift.proofs.fetch.Statement.{statement}
-use Rattle.shift.proofs.fetch.Tie as tie
+use Rattle.transfer.proofs.fetch.Statement.{statement}
+use Rattle.transfer.proofs.fetch.Tie as tie
 
 returns : tie.Need-returns
 returns c = search needs

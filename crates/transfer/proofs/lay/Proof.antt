@@ -1,4 +1,4 @@
--- `shift::lay` meets its contract.
+-- `transfer::lay` meets its contract.
 -- Assumes nothing.
 use Prim.Native.Nat.{ℕ, _+_, _*_, _-_, _%_}
 use native.Mathlib.Nat.{zero-add}
@@ -10,9 +10,9 @@ use lib.ListN.{length, getD, set}
 use borrow.Author.Needs.{needs}
 use Rattle.format.specs.Nibbles.{nibbles}
 use Rattle.laws.proofs.Nibbles.{length-nibbles}
 use Rattle.shift.proofs.Paste.{paste-none, ends}
-use Rattle.shift.proofs.lay.Statement.{statement}
-use Rattle.shift.proofs.lay.Tie as tie
+use Rattle.transfer.proofs.lay.Statement.{statement}
+use Rattle.transfer.proofs.lay.Tie as tie
 
 returns : tie.Need-returns
 returns c =

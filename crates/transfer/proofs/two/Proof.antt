@@ -1,10 +1,10 @@
--- `shift::two` meets its contract.
+-- `transfer::two` meets its contract.
 -- Assumes nothing.
 use Prim.Native.Nat.{ℕ, _+_}
 use native.Mathlib.Omega.{arith}
 use borrow.Author.Needs.{needs}
-use Rattle.shift.proofs.two.Statement.{statement}
-use Rattle.shift.proofs.two.Tie as tie
+use Rattle.transfer.proofs.two.Statement.{statement}
+use Rattle.transfer.proofs.two.Tie as tie
 
 shared-slice-read-result : tie.Need-shared-slice-read-result
 shared-slice-read-result c = search needs
