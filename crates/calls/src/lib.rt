@@ -1,5 +1,5 @@
-// What the calls on the report that a buffer begins with have in common: what the judging of it found, and a number tested
-// against its two ends.
+// What the calls on the report that a buffer begins with have in common: what the judging of it found, and a test whether a
+// number lies between two ends.
 ghost use mathlib.Core.Path.{_≡_};
 ghost use Rattle.format.specs.Order.{between};
 

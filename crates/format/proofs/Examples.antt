@@ -174,7 +174,7 @@ examples =
     ∷ example (answersOf freshBytes (clearField 4 ∷ clearField 3 ∷ [])) (yes ++ refuses 10 3)
     ∷ []
 
--- all that the examples compute with
+-- every example holds: one computed fact, with all that it computes with unfolded
 pub examples-hold : T (every examples)
 unfolding signed given valueNumbers observationNumbers refusal judged answer answers yes refuses example freshExample freshBytes freshObservationExample sBytes textBytes reportWith reportOf highestCodes freshCodes badText flagless put1 flagCalls answersOf roomy wide examples same every first table fieldAt required scaledOf codedOf inRange entryOf codeOf entries codes bits number bitsOf bitField total readFields writeFields nibbles bytes padded attachmentNibbles tailNibbles attachmentsOf among weights weight totalWeight allMissing qualityCode flagsFit flagBody withFlag flagsValid charCode short pairByte codeNibbles classify byteOf escapable isSpace symbolNibbles fulls rest spaceRun writeFrom writeText spaces textStep stateAfter symbolsOf readFrom endFrom atEnd textValid readText widths checksum cardNumbers cardNibbles packing observationOf fieldChecks bodyValid attachmentChecks reportChecks judge stands contentOf putIn removeFrom next gives outputOf writes allNibbles callChecks checks step layout effect calls run claim freshObservation freshChecks fresh digitsFrom fieldLines listing
 examples-hold = tt

@@ -10,7 +10,8 @@ use Rattle.format.specs.Calls.{Call, Answer, outputOf, step}
 abbrev pub zeros : ℕ → List ℕ
 zeros n = replicate n 0
 
--- the buffer b with the packing of s at its front, "bytes from the new end up to the old end" e 0, "those beyond both" kept.
+-- the buffer b, whose report ended at e, with the packing of s at its front: "bytes from the new end up to the old end are 0;
+-- those beyond both ends keep their value".
 -- A step that changes nothing leaves the buffer: a report is the packing of its observation (crate laws)
 unfoldable pub layout : List ℕ → ℕ → Observation → List ℕ
 layout b e s = packing s ++ (zeros (e - size s) ++ drop (max e (size s)) b)

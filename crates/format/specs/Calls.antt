@@ -107,7 +107,7 @@ gives s (remove i) = []
 gives s (putText t) = []
 gives s (fetchText out) = some (pos (length (readText (content s 4)))) ∷ []
 
--- the output that it is lent, and what it writes there from the first byte on
+-- the output that a call is lent, refused or not; and what a step that is not refused writes there, from the first byte on
 unfoldable pub outputOf : Call → List ℕ
 outputOf (readField k) = []
 outputOf (setField k v) = []

@@ -11,7 +11,7 @@ use Rattle.format.specs.Order.{between}
 use Rattle.format.specs.declared.Coded.{Coded}
 use Rattle.format.specs.declared.Scaled.{Scaled}
 
--- an entry of the table: highest coded value, base, bits
+-- a row of the table: highest coded value, base, bits
 pub record Field : Type 0 where
   pub highest : ℕ
   pub base : ℤ
@@ -74,7 +74,7 @@ table =
     field 2 (minus 1) 2 ∷  -- 46 A6
     []
 
--- the entry of field k, from 1 to 46 (8 is judged before it is read)
+-- the row of field k, from 1 to 46 (8 is judged before it is read)
 unfoldable pub fieldAt : ℕ → Field
 fieldAt k = getD table (k - 1) (field 0 (pos 0) 0)
 

@@ -15,6 +15,7 @@ nibbles (b ∷ bs) = b / 16 ∷ b % 16 ∷ nibbles bs
 abbrev pub Nibbles : List ℕ → Type 0
 Nibbles ns = Below 16 ns
 
+-- the bytes of nibbles, two a byte; a last one alone is the high half
 unfoldable pub bytes : List ℕ → List ℕ
 bytes [] = []
 bytes (h ∷ []) = h * 16 ∷ []

@@ -1,4 +1,4 @@
--- The code's answers: 01's number, place and values for each case.
+-- What the code answers to the eleven calls: 01's number, place and values for each case.
 use Prim.Native.Nat.{ℕ}
 use mathlib.Core.List.{[], _∷_}
 use mathlib.Core.Option.{none, some}

@@ -6,7 +6,8 @@ pub struct Coded(pub u16);
 // A field's scaled value, in the field's unit: the coded number plus the base.
 pub struct Scaled(pub i64);
 
-// Where a reader of ship text stands: so many spaces that no symbol has followed yet, and what of a code it has read since.
+// For the definitions alone (crate text has a table of states): where a reader of ship text stands, with so many spaces that no
+// symbol has followed yet, and what of a code it has read since.
 pub enum TextState {
     // Between two codes.
     Between(usize),

@@ -104,7 +104,7 @@ module _ (f : Field) where
       ∙ ap (λ (z : ℤ). leZ (pos 1) z && leZ z (pos (f .highest))) (+ℤ-negℤ-cancel (pos (c .0)) (f .base))
       ∙ rw (le-leb 1 (c .0) l, le-leb (c .0) (f .highest) h)
 
-  -- ---- a field's entry on the observation
+  -- ---- a field's entry in the observation
 
   code-entry : (c : Coded) → codeOf f (entryOf f c) ≡ c
   unfolding codeOf entryOf

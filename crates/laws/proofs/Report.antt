@@ -313,7 +313,7 @@ counted b s bs e = sym (walked b bs (passes b s e .0) .count)
 
 -- ---- reports and observations
 
--- "two accepted reports are equal byte for byte exactly when their observations are"
+-- "two accepted reports are equal byte for byte exactly when their sheets are", which are their observations
 packing-inj : (s t : Observation) → Good s → Good t → packing s ≡ packing t → s ≡ t
 packing-inj s t gs gt e =
     let same : accepted s ≡ accepted t = sym (judge-packing s [] gs) ∙ ap (λ (p : List ℕ). judge (p ++ [])) e ∙ judge-packing t [] gt in

@@ -172,7 +172,7 @@ values-given k word (v ∷ vs) = ap₂ _∷_ (go (bitAt word k)) (values-given (
     go true = refl
     go false = refl
 
--- the values on the observation are those given, where the word says so
+-- the values in the observation are those given, where the word says so
 pack-values : (values : List ℤ) (word rptin : ℕ) (ns : List ℕ)
     → map valueOrZero (packObservation values word rptin ns .values) ≡ masked 1 word (take 46 values)
 unfolding packObservation

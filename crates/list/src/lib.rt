@@ -1,4 +1,4 @@
-// The driver: a script of calls performed on one buffer, and the record of their answers.
+// The driver: a script of calls performed on one buffer, and the log of their answers.
 ghost use mathlib.Core.Path.{_≡_};
 ghost use Prim.Native.Nat.{_≤_};
 ghost use lib.ListN.{length};
@@ -168,7 +168,8 @@ fn perform(b: &mut [u8], s: &[u8], log: &mut [u8]) -> Performed
     }
 }
 
-// Performs the entries of a script in their order, each on the buffer as the one before left it, and writes their records to the log.
+// Performs the entries of a script in their order, each on the buffer as the one before left it, and writes their records to
+// the log.
 pub fn replay(b: &mut [u8], script: &[u8], log: &mut [u8]) -> Performed
     ensures { λ r. ⌜ Performs (leaves (now (b .exit)) (now (log .exit)) r) (now (b .entry)) (now (script .entry)) (now (log .entry)) ⌝ }
 {

@@ -66,7 +66,8 @@ fn larger(a: u8, b: u8) -> u8
     a
 }
 
-// Whether each byte is a nibble: whether the largest is. A loop that stops early is not made one over many bytes at once.
+// Whether each byte is a nibble: whether the largest is. It does not stop early, since the compiler takes many bytes at once
+// only in a loop that runs to its end.
 pub fn all_nibbles(ns: &[u8]) -> bool
     ensures { λ r. ⌜ r ≡ allNibbles (now (ns .entry)) ⌝ }
 {

@@ -41,7 +41,7 @@ fn walk_fields(values: &[i64], word: u64) -> Checked
     Checked::Passed
 }
 
-// Checks the fields in ascending order. Where no field is refused straight lines tell; the walk finds the first refusal.
+// Checks the fields in ascending order: straight lines tell whether any is refused, and a walk then finds the first.
 fn check_fields(values: &[i64], word: u64) -> Checked
     requires { ⌜ 46 ≤ length (now values) ⌝ }
     ensures { λ r. ⌜ r ≡ fieldsChecked (now (values .entry)) word ⌝ }
@@ -52,7 +52,7 @@ fn check_fields(values: &[i64], word: u64) -> Checked
     walk_fields(values, word)
 }
 
-// Clears the nibble at a place that is odd.
+// Clears the nibble at a place, if the place is odd.
 fn pad(s: &mut [u8], at: usize)
     requires { ⌜ (at ≤ 2 * length (now s)) × (at ≤ 2 ^ 32) ⌝ }
     ensures { λ _. ⌜ (nibbles (now (s .exit)) ≡ cond (odd at) (set (nibbles (now (s .entry))) at 0) (nibbles (now (s .entry)))) × (length (now (s .exit)) ≡ length (now (s .entry))) ⌝ }

@@ -51,7 +51,7 @@ fn front(s: &[u8]) -> usize
     }
 }
 
-// The odd last nibble is 0.
+// Judges the odd last nibble, which has to be 0.
 fn last(s: &[u8], count: usize, t: Tail) -> Inspected
     requires { ⌜ (t .end ≤ 2 * length (now s)) × (t .end ≤ 2 ^ 32) ⌝ }
     ensures { λ r. ⌜ r ≡ lastOf (now (s .entry)) count t ⌝ }

@@ -137,10 +137,10 @@ counted-length s i n e h = rw (← e) (length-take-le n (drop (i + 8) s) (omega 
 
 -- an output of the n bytes at i stands as ys, at the log's place 10, to the call made as f′
 module _ (b s log : List ℕ) (k i n : ℕ) (f f′ : List ℕ → Call) (kind : getD s 0 0 ≡ k) (says : getD (kinds s) k none ≡ some (entry (f (bytesAt s i)) (i + 8 + numberAt s i)))
-    (lends : (d : List ℕ) → outputOf (f d) ≡ d) (num : n ≡ numberAt s i) (whole : i + 8 + n ≤ length s) where
+    (output-of : (d : List ℕ) → outputOf (f d) ≡ d) (num : n ≡ numberAt s i) (whole : i + 8 + n ≤ length s) where
   size : recordSize (f (bytesAt s i)) ≡ 10 + n
   unfolding recordSize
-  size = ap (λ (d : List ℕ). 10 + length d) (lends (bytesAt s i)) ∙ ap (λ (m : ℕ). 10 + m) (counted-length s i n num whole)
+  size = ap (λ (d : List ℕ). 10 + length d) (output-of (bytesAt s i)) ∙ ap (λ (m : ℕ). 10 + m) (counted-length s i n num whole)
 
   pub output-full : length log < 10 + n → idle b log ≡ turn b s log
   output-full h = turn-full b s log k (entry (f (bytesAt s i)) (i + 8 + numberAt s i)) kind says (omega arith) (rw size h)
@@ -158,7 +158,7 @@ module _ (b s log : List ℕ) (k i n : ℕ) (f f′ : List ℕ → Call) (kind :
       let is : after a b out ≡ effect b (f (bytesAt s i)) =
       g ∙ ap₂ (λ (h : List ℕ → Call) (d : List ℕ). effect b (h d)) made (output-part log ys ys n (10 + n - 10) room m as-many ∙ counted) in
       let out-many : length out ≡ n =
-      ap (λ (x : After). length (x .out)) is ∙ effect-out b (f (bytesAt s i)) ∙ ap length (lends (bytesAt s i)) ∙ counted-length s i n num whole in
+      ap (λ (x : After). length (x .out)) is ∙ effect-out b (f (bytesAt s i)) ∙ ap length (output-of (bytesAt s i)) ∙ counted-length s i n num whole in
       rw (← size, num)
       (turn-made b s log k (entry (f (bytesAt s i)) (i + 8 + numberAt s i)) kind says (omega arith) (rw size room) a b out log′ is (w ∙ output-log log ys out n (10 + n - 10) room m as-many a out-many))
 

@@ -167,7 +167,7 @@ fn code_at(s: &[u8], at: usize, packed: bool) -> Code
 
 // ---- the text of a valid body
 
-// Its length.
+// The length of the text.
 fn text_length(s: &[u8], c: Cursor, len: usize) -> usize
     requires { ⌜ (c .at + len ≤ length (view (c .packed) (now s))) × (c .at ≤ 2 ^ 32) × (len ≤ 4096) × (textValid (part (now s) c len) ≡ true) ⌝ }
     ensures { λ r. ⌜ r ≡ length (readText (part (now (s .entry)) c len)) ⌝ }
@@ -184,7 +184,7 @@ fn text_length(s: &[u8], c: Cursor, len: usize) -> usize
     count
 }
 
-// Whether it fits in so many bytes. Two nibbles give 18 bytes at most.
+// Whether the text fits in so many bytes. Two nibbles give 18 bytes at most.
 pub fn fits(s: &[u8], c: Cursor, len: usize, room: usize) -> bool
     requires { ⌜ (c .at + len ≤ length (view (c .packed) (now s))) × (c .at ≤ 2 ^ 32) × (len ≤ 4096) × (textValid (part (now s) c len) ≡ true) ⌝ }
     ensures { λ r. ⌜ r ≡ leb (length (readText (part (now (s .entry)) c len))) room ⌝ }
@@ -211,7 +211,7 @@ fn put_bytes(out: &mut [u8], at: usize, count: usize, b: u8)
     }
 }
 
-// Writes it, and gives its length.
+// Writes the text, and gives its length.
 pub fn read(s: &[u8], c: Cursor, len: usize, out: &mut [u8]) -> usize
     requires { ⌜ (c .at + len ≤ length (view (c .packed) (now s))) × (c .at ≤ 2 ^ 32) × (len ≤ 4096) × (length (readText (part (now s) c len)) ≤ length (now out)) × (textValid (part (now s) c len) ≡ true) ⌝ }
     ensures { λ r. ⌜ (now (out .exit) ≡ over (readText (part (now (s .entry)) c len)) (now (out .entry))) × (r ≡ length (readText (part (now (s .entry)) c len))) × Shortest (readText (part (now (s .entry)) c len)) (part (now (s .entry)) c len) ⌝ }

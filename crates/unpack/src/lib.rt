@@ -24,7 +24,7 @@ pub enum Unpacked {
     Given(Contents),
 }
 
-// Gives a report that shows r, if the outputs are long enough.
+// Gives what an accepted report holds, r being what judging it found, if the outputs are long enough.
 fn give(s: &[u8], r: Report, values: &mut [i64], tail: &mut [u8]) -> Unpacked
     requires { ⌜ Shown (now s) r ⌝ }
     ensures { λ u. ⌜ unpacked (unpackAnswer u) (now (values .exit)) (now (tail .exit)) ≡ spec.unpack (now (s .entry)) (now (values .entry)) (now (tail .entry)) ⌝ }

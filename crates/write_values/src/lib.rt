@@ -21,7 +21,7 @@ use format::Scaled;
 
 // ---- refused
 
-// The refusal of field k, of its row, given as a presence word and a value, or 0.
+// The refusal of field k, whose row is given, by a presence word and a value, or 0.
 pub fn refusal(k: usize, row: u64, word: u64, v: i64) -> u8
     requires { ⌜ (1 ≤ k) × (k ≤ 46) × Row k row ⌝ }
     ensures { λ r. ⌜ r ≡ refusalOf k word v ⌝ }
@@ -91,7 +91,7 @@ pub fn refusals(values: &[i64], word: u64) -> u64
 
 // ---- written
 
-// The coded number of field k, of its row, given as a presence word and a value, which is in range if it is present.
+// The coded number of field k, whose row is given, by a presence word and a value, which is in range if it is present.
 fn code_given(k: usize, row: u64, word: u64, v: i64) -> Coded
     requires { ⌜ (1 ≤ k) × (k ≤ 46) × Row k row × (bitAt word k && not (inRange (fieldAt k) (scaled v)) ≡ false) ⌝ }
     ensures { λ r. ⌜ (r ≡ codeOf (fieldAt k) (cond (bitAt word k) (some (scaled v)) none)) × (r .0 ≤ fieldAt k .highest) ⌝ }
