@@ -311,7 +311,7 @@ pub fn store(s: &mut [u8], k: usize, c: Coded)
 }
 
 // Writes the checksum of a sum of coded fields.
-pub fn seal(s: &mut [u8], sum: u64)
+pub fn set_checksum(s: &mut [u8], sum: u64)
     requires { ⌜ 38 ≤ length (now s) ⌝ }
     ensures { λ _. ⌜ Carded (now (s .entry)) (now (s .exit)) (set (numbersOf (now (s .entry))) 47 (sum % 255)) ⌝ }
 {

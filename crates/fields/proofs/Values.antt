@@ -122,14 +122,14 @@ module _ (b : List ℕ) (bs : Bytes b) (j : Accepted b) (k : ℕ) (t : Bool) (is
       call-refuses b (observationOf b) (clearField k) bs j (fieldNumberCheck k ∷ []) (requiredCheck k) [] refl
       (no-check (fieldNumberCheck k) [] known-passes first-nil) (sym eq ∙ must)
 
--- ---- the number that seals
+-- ---- the new checksum
 
 module _ (b : List ℕ) (n k : ℕ) (h : n ≡ checksum (codesOf b)) where
   -- the checksum less the old code and more the new one, by a multiple of 255 above 0
-  pub sealed : 1 ≤ k → k ≤ 46 → (o c : Coded) → o .0 ≡ getD (codesOf b) (k - 1) 0 → o .0 < 65536
+  pub new-checksum : 1 ≤ k → k ≤ 46 → (o c : Coded) → o .0 ≡ getD (codesOf b) (k - 1) 0 → o .0 < 65536
       → (n + 65535 - o .0 + c .0) % 255 ≡ checksum (set (codesOf b) (k - 1) (c .0))
   unfolding checksum
-  sealed low high o c e l =
+  new-checksum low high o c e l =
       let t : total (set (codesOf b) (k - 1) (c .0)) + getD (codesOf b) (k - 1) 0 ≡ total (codesOf b) + c .0 =
       total-set (codesOf b) (k - 1) (c .0) (rw (codes-length b) (omega arith)) in
       omega (arith, h)

@@ -1,10 +1,8 @@
 // The calls on fields of the report that a buffer begins with: read, set, clear. Each judges the report first.
 ghost use mathlib.Core.Path.{_≡_};
 ghost use mathlib.Core.List.{[]};
-ghost use Prim.Native.Nat.{_-_, _≤_};
-ghost use lib.ListN.{getD};
+ghost use Prim.Native.Nat.{_≤_};
 ghost use Rattle.format.specs.Field.{fieldAt};
-ghost use Rattle.format.specs.Report.{codesOf};
 ghost use Rattle.format.specs.Calls.{readField, setField, clearField};
 ghost use Rattle.format.specs.Buffer.{after, effect};
 ghost use Rattle.format.specs.Reply.{answerOf};
@@ -44,10 +42,10 @@ pub fn read_field(s: &[u8], k: usize) -> Reply
     }
 }
 
-// Stores a code in field k, of its row, of an accepted report, seals it, and gives the code that stood there.
-fn replace(s: &mut [u8], k: usize, row: u64, c: Coded) -> Coded
+// Stores a code in field k, whose row is given, of an accepted report, and sets the checksum.
+fn replace(s: &mut [u8], k: usize, row: u64, c: Coded)
     requires { ⌜ Accepted (now s) × (1 ≤ k) × (k ≤ 46) × Row k row × (c .0 ≤ fieldAt k .highest) ⌝ }
-    ensures { λ r. ⌜ (r .0 ≡ getD (codesOf (now (s .entry))) (k - 1) 0) × Carded (now (s .entry)) (now (s .exit)) (replaced (now (s .entry)) k (c .0)) ⌝ }
+    ensures { λ _. ⌜ Carded (now (s .entry)) (now (s .exit)) (replaced (now (s .entry)) k (c .0)) ⌝ }
 {
     let n = card::checksum(s);
     let old = card::code_in(s, row);
@@ -55,8 +53,7 @@ fn replace(s: &mut [u8], k: usize, row: u64, c: Coded) -> Coded
     let y = old.0;
     card::store_in(s, row, c);
     // 65535 is a multiple of 255, and no code is above it
-    card::seal(s, n + 65535 - y as u64 + x as u64);
-    old
+    card::set_checksum(s, n + 65535 - y as u64 + x as u64);
 }
 
 // Sets field k of an accepted report.

@@ -41,7 +41,7 @@ fn clear_card(out: &mut [u8])
     }
 }
 
-// Writes a card of these five codes, all else 0, and seals it.
+// Writes a card of these five codes, all else 0, and sets the checksum.
 fn write_fresh(out: &mut [u8], box10: Coded, year: Coded, month: Coded, x: Coded, y: Coded)
     requires { ⌜ (38 ≤ length (now out)) × FiveFit (box10 .0) (year .0) (month .0) (x .0) (y .0) ⌝ }
     ensures { λ _. ⌜ Carded (cleared (now (out .entry))) (now (out .exit)) (fiveNumbers (box10 .0) (year .0) (month .0) (x .0) (y .0)) ⌝ }
@@ -58,7 +58,7 @@ fn write_fresh(out: &mut [u8], box10: Coded, year: Coded, month: Coded, x: Coded
     card::store(out, 3, month);
     card::store(out, 6, x);
     card::store(out, 7, y);
-    card::seal(out, sum);
+    card::set_checksum(out, sum);
 }
 
 // The report of these five values, all else missing, to the first 38 bytes of out.

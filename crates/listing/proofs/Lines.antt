@@ -27,7 +27,7 @@ use Rattle.report.specs.Answers.{inspected}
 use Rattle.report.specs.declared.Report.{Report}
 use Rattle.report.specs.declared.Inspected.{Inspected}
 use Rattle.report.proofs.Outcomes.{judge-refused, judge-fine}
-use Rattle.listing.specs.Lines.{valueLines, totalLines, refusalLine}
+use Rattle.listing.specs.Lines.{valueLines, letteredLines, refusalLine}
 use Rattle.listing.proofs.Decimal.{decimal-short}
 
 -- ---- what a line is made of
@@ -127,8 +127,8 @@ module _ (b : List ℕ) (x : Inspected) (is : x ≡ inspected b 0) where
       sum-is : n ≡ checksum (codesOf b)
       sum-is = stored ∙ passes b (observationOf b) (judge-fine b 0 r x is e .0) .0 .sum
 
-      pub fine-lists : listingOf (judge b) ≡ valueLines b 0 ++ totalLines n (r .count)
-      unfolding valueLines totalLines observationOf
+      pub fine-lists : listingOf (judge b) ≡ valueLines b 0 ++ letteredLines n (r .count)
+      unfolding valueLines letteredLines observationOf
       fine-lists =
           let f = judge-fine b 0 r x is e in
           let sum : checksum (codes table (entries table (codesOf b))) ≡ n = ap checksum (codes-entries table (codesOf b) codes-table) ∙ sym sum-is in
@@ -140,8 +140,8 @@ module _ (b : List ℕ) (x : Inspected) (is : x ≡ inspected b 0) where
       unfolding checksum
       sum-fits = omega (arith, sum-is)
 
-      pub fine-short : r .count < 2 ^ 64 → length (valueLines b 0 ++ totalLines n (r .count)) ≤ 512
-      unfolding valueLines totalLines
+      pub fine-short : r .count < 2 ^ 64 → length (valueLines b 0 ++ letteredLines n (r .count)) ≤ 512
+      unfolding valueLines letteredLines
       fine-short g =
           let p = passes b (observationOf b) (judge-fine b 0 r x is e .0) .0 in
           let fields = lines-short 1 (checks-fair 1 table (codesOf b) codes-table (p .fields) .0) table-small (omega (arith, entries-length b)) in

@@ -21,8 +21,8 @@ pub record Puts (before after : List ℕ) (at : ℕ) (xs : List ℕ) (e : ℕ) :
 unfoldable pub valueLines : List ℕ → ℕ → List ℕ
 valueLines b i = fieldLines (suc i) (drop i (entries table (codesOf b)))
 
-unfoldable pub totalLines : ℕ → ℕ → List ℕ
-totalLines ck ac = line (67 ∷ []) (decimal ck) ++ line (65 ∷ []) (decimal ac)
+unfoldable pub letteredLines : ℕ → ℕ → List ℕ
+letteredLines ck ac = line (67 ∷ []) (decimal ck) ++ line (65 ∷ []) (decimal ac)
 
 unfoldable pub refusalLine : ℕ → ℕ → List ℕ
 refusalLine number place = listingOf (refused (record { number = number; place = place }))

@@ -7,7 +7,7 @@ ghost use Rattle.format.specs.Field.{fieldAt, entryOf};
 ghost use Rattle.format.specs.Calls.{over};
 ghost use Rattle.format.specs.Report.{judge};
 ghost use Rattle.format.specs.Lister.{decimal, signedDecimal, line, fieldLine, listingOf, listing};
-ghost use Rattle.listing.specs.Lines.{Room, Puts, valueLines, totalLines, refusalLine};
+ghost use Rattle.listing.specs.Lines.{Room, Puts, valueLines, letteredLines, refusalLine};
 use format::Coded;
 use report::Inspected;
 
@@ -79,7 +79,7 @@ fn put_fields(s: &[u8], out: &mut [u8]) -> usize
 }
 
 // A letter, a space, a number and the end of the line.
-fn put_total(out: &mut [u8], at: usize, letter: u8, n: u64) -> usize
+fn put_lettered(out: &mut [u8], at: usize, letter: u8, n: u64) -> usize
     requires { ⌜ Room (now out) at (line (letter ∷ []) (decimal n)) ⌝ }
     ensures { λ r. ⌜ Puts (now (out .entry)) (now (out .exit)) at (line (letter ∷ []) (decimal n)) r ⌝ }
 {
@@ -89,12 +89,12 @@ fn put_total(out: &mut [u8], at: usize, letter: u8, n: u64) -> usize
 }
 
 fn put_observation(s: &[u8], out: &mut [u8], ck: u64, ac: u64) -> usize
-    requires { ⌜ (38 ≤ length (now s)) × Room (now out) 0 (valueLines (now s) 0 ++ totalLines ck ac) ⌝ }
-    ensures { λ r. ⌜ Puts (now (out .entry)) (now (out .exit)) 0 (valueLines (now (s .entry)) 0 ++ totalLines ck ac) r ⌝ }
+    requires { ⌜ (38 ≤ length (now s)) × Room (now out) 0 (valueLines (now s) 0 ++ letteredLines ck ac) ⌝ }
+    ensures { λ r. ⌜ Puts (now (out .entry)) (now (out .exit)) 0 (valueLines (now (s .entry)) 0 ++ letteredLines ck ac) r ⌝ }
 {
     let f = put_fields(s, out);
-    let e = put_total(out, f, b'C', ck);
-    put_total(out, e, b'A', ac)
+    let e = put_lettered(out, f, b'C', ck);
+    put_lettered(out, e, b'A', ac)
 }
 
 fn put_refusal(out: &mut [u8], number: u64, place: u64) -> usize

@@ -202,7 +202,7 @@ pub fn write(s: &mut [u8], rptin: u16, values: &[i64], word: u64, count: usize)
     ensures { λ _. ⌜ Carded (now (s .entry)) (now (s .exit)) (rptin ∷ (given (now (values .entry)) word ++ (checksum (given (now (values .entry)) word) ∷ count ∷ []))) ⌝ }
 {
     let sum = write_fields(s, values, word);
-    card::seal(s, sum);
+    card::set_checksum(s, sum);
     card::set_count(s, count);
     card::set_rptin(s, rptin);
 }

@@ -38,7 +38,7 @@ same-length : tie.Need-same-length
 same-length c = search needs
 
 returns-3 : tie.Need-returns-3
-returns-3 c = field-cleared _ (λ i. c .before .before .before .before .before .before .before .before .before .slice-known .given i .fits) (c .before .before .before .before .before .before .before .before .before .before .pre) (c .before .before .before .before .before .before .before .before .before .before .args .k) _ (c .before .before .before .before .before .before .before .before .within .ensures) (c .before .before .before .before .before .before .before .if1 .left) _ (λ i. c .slice-known2 .given i .fits) _ (c .before .before .before .before .before .is-required .ensures) (c .before .before .before .before .if2 .left) _ refl (c .before .before .replace .ensures .1)
+returns-3 c = field-cleared _ (λ i. c .before .before .before .before .before .before .before .before .before .slice-known .given i .fits) (c .before .before .before .before .before .before .before .before .before .before .pre) (c .before .before .before .before .before .before .before .before .before .before .args .k) _ (c .before .before .before .before .before .before .before .before .within .ensures) (c .before .before .before .before .before .before .before .if1 .left) _ (λ i. c .slice-known2 .given i .fits) _ (c .before .before .before .before .before .is-required .ensures) (c .before .before .before .before .if2 .left) _ refl (c .before .before .replace .ensures)
 
 pub clear-field-of-spec : {M : Type 1} → statement M
 clear-field-of-spec =

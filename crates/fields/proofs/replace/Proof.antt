@@ -11,7 +11,7 @@ use Rattle.card.specs.Answers.{Carded}
 use Rattle.card.proofs.Rows.{row-window}
 use Rattle.card.proofs.Numbers.{row-at, row-lt, carded-row}
 use Rattle.card.proofs.Given.{carded-then}
-use Rattle.fields.proofs.Values.{sealed}
+use Rattle.fields.proofs.Values.{new-checksum}
 use native.Mathlib.Omega.{arith}
 use borrow.Author.Needs.{needs}
 use Rattle.fields.proofs.replace.Statement.{statement}
@@ -26,23 +26,23 @@ code-in-requires c κs = row-window (c .before .before .before .before .args .k)
 store-in-requires : tie.Need-store-in-requires
 store-in-requires c κs = (row-window (c .before .before .before .before .before .before .args .k) _ _ (c .before .before .before .before .before .before .pre .3) (passes _ _ (c .before .before .before .before .before .before .pre .0) .0 .long), row-lt (c .before .before .before .before .before .before .args .k) _ _ (c .before .before .before .before .before .before .pre .3) (c .before .before .before .before .before .before .pre .1) (c .before .before .before .before .before .before .pre .2) (c .before .before .before .before .before .before .pre .4))
 
-add-seal : tie.Need-add-seal
-add-seal c = search needs
+add-set-checksum : tie.Need-add-set-checksum
+add-set-checksum c = search needs
 
-cast-seal : tie.Need-cast-seal
-cast-seal c = search needs
+cast-set-checksum : tie.Need-cast-set-checksum
+cast-set-checksum c = search needs
 
-sub-seal : tie.Need-sub-seal
-sub-seal c = search needs
+sub-set-checksum : tie.Need-sub-set-checksum
+sub-set-checksum c = search needs
 
-cast-seal-2 : tie.Need-cast-seal-2
-cast-seal-2 c = search needs
+cast-set-checksum-2 : tie.Need-cast-set-checksum-2
+cast-set-checksum-2 c = search needs
 
-add-seal-2 : tie.Need-add-seal-2
-add-seal-2 c = search needs
+add-set-checksum-2 : tie.Need-add-set-checksum-2
+add-set-checksum-2 c = search needs
 
-seal-requires : tie.Need-seal-requires
-seal-requires c κs = omega (arith, c .before .before .before .store-in .ensures .1, passes _ _ (c .before .before .before .before .before .before .before .before .before .before .pre .0) .0 .long)
+set-checksum-requires : tie.Need-set-checksum-requires
+set-checksum-requires c κs = omega (arith, c .before .before .before .store-in .ensures .1, passes _ _ (c .before .before .before .before .before .before .before .before .before .before .pre .0) .0 .long)
 
 same-length : tie.Need-same-length
 same-length c = search needs
@@ -55,12 +55,10 @@ returns c =
     let p = passes _ _ (c .before .before .before .before .before .before .before .before .before .before .before .before .before .pre .0) .0 in
     let old = c .before .before .before .before .before .before .before .before .code-in .ensures ∙ row-at b k _ (c .before .before .before .before .before .before .before .before .before .before .before .before .before .pre .3) (c .before .before .before .before .before .before .before .before .before .before .before .before .before .pre .1) (c .before .before .before .before .before .before .before .before .before .before .before .before .before .pre .2) in
     let small : c .before .before .before .before .before .before .before .before .code-in .result .0 < 65536 = search needs in
-    let sum = sealed b _ k (c .before .before .before .before .before .before .before .before .before .before .checksum .ensures .0 ∙ p .sum) (c .before .before .before .before .before .before .before .before .before .before .before .before .before .pre .1) (c .before .before .before .before .before .before .before .before .before .before .before .before .before .pre .2) (c .before .before .before .before .before .before .before .before .code-in .result) (c .before .before .before .before .before .before .before .before .before .before .before .before .before .args .c) old small in
-    let stored = carded-row b (c .before .before .before .before .before .before .store-in .last .0) k _ x (c .before .before .before .before .before .before .before .before .before .before .before .before .before .pre .3) (λ j. c .before .before .before .before .before .before .before .before .before .before .before .before .slice-known .given j .fits) (λ j. c .before .before .before .before .slice-known2 .given j .fits) (p .long) (c .before .before .before .before .before .before .before .before .before .before .before .before .before .pre .1) (c .before .before .before .before .before .before .before .before .before .before .before .before .before .pre .2) (c .before .before .before .before .before .before .before .before .before .before .before .before .before .pre .4) (c .before .before .before .before .before .before .store-in .ensures .0) (c .before .before .before .before .before .before .store-in .ensures .1) in (
-      old,
-      subst (λ (n : ℕ). Carded b (c .before .before .seal .last .0) (set (set (numbersOf b) k x) 47 n)) sum
-          (carded-then b (c .before .before .before .before .before .before .store-in .last .0) (c .before .before .seal .last .0) (set (numbersOf b) k x) 47 _ stored (c .before .before .seal .ensures)),
-    )
+    let sum = new-checksum b _ k (c .before .before .before .before .before .before .before .before .before .before .checksum .ensures .0 ∙ p .sum) (c .before .before .before .before .before .before .before .before .before .before .before .before .before .pre .1) (c .before .before .before .before .before .before .before .before .before .before .before .before .before .pre .2) (c .before .before .before .before .before .before .before .before .code-in .result) (c .before .before .before .before .before .before .before .before .before .before .before .before .before .args .c) old small in
+    let stored = carded-row b (c .before .before .before .before .before .before .store-in .last .0) k _ x (c .before .before .before .before .before .before .before .before .before .before .before .before .before .pre .3) (λ j. c .before .before .before .before .before .before .before .before .before .before .before .before .slice-known .given j .fits) (λ j. c .before .before .before .before .slice-known2 .given j .fits) (p .long) (c .before .before .before .before .before .before .before .before .before .before .before .before .before .pre .1) (c .before .before .before .before .before .before .before .before .before .before .before .before .before .pre .2) (c .before .before .before .before .before .before .before .before .before .before .before .before .before .pre .4) (c .before .before .before .before .before .before .store-in .ensures .0) (c .before .before .before .before .before .before .store-in .ensures .1) in
+    subst (λ (n : ℕ). Carded b (c .before .before .set-checksum .last .0) (set (set (numbersOf b) k x) 47 n)) sum
+    (carded-then b (c .before .before .before .before .before .before .store-in .last .0) (c .before .before .set-checksum .last .0) (set (numbersOf b) k x) 47 _ stored (c .before .before .set-checksum .ensures))
 
 pub replace-spec : {M : Type 1} → statement M
 replace-spec =
@@ -69,11 +67,11 @@ replace-spec =
     checksum-requires
     code-in-requires
     store-in-requires
-    add-seal
-    cast-seal
-    sub-seal
-    cast-seal-2
-    add-seal-2
-    seal-requires
+    add-set-checksum
+    cast-set-checksum
+    sub-set-checksum
+    cast-set-checksum-2
+    add-set-checksum-2
+    set-checksum-requires
     same-length
     returns)

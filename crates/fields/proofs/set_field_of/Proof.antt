@@ -51,7 +51,7 @@ same-length c = search needs
 returns-3 : tie.Need-returns-3
 returns-3 c =
     let h = between-in 1 46 (c .before .before .before .before .before .before .before .before .before .before .before .before .args .k) _ (c .before .before .before .before .before .before .before .before .before .before .within .ensures) (c .before .before .before .before .before .before .before .before .before .if1 .left) in
-    field-set _ (λ i. c .before .before .before .before .before .before .before .before .before .before .before .slice-known .given i .fits) (c .before .before .before .before .before .before .before .before .before .before .before .before .pre) (c .before .before .before .before .before .before .before .before .before .before .before .before .args .k) _ (c .before .before .before .before .before .before .before .before .before .before .within .ensures) (c .before .before .before .before .before .before .before .before .before .if1 .left) _ (λ i. c .slice-known2 .given i .fits) (c .before .before .before .before .before .before .before .before .before .before .before .before .args .v) _ (sym (c .before .before .before .before .before .g .given .1) ∙ c .before .before .before .before .before .before .before .coded-in .ensures ∙ ap (λ (f : Field). codingOf f (c .before .before .before .before .before .before .before .before .before .before .before .before .args .v)) (field-row (c .before .before .before .before .before .before .before .before .before .before .before .before .args .k) _ (c .before .before .before .before .before .before .before .before .row .ensures) (h .0) (h .1))) (c .before .before .replace .ensures .1)
+    field-set _ (λ i. c .before .before .before .before .before .before .before .before .before .before .before .slice-known .given i .fits) (c .before .before .before .before .before .before .before .before .before .before .before .before .pre) (c .before .before .before .before .before .before .before .before .before .before .before .before .args .k) _ (c .before .before .before .before .before .before .before .before .before .before .within .ensures) (c .before .before .before .before .before .before .before .before .before .if1 .left) _ (λ i. c .slice-known2 .given i .fits) (c .before .before .before .before .before .before .before .before .before .before .before .before .args .v) _ (sym (c .before .before .before .before .before .g .given .1) ∙ c .before .before .before .before .before .before .before .coded-in .ensures ∙ ap (λ (f : Field). codingOf f (c .before .before .before .before .before .before .before .before .before .before .before .before .args .v)) (field-row (c .before .before .before .before .before .before .before .before .before .before .before .before .args .k) _ (c .before .before .before .before .before .before .before .before .row .ensures) (h .0) (h .1))) (c .before .before .replace .ensures)
 
 pub set-field-of-spec : {M : Type 1} → statement M
 set-field-of-spec =

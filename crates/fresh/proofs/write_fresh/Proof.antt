@@ -56,8 +56,8 @@ store-requires-4 c κs = search needs
 store-requires-5 : tie.Need-store-requires-5
 store-requires-5 c κs = search needs
 
-seal-requires : tie.Need-seal-requires
-seal-requires c κs = search needs
+set-checksum-requires : tie.Need-set-checksum-requires
+set-checksum-requires c κs = search needs
 
 same-length : tie.Need-same-length
 same-length c = search needs
@@ -78,7 +78,7 @@ returns c =
     let w6 = carded-then z _ _ n3 6 _ w3 (c .before .before .before .before .before .before .before .before .before .before .store4 .ensures) in
     let w7 = carded-then z _ _ n6 7 _ w6 (c .before .before .before .before .before .before .store5 .ensures) in
     five-carded a b m x (c .before .before .before .before .before .before .before .before .before .before .before .before .before .before .before .before .before .before .before .before .before .before .before .before .before .before .before .before .before .args .y .0) (now (c .before .before .before .before .before .before .before .before .before .before .before .before .before .before .before .before .before .before .before .before .before .before .before .before .before .before .before .before .before .args .out)) z _ (c .before .before .before .before .before .before .before .before .before .before .before .before .before .before .before .before .before .before .before .before .before .before .before .before .before .before .clear-card .ensures)
-    (carded-then z _ _ (set n6 7 (c .before .before .before .before .before .before .before .before .before .before .before .before .before .before .before .before .before .before .before .before .before .before .before .before .before .before .before .before .before .args .y .0)) 47 _ w7 (c .before .before .seal .ensures))
+    (carded-then z _ _ (set n6 7 (c .before .before .before .before .before .before .before .before .before .before .before .before .before .before .before .before .before .before .before .before .before .before .before .before .before .before .before .before .before .args .y .0)) 47 _ w7 (c .before .before .set-checksum .ensures))
 
 pub write-fresh-spec : {M : Type 1} → statement M
 write-fresh-spec =
@@ -99,6 +99,6 @@ write-fresh-spec =
     store-requires-3
     store-requires-4
     store-requires-5
-    seal-requires
+    set-checksum-requires
     same-length
     returns)

@@ -7,7 +7,7 @@ use mathlib.Core.List.{_++_}
 use lib.ListN.{length}
 use borrow.Author.Needs.{needs}
 use Rattle.report.specs.declared.Report.{Report}
-use Rattle.listing.specs.Lines.{valueLines, totalLines, refusalLine}
+use Rattle.listing.specs.Lines.{valueLines, letteredLines, refusalLine}
 use Rattle.listing.proofs.Puts.{puts-over}
 use Rattle.listing.proofs.Lines.{refused-lists, refused-short, fine-lists, fine-long, fine-short}
 use Rattle.listing.proofs.list_all.Statement.{statement}
@@ -21,7 +21,7 @@ refused c =
     let b : p < 2 ^ 64 = search needs in
     refused-short n p a b
 
-fine : (c : tie.After-checksum) → length (valueLines (c .before .before .before .before .before .before .before .before .args .s .now) 0 ++ totalLines (c .checksum .result) (c .before .before .before .i2 .given .0 .0 .count)) ≤ 512
+fine : (c : tie.After-checksum) → length (valueLines (c .before .before .before .before .before .before .before .before .args .s .now) 0 ++ letteredLines (c .checksum .result) (c .before .before .before .i2 .given .0 .0 .count)) ≤ 512
 fine c =
     let r : Report = c .before .before .before .i2 .given .0 .0 in
     let h : r .count < 2 ^ 64 = search needs in

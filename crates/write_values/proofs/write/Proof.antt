@@ -17,8 +17,8 @@ use Rattle.write_values.proofs.write.Tie as tie
 write-fields-requires : tie.Need-write-fields-requires
 write-fields-requires c κs = search needs
 
-seal-requires : tie.Need-seal-requires
-seal-requires c κs = search needs
+set-checksum-requires : tie.Need-set-checksum-requires
+set-checksum-requires c κs = search needs
 
 set-count-requires : tie.Need-set-count-requires
 set-count-requires c κs = search needs
@@ -40,8 +40,8 @@ returns c =
     let s : List ℕ = now (st .args .s) in
     let cs : List ℕ = given (now (st .args .values)) (st .args .word) in
     let sum : ℕ = f .write-fields .result in
-    let a₁ = carded-then s (f .write-fields .last .0) (k .seal .last .0) (fielded (numbersOf s) cs 46) 47 (sum % 255) (f .write-fields .ensures .0) (k .seal .ensures) in
-    let a₂ = carded-then s (k .seal .last .0) (n .set-count .last .0) _ 48 (st .args .count) a₁ (n .set-count .ensures) in
+    let a₁ = carded-then s (f .write-fields .last .0) (k .set-checksum .last .0) (fielded (numbersOf s) cs 46) 47 (sum % 255) (f .write-fields .ensures .0) (k .set-checksum .ensures) in
+    let a₂ = carded-then s (k .set-checksum .last .0) (n .set-count .last .0) _ 48 (st .args .count) a₁ (n .set-count .ensures) in
     let a₃ = carded-then s (n .set-count .last .0) (r .set-rptin .last .0) _ 0 (st .args .rptin) a₂ (r .set-rptin .ensures) in
     subst (λ (m : ℕ). Carded s (r .set-rptin .last .0) (st .args .rptin ∷ (cs ++ (m % 255 ∷ st .args .count ∷ [])))) (f .write-fields .ensures .1)
     (carded-whole s (r .set-rptin .last .0) cs (sum % 255) (st .args .count) (st .args .rptin) (given-length (now (st .args .values)) (st .args .word) (st .pre .2)) a₃)
@@ -51,7 +51,7 @@ write-spec =
     tie.close
     (tie.spec
     write-fields-requires
-    seal-requires
+    set-checksum-requires
     set-count-requires
     set-rptin-requires
     same-length

@@ -1,12 +1,12 @@
--- `card::seal` meets its contract.
+-- `card::set_checksum` meets its contract.
 -- Assumes nothing.
 use Prim.Native.Nat.{_%_}
 use native.Mathlib.Omega.{arith}
 use denote.Ref.{now}
 use Rattle.card.proofs.Numbers.{carded-checksum}
 use borrow.Author.Needs.{needs}
-use Rattle.card.proofs.seal.Statement.{statement}
-use Rattle.card.proofs.seal.Tie as tie
+use Rattle.card.proofs.set_checksum.Statement.{statement}
+use Rattle.card.proofs.set_checksum.Tie as tie
 
 write-requires : tie.Need-write-requires
 write-requires c κs = search needs
@@ -25,5 +25,5 @@ returns c =
     (omega arith)
     (c .before .before .write .ensures .0)
 
-pub seal-spec : {M : Type 1} → statement M
-seal-spec = tie.close (tie.spec write-requires same-length returns)
+pub set-checksum-spec : {M : Type 1} → statement M
+set-checksum-spec = tie.close (tie.spec write-requires same-length returns)

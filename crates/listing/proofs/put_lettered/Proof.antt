@@ -1,4 +1,4 @@
--- `listing::put_total` meets its contract.
+-- `listing::put_lettered` meets its contract.
 -- Assumes nothing.
 use Prim.Native.Nat.{ℕ, _+_}
 use native.Mathlib.Omega.{arith}
@@ -8,8 +8,8 @@ use lib.ListN.{set, length-set}
 use borrow.Author.Needs.{needs}
 use Rattle.format.specs.Lister.{decimal}
 use Rattle.listing.proofs.Puts.{room-two, puts-two}
-use Rattle.listing.proofs.put_total.Statement.{statement}
-use Rattle.listing.proofs.put_total.Tie as tie
+use Rattle.listing.proofs.put_lettered.Statement.{statement}
+use Rattle.listing.proofs.put_lettered.Tie as tie
 
 slice-write-out : tie.Need-slice-write-out
 slice-write-out c = search needs
@@ -39,8 +39,8 @@ returns : tie.Need-returns
 returns c =
     puts-two (c .before .before .before .before .before .args .out .now) (c .before .before .before .before .before .args .at) (c .before .before .before .before .before .args .letter) (decimal (c .before .before .before .before .before .args .n) ++ (10 ∷ [])) 32 _ _ (c .before .before .put-number .ensures)
 
-pub put-total-spec : {M : Type 1} → statement M
-put-total-spec =
+pub put-lettered-spec : {M : Type 1} → statement M
+put-lettered-spec =
     tie.close
     (tie.spec
     slice-write-out
