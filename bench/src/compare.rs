@@ -175,7 +175,7 @@ fn contents_of(result: Result<Unpacked, Refusal>) -> (Answer, [u64; 6]) {
 }
 
 /// Runs a case on a side; whether answer and bytes are the unrelated implementation's.
-/// The lister's cases have no call.
+/// Cases of the lister, of same and of the trips have no call here.
 pub fn agrees(side: Side, case: &Case) -> bool {
     let outcome = case.run();
     match (case, outcome) {

@@ -92,7 +92,11 @@ pub fn whole(case: &Case) -> Outcome {
                 [("values", &values), ("tail", tail), ("output", &output)];
             outcome(result, &buffers)
         }
-        Case::Lister { .. } | Case::Calls { .. } => unreachable!("no call on a whole report"),
+        Case::Lister { .. }
+        | Case::Same { .. }
+        | Case::Restore { .. }
+        | Case::Recover { .. }
+        | Case::Calls { .. } => unreachable!("neither judge, fresh, unpack nor pack"),
     }
 }
 

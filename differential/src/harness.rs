@@ -71,7 +71,11 @@ impl Harness {
                 tail,
                 output,
             } => self.pack(values, *word, *rptin, tail, output),
-            Case::Lister { .. } | Case::Calls { .. } => unreachable!("no call on a whole report"),
+            Case::Lister { .. }
+            | Case::Same { .. }
+            | Case::Restore { .. }
+            | Case::Recover { .. }
+            | Case::Calls { .. } => unreachable!("neither judge, fresh, unpack nor pack"),
         }
     }
 

@@ -45,9 +45,11 @@ impl Tally {
             Case::Fresh { .. } => 1,
             Case::Unpack { .. } => 2,
             Case::Pack { .. } => 3,
-            Case::Lister { .. } | Case::Calls { .. } => {
-                unreachable!("no call on a whole report")
-            }
+            Case::Lister { .. }
+            | Case::Same { .. }
+            | Case::Restore { .. }
+            | Case::Recover { .. }
+            | Case::Calls { .. } => unreachable!("neither judge, fresh, unpack nor pack"),
         };
         self.counts[row][refusal] += 1;
     }

@@ -18,3 +18,4 @@ pub mod refusal;
 pub mod step;
 pub mod table;
 pub mod text;
+pub mod trips;

@@ -36,6 +36,31 @@ pub fn inputs(case: &Case) -> String {
             let (tail, output) = (hex(tail), hex(output));
             format!("pack {values} {word} {rptin} {tail} {output}")
         }
+        Case::Same { first, second } => format!("same {} {}", hex(first), hex(second)),
+        Case::Restore {
+            report,
+            values,
+            tail,
+            output,
+        } => {
+            let (report, values) = (hex(report), numbers(values));
+            let (tail, output) = (hex(tail), hex(output));
+            format!("restore {report} {values} {tail} {output}")
+        }
+        Case::Recover {
+            values,
+            word,
+            rptin,
+            tail,
+            output,
+            values_out,
+            tail_out,
+        } => {
+            let values = numbers(values);
+            let (tail, output) = (hex(tail), hex(output));
+            let (values_out, tail_out) = (numbers(values_out), hex(tail_out));
+            format!("recover {values} {word} {rptin} {tail} {output} {values_out} {tail_out}")
+        }
         Case::Calls { buffer, calls } => {
             let mut parts = vec![format!("calls {}", hex(buffer))];
             parts.extend(calls.iter().map(call));
@@ -78,6 +103,26 @@ fn outcome(outcome: &Outcome) -> String {
         Outcome::Pack { result, output } => {
             let answer = accepted(result, |bytes| format!("ok {bytes}"));
             format!("{answer} {}", hex(output))
+        }
+        Outcome::Same(result) => accepted(result, |same| format!("ok {}", u8::from(*same))),
+        Outcome::Restore {
+            result,
+            values,
+            tail,
+            output,
+        } => {
+            let answer = accepted(result, |bytes| format!("ok {bytes}"));
+            format!("{answer} {} {} {}", numbers(values), hex(tail), hex(output))
+        }
+        Outcome::Recover {
+            result,
+            output,
+            values_out,
+            tail_out,
+        } => {
+            let answer = accepted(result, unpacked);
+            let (values_out, tail_out) = (numbers(values_out), hex(tail_out));
+            format!("{answer} {values_out} {tail_out} {}", hex(output))
         }
         Outcome::Calls(answers) => {
             let answers: Vec<String> = answers

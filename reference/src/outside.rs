@@ -1,4 +1,4 @@
-//! The calls outside the list: fresh, unpack and pack.
+//! The calls outside the list: fresh, unpack, pack and same.
 
 use crate::attachment::{Attachment, next_attachment};
 use crate::card::{CARD_BYTES, CARD_NIBBLES};
@@ -87,6 +87,13 @@ pub fn pack(
     }
     output[..report.len()].copy_from_slice(&report);
     Ok(report.len())
+}
+
+/// Whether two reports, judged in this order, have the same bytes.
+pub fn same(first: &[u8], second: &[u8]) -> Result<bool, Refusal> {
+    let first_bytes = judge(first)?.bytes;
+    let second_bytes = judge(second)?.bytes;
+    Ok(first[..first_bytes] == second[..second_bytes])
 }
 
 fn has_bit(word: u64, bit: usize) -> bool {

@@ -9,10 +9,11 @@ use std::process::Command;
 
 use common::fresh_buffer;
 use reference::call::Call;
-use reference::cases::Case;
-use reference::gate::list::{self, List};
+use reference::cases::{Case, Outcome};
+use reference::gate::head::HEAD;
+use reference::gate::list::List;
 use reference::gate::list_cases::CALLS;
-use reference::gate::script::{entry, first_call, run, script};
+use reference::gate::script::{entry, first_call, record_size, run, script};
 use reference::gate::{self, SEED, list_cases, record, sizes, whole_cases};
 use reference::judge::judge;
 use reference::prng::Prng;
@@ -256,13 +257,13 @@ fn a_list_and_its_answer_by_hand() {
     let list = List {
         buffer: fresh_buffer(38),
         script: hex("01 0000000000000007 0C"),
-        room: 300,
+        room: 33,
     };
     let report = fresh_buffer(38);
     let input = [
         &hex("0026")[..],
         &report,
-        &hex("0000000A 010000000000000007 0C 0000012C"),
+        &hex("0000000A 010000000000000007 0C 00000021"),
     ];
     assert_eq!(list.input(), input.concat());
     let (after, ran) = list.run();
@@ -270,8 +271,9 @@ fn a_list_and_its_answer_by_hand() {
         &hex("00000001 00000009 0000000A")[..],
         &report,
         &hex("02 00 0000000000000000"),
+        &[165; 23],
     ];
-    assert_eq!(list::answer(&after, &ran), answer.concat());
+    assert_eq!(list.answer(&after, &ran), answer.concat());
 }
 
 /// A record and its answer.
@@ -401,6 +403,118 @@ fn pack_records_by_hand() {
 }
 
 #[test]
+fn same_records_by_hand() {
+    let (first, second) = (fresh_buffer(38), fresh_buffer(40));
+    let mut other = second.clone();
+    other[0] = 1;
+    let mut wrong = second.clone();
+    wrong[36] = 0;
+    for (second, answer) in [
+        (second, "02 00 0000000000000001"),
+        (other, "02 00 0000000000000000"),
+        (wrong, "00 04 0000000000000000"),
+    ] {
+        let input = [&hex("06 0026")[..], &first, &hex("0028"), &second].concat();
+        let same = Case::Same {
+            first: first.clone(),
+            second,
+        };
+        assert_eq!(both(&same), (input, hex(answer)));
+    }
+}
+
+#[test]
+fn restore_records_by_hand() {
+    let mut report = buffer_after();
+    report.truncate(41);
+    report[..2].copy_from_slice(&[0xAB, 0xCD]);
+    let restore = |values, tail, output| Case::Restore {
+        report: report.clone(),
+        values: vec![-1; values],
+        tail: vec![0xEE; tail],
+        output: vec![0xDD; output],
+    };
+    let input = [
+        &hex("07 0029")[..],
+        &report,
+        &hex("002F"),
+        &[0xFF; 47 * 8],
+        &hex("0007 EEEEEEEEEEEEEE 002B"),
+        &[0xDD; 43],
+    ];
+    let answer = [
+        &hex("02 00 0000000000000029")[..],
+        &fresh_values(),
+        &hex("FFFFFFFFFFFFFFFF 0003040C0101EE"),
+        &report,
+        &hex("DDDD"),
+    ];
+    assert_eq!(both(&restore(47, 7, 43)), (input.concat(), answer.concat()));
+    let input = [
+        &hex("07 0029")[..],
+        &report,
+        &hex("0001 FFFFFFFFFFFFFFFF 0002 EEEE 0003 DDDDDD"),
+    ];
+    let answer = hex("00 0D 0000000000000000 FFFFFFFFFFFFFFFF EEEE DDDDDD");
+    assert_eq!(both(&restore(1, 2, 3)), (input.concat(), answer));
+}
+
+#[test]
+fn recover_records_by_hand() {
+    let mut report = buffer_after();
+    report.truncate(41);
+    report[..2].copy_from_slice(&[0xAB, 0xCD]);
+    let mut values = vec![0; 46];
+    values[..3].copy_from_slice(&[1, 1900, 1]);
+    let recover = |word, values_out| Case::Recover {
+        values: values.clone(),
+        word,
+        rptin: 0xABCD,
+        tail: vec![0, 3, 4, 12, 1, 1],
+        output: vec![0xDD; 43],
+        values_out: vec![-1; values_out],
+        tail_out: vec![0xEE; 7],
+    };
+    let input = |word: &str, values_out: &str| {
+        [
+            &hex("08 002E")[..],
+            &fresh_values(),
+            &hex(word),
+            &hex("ABCD 0006 0003040C0101 002B"),
+            &[0xDD; 43],
+            &hex(values_out),
+            &hex("0007 EEEEEEEEEEEEEE"),
+        ]
+        .concat()
+    };
+    let values_out = format!("002F {}", "FF".repeat(47 * 8));
+    let answer = [
+        &hex("01 00 0000000000000000")[..],
+        &hex("00000000000000CE 0000000000000005 000000000000ABCD"),
+        &hex("0000000000000001 0000000000000029 0000000000000006"),
+        &fresh_values(),
+        &hex("FFFFFFFFFFFFFFFF 0003040C0101EE"),
+        &report,
+        &hex("DDDD"),
+    ];
+    let record = both(&recover(0xCE, 47));
+    let expected = (input("00000000000000CE", &values_out), answer.concat());
+    assert_eq!(record, expected);
+    for (word, answer) in [
+        (0xCE, "00 0D 0000000000000000"),
+        (0xC6, "00 0A 0000000000000003"),
+    ] {
+        let input = input(&format!("{word:016X}"), "0001 FFFFFFFFFFFFFFFF");
+        let answer = [
+            &hex(answer)[..],
+            &hex("FFFFFFFFFFFFFFFF EEEEEEEEEEEEEE"),
+            &[0xDD; 43],
+        ];
+        assert_eq!(both(&recover(word, 1)), (input, answer.concat()));
+    }
+}
+
+#[test]
 fn observations_have_the_wanted_size_and_sum() {
     let mut prng = Prng::new(1);
     let tails = (4..400).chain((400..3600).step_by(7)).chain(3600..=3631);
@@ -421,13 +535,16 @@ fn whole_files_meet_every_refusal_and_keep_their_limits() {
     let cases = whole_cases::cases(SEED);
     assert!(cases.iter().all(record::fits));
     let files = gate::whole(&cases);
-    assert!(files.stdin.len() + files.stdout.len() < 1_200_000);
+    assert!(files.stdin.len() + files.stdout.len() < 1_600_000);
     for (kind, refusals) in [
         ("judge", &[0, 1, 2, 3, 4, 5, 6, 7][..]),
         ("lister", &[0, 1, 2, 3, 4, 5, 6, 7]),
         ("fresh", &[0, 9, 13]),
         ("unpack", &[0, 1, 2, 3, 4, 5, 6, 7, 13]),
         ("pack", &[0, 1, 5, 6, 8, 9, 10, 13, 14]),
+        ("same", &[0, 1, 2, 3, 4, 5, 6, 7]),
+        ("restore", &[0, 1, 2, 3, 4, 5, 6, 7, 13]),
+        ("recover", &[0, 1, 5, 6, 8, 9, 10, 13, 14]),
     ] {
         let met: Vec<u8> = files.tally.refusals(kind);
         assert_eq!(met, refusals, "{kind}");
@@ -442,6 +559,40 @@ fn whole_files_meet_every_refusal_and_keep_their_limits() {
         .collect();
     assert!(sizes.len() > 60);
     assert_eq!((sizes.first(), sizes.last()), (Some(&38), Some(&1853)));
+}
+
+#[test]
+fn same_and_trips_are_met_on_every_side() {
+    let cases = whole_cases::cases(SEED);
+    let mut equal = [0, 0];
+    let mut sizes = BTreeSet::new();
+    for case in &cases {
+        match case.run() {
+            Outcome::Same(Ok(same)) => equal[usize::from(same)] += 1,
+            Outcome::Restore { result, .. } => sizes.extend(result),
+            Outcome::Recover { result, .. } => sizes.extend(result.map(|given| given.bytes)),
+            _ => {}
+        }
+    }
+    assert!(equal[0] > 50 && equal[1] > 15, "{equal:?}");
+    assert!(sizes.len() > 12);
+    assert_eq!((sizes.first(), sizes.last()), (Some(&38), Some(&1853)));
+}
+
+#[test]
+fn many_logs_are_longer_than_what_is_written() {
+    let mut a_little_longer = 0;
+    let mut head_alone_fits = 0;
+    for list in list_cases::lists(SEED) {
+        let (_, ran) = list.run();
+        let left = list.room - ran.log.len();
+        a_little_longer += usize::from((1..=40).contains(&left));
+        if let Some((call, _)) = first_call(&list.script[ran.taken..]) {
+            head_alone_fits += usize::from(left >= HEAD && left < record_size(&call));
+        }
+    }
+    assert!(a_little_longer > 100, "{a_little_longer}");
+    assert!(head_alone_fits >= 10, "{head_alone_fits}");
 }
 
 #[test]

@@ -1,9 +1,11 @@
-//! Fresh, unpack and pack.
+//! Fresh, unpack, pack and same.
 
 mod common;
 
-use common::{fresh_buffer, fresh_with_tail, refused};
-use reference::outside::{Unpacked, fresh, pack, unpack};
+use common::{fresh_buffer, fresh_with_tail, refused, set_bits, set_ck};
+use reference::cases::reports;
+use reference::judge::judge;
+use reference::outside::{Unpacked, fresh, pack, same, unpack};
 
 const SOUND: [i64; 5] = [1, 1900, 1, 0, 0];
 const FRESH_WORD: u64 = 0b1100_1110;
@@ -205,4 +207,66 @@ fn a_sixteenth_attachment_repeats_an_id() {
     assert_eq!(output[37], 0xF0);
     tail.extend([0, 1, 7, 5]);
     pack_refuses(&fresh_values(), FRESH_WORD, &tail, 200, 5, 16);
+}
+
+#[test]
+fn same_reads_the_reports_and_not_the_bytes_after_them() {
+    let tail = [0, 2, 9, 3, 4, 0, 1, 4, 7];
+    for report in [fresh_buffer(38), fresh_with_tail(2, &tail)] {
+        let longer = [&report[..], &[0xFF; 5]].concat();
+        let other = [&report[..], &[0; 2]].concat();
+        for first in [&report, &longer, &other] {
+            for second in [&report, &longer, &other] {
+                assert_eq!(same(first, second), Ok(true));
+            }
+        }
+    }
+}
+
+#[test]
+fn same_tells_reports_apart() {
+    let fresh = fresh_buffer(38);
+    let mut with_rptin = fresh.clone();
+    with_rptin[1] = 1;
+    // DAY 1 or HOUR 0: both have CK 241.
+    let mut with_day = fresh.clone();
+    set_bits(&mut with_day, 38, 5, 1);
+    set_ck(&mut with_day, 241);
+    let mut with_hour = fresh.clone();
+    set_bits(&mut with_hour, 43, 5, 1);
+    set_ck(&mut with_hour, 241);
+    let reports = [
+        fresh,
+        with_rptin,
+        with_day,
+        with_hour,
+        fresh_with_tail(1, &[0, 1, 9, 3]),
+        fresh_with_tail(1, &[0, 1, 9, 2]),
+        fresh_with_tail(1, &[0, 1, 8, 3]),
+        fresh_with_tail(1, &[0, 2, 9, 3, 0]),
+        fresh_with_tail(2, &[0, 1, 9, 3, 0, 1, 8, 3]),
+        fresh_with_tail(2, &[0, 1, 8, 3, 0, 1, 9, 3]),
+    ];
+    for (index, first) in reports.iter().enumerate() {
+        for (other, second) in reports.iter().enumerate() {
+            assert_eq!(same(first, second), Ok(index == other));
+        }
+    }
+}
+
+#[test]
+fn same_gives_the_first_refusal() {
+    let sound = fresh_buffer(38);
+    let damaged = reports::damaged();
+    for (first, second) in damaged.iter().zip(damaged.iter().skip(1)) {
+        let refusal = judge(first).unwrap_err();
+        assert_eq!(same(first, &sound), Err(refusal));
+        assert_eq!(same(&sound, first), Err(refusal));
+        assert_eq!(same(first, second), Err(refusal));
+        assert_eq!(same(first, first), Err(refusal));
+    }
+    let mut wrong = sound.clone();
+    set_ck(&mut wrong, 0);
+    assert_eq!(same(&wrong, &sound[..37]), refused(4, 0));
+    assert_eq!(same(&sound[..37], &wrong), refused(1, 0));
 }

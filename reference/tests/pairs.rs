@@ -11,6 +11,9 @@ fn refusal_of(case: &Case) -> Option<Refusal> {
         Outcome::Fresh { result, .. } => result.err(),
         Outcome::Unpack { result, .. } => result.err(),
         Outcome::Pack { result, .. } => result.err(),
+        Outcome::Same(result) => result.err(),
+        Outcome::Restore { result, .. } => result.err(),
+        Outcome::Recover { result, .. } => result.err(),
         Outcome::Calls(answers) => answers[0].0.result.err(),
     }
 }

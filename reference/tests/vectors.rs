@@ -73,6 +73,68 @@ fn lines_by_hand() {
     );
     let case = Case::Judge { report: Vec::new() };
     assert_eq!(line(&case), "judge - -> refused 1 0");
+    let same = |second: Vec<u8>| Case::Same {
+        first: fresh_buffer(38),
+        second,
+    };
+    assert_eq!(
+        line(&same(fresh_buffer(39))),
+        format!("same {report} {report}A5 -> ok 1")
+    );
+    let other = "ABCD".to_owned() + &report[4..];
+    let mut with_rptin = fresh_buffer(38);
+    with_rptin[..2].copy_from_slice(&[0xAB, 0xCD]);
+    assert_eq!(
+        line(&same(with_rptin)),
+        format!("same {report} {other} -> ok 0")
+    );
+    assert_eq!(
+        line(&same(vec![0])),
+        format!("same {report} 00 -> refused 1 0")
+    );
+}
+
+#[test]
+fn trips_by_hand() {
+    let zeros = "00".repeat(27);
+    let report = format!("00000059440000170A{zeros}F000");
+    let mut values = vec![0; 46];
+    values[..3].copy_from_slice(&[1, 1900, 1]);
+    let numbers = format!("1,1900,1{}", ",0".repeat(43));
+    let lent = format!("-7{}", ",-7".repeat(46));
+    let marks = "EE".repeat(39);
+    let restore = |values: usize| Case::Restore {
+        report: fresh_buffer(38),
+        values: vec![-7; values],
+        tail: vec![0xEE],
+        output: vec![0xEE; 39],
+    };
+    assert_eq!(
+        line(&restore(47)),
+        format!("restore {report} {lent} EE {marks} -> ok 38 {numbers},-7 EE {report}EE")
+    );
+    assert_eq!(
+        line(&restore(1)),
+        format!("restore {report} -7 EE {marks} -> refused 13 0 -7 EE {marks}")
+    );
+    let recover = |values_out: usize| Case::Recover {
+        values: values.clone(),
+        word: 0xCE,
+        rptin: 0,
+        tail: Vec::new(),
+        output: vec![0xEE; 39],
+        values_out: vec![-7; values_out],
+        tail_out: vec![0xEE],
+    };
+    let given = format!("recover {numbers} 206 0 - {marks}");
+    assert_eq!(
+        line(&recover(47)),
+        format!("{given} {lent} EE -> ok 206 5 0 0 38 0 {numbers},-7 EE {report}EE")
+    );
+    assert_eq!(
+        line(&recover(1)),
+        format!("{given} -7 EE -> refused 13 0 -7 EE {marks}")
+    );
 }
 
 #[test]

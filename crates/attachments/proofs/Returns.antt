@@ -11,7 +11,7 @@ use Rattle.format.specs.Bits.{Bytes}
 use Rattle.format.specs.Nibbles.{Attachment, attachment, nibbles, attachmentNibbles, tailNibbles}
 use Rattle.format.specs.Observation.{Observation, size}
 use Rattle.format.specs.Report.{numbersOf, observationOf}
-use Rattle.format.specs.Calls.{remove, next, gives, outputOf, writes, contentOf, putIn, removeFrom, withAttachments, withContent, callChecks, Answer}
+use Rattle.format.specs.Calls.{remove, edited, gives, outputOf, writes, contentOf, putIn, removeFrom, withAttachments, withContent, callChecks, Answer}
 use Rattle.format.specs.Buffer.{after, effect}
 use Rattle.format.specs.Reply.{refusal}
 use Rattle.laws.proofs.Nibbles.{length-nibbles}
@@ -84,7 +84,7 @@ module _ {b : List ℕ} {i : ℕ} {r : Report} (bs : Bytes b) (f : Found b i r) 
 
   pub remove-done : (c d : List ℕ) → 1 ≤ i → i ≤ 15 → nibbles c ≡ resized (nibbles b) (r .place) (3 + r .al) 0 (r .end) → length c ≡ length b
       → Carded c d (set (numbersOf c) 48 (r .count - 1)) → Bytes d → after (Answer.accepted []) d [] ≡ effect b (remove i)
-  unfolding callChecks outputOf writes gives next
+  unfolding callChecks outputOf writes gives edited
   remove-done c d low high moved same k bd =
       effect-done b (observationOf b) (remove i) bs (f .judged) d [] (id-passes i _ low high (stands-passes bs f h)) remove-fits (omega arith)
       (edit-laid bs remove-edit c (moved ∙ spliced-none (nibbles b) (r .place) (3 + r .al) (r .end))

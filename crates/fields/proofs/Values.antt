@@ -13,9 +13,9 @@ use Rattle.format.specs.Bits.{total, Bytes}
 use Rattle.format.specs.Field.{Field, table, fieldAt, isField, required, inRange, coded, scaledOf, codedOf, entryOf, codeOf, entries, codes}
 use Rattle.format.specs.Observation.{checksum, cardNumbers, size}
 use Rattle.format.specs.Report.{codesOf, observationOf}
-use Rattle.format.specs.Calls.{readField, setField, clearField, valueAt, withValue, valueNumber, fieldNumberCheck, valueCheck, requiredCheck, callChecks, next, gives, outputOf, writes, Answer}
+use Rattle.format.specs.Calls.{readField, setField, clearField, valueAt, withValue, valueNumber, fieldNumberCheck, valueCheck, requiredCheck, callChecks, edited, Quantity, given, gives, outputOf, writes, Answer}
 use Rattle.format.specs.Reply.{refusal, answerOf}
-use Rattle.format.specs.declared.Reply.the-variants.{Done, Value, Missing}
+use Rattle.format.specs.declared.Reply.the-variants.{Done, Value, MissingValue}
 use Rattle.format.specs.Buffer.{layout, after, effect}
 use Rattle.format.specs.declared.Coded.{Coded}
 use Rattle.format.specs.declared.Scaled.{Scaled}
@@ -76,14 +76,14 @@ module _ (b : List ℕ) (bs : Bytes b) (j : Accepted b) (k : ℕ) (t : Bool) (is
   known-passes = number-passes 1 46 k t is h
 
   field-gives : (c : Coded) → c .0 ≡ getD (codesOf b) (k - 1) 0 → (e : Option Scaled) → entryOf (fieldAt k) c ≡ e
-      → after (Answer.accepted (valueNumber e ∷ [])) b [] ≡ effect b (readField k)
-  unfolding callChecks next gives outputOf writes
+      → after (Answer.accepted (given Quantity.value (valueNumber e) ∷ [])) b [] ≡ effect b (readField k)
+  unfolding callChecks edited gives outputOf writes
   field-gives c at e there =
-      ap (λ (x : Option Scaled). after (Answer.accepted (valueNumber x ∷ [])) b []) (sym (value-is b k c (known .0) (known .1) at ∙ there))
+      ap (λ (x : Option Scaled). after (Answer.accepted (given Quantity.value (valueNumber x) ∷ [])) b []) (sym (value-is b k c (known .0) (known .1) at ∙ there))
       ∙ effect-same b (observationOf b) (readField k) bs j [] refl (no-check (fieldNumberCheck k) [] known-passes first-nil) (omega arith) refl
 
   module _ (c : Coded) (at : c .0 ≡ getD (codesOf b) (k - 1) 0) (m : Bool) (missing : m ≡ eqb (c .0) 0) where
-    pub field-missing : m ≡ true → after (answerOf Missing) b [] ≡ effect b (readField k)
+    pub field-missing : m ≡ true → after (answerOf MissingValue) b [] ≡ effect b (readField k)
     field-missing e = field-gives c at none (entry-missing (fieldAt k) c (eqb-true (c .0) 0 (sym missing ∙ e)))
 
     pub field-read : m ≡ false → (v : Scaled) → v ≡ scaledOf (fieldAt k) c → after (answerOf (Value v)) b [] ≡ effect b (readField k)
@@ -93,7 +93,7 @@ module _ (b : List ℕ) (bs : Bytes b) (j : Accepted b) (k : ℕ) (t : Bool) (is
   module _ (d : List ℕ) (bd : Bytes d) where
     pub field-set : (v : Scaled) (c : Coded) → Code c ≡ codingOf (fieldAt k) v → Carded b d (replaced b k (c .0))
         → after (answerOf Done) d [] ≡ effect b (setField k v)
-    unfolding callChecks next gives outputOf writes codeOf
+    unfolding callChecks edited gives outputOf writes codeOf
     field-set v c e r =
         let q = coding-code (fieldAt k) v c e in
         effect-done b (observationOf b) (setField k v) bs j d []
@@ -103,7 +103,7 @@ module _ (b : List ℕ) (bs : Bytes b) (j : Accepted b) (k : ℕ) (t : Bool) (is
 
     pub field-cleared : (q : Bool) → q ≡ required k → q ≡ false → (c : Coded) → c ≡ coded 0 → Carded b d (replaced b k (c .0))
         → after (answerOf Done) d [] ≡ effect b (clearField k)
-    unfolding callChecks next gives outputOf writes codeOf
+    unfolding callChecks edited gives outputOf writes codeOf
     field-cleared q eq free c e r =
         effect-done b (observationOf b) (clearField k) bs j d []
         (no-check (fieldNumberCheck k) (requiredCheck k ∷ []) known-passes (no-check (requiredCheck k) [] (sym eq ∙ free) first-nil))

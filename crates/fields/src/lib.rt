@@ -26,7 +26,7 @@ fn field_of(s: &[u8], k: usize) -> Reply
     let row = card::row(k);
     let c = card::code_in(&*s, row);
     if card::is_missing(c) {
-        return Reply::Missing;
+        return Reply::MissingValue;
     }
     Reply::Value(card::scaled_in(row, c))
 }

@@ -16,10 +16,10 @@ use Rattle.format.specs.Nibbles.{attachment, nibbles, attachmentNibbles, tailNi
 use Rattle.format.specs.Flags.{isFlag, flagInRange, qualityCode, flagAt, flagBody, withFlag}
 use Rattle.format.specs.Observation.{size}
 use Rattle.format.specs.Report.{observationOf, bodyValid}
-use Rattle.format.specs.Calls.{readFlag, setFlag, clearFlag, putIn, withContent, content, flagNumber, flagNumberCheck, flagValueCheck, standsCheck, callChecks, next, gives, outputOf, writes, Answer}
+use Rattle.format.specs.Calls.{readFlag, setFlag, clearFlag, putIn, withContent, content, flagNumber, flagNumberCheck, flagValueCheck, standsCheck, callChecks, edited, Quantity, given, gives, outputOf, writes, Answer}
 use Rattle.format.specs.Buffer.{layout, after, effect}
 use Rattle.format.specs.Reply.{refusal, answerOf}
-use Rattle.format.specs.declared.Reply.the-variants.{Done, Flag, Missing}
+use Rattle.format.specs.declared.Reply.the-variants.{Done, Flag, MissingFlag}
 use Rattle.laws.proofs.Order.{between-in, number-passes, first-nil, no-check}
 use Rattle.laws.proofs.Flags.{flagFits, missing-fits, range-fits, valid-flags, flag-set-length, flag-set-valid, flag-set-nibbles}
 use Rattle.laws.proofs.Attachments.{FineAt, fine-nibbles, fine-count, tail-append}
@@ -163,18 +163,18 @@ module _ (b : List ℕ) (bs : Bytes b) (place : ℕ) (f : FlagsAt b place) where
       passes : first (flagNumberCheck j ∷ standsCheck (observationOf b) 1 ∷ []) ≡ none
       passes = no-check (flagNumberCheck j) (standsCheck (observationOf b) 1 ∷ []) (number-passes 1 14 j t is h) (stands-passes bs (f .found) stands)
 
-      flag-gives : (v : ℕ) → v ≡ getD (nibbles b) (place + 3 + (j - 1)) 0 → after (Answer.accepted (flagNumber v ∷ [])) b [] ≡ effect b (readFlag j)
-      unfolding callChecks next gives outputOf writes
+      flag-gives : (v : ℕ) → v ≡ getD (nibbles b) (place + 3 + (j - 1)) 0 → after (Answer.accepted (given Quantity.flag (flagNumber v) ∷ [])) b [] ≡ effect b (readFlag j)
+      unfolding callChecks edited gives outputOf writes
       flag-gives v e =
           let k = known in
           let at : v ≡ flagAt (content (observationOf b) 1) j =
           e ∙ sym (getD-take 16 (drop (place + 3) (nibbles b)) (j - 1) 0 (omega arith) ∙ getD-drop (place + 3) (nibbles b) (j - 1) 0)
           ∙ ap (λ (x : List ℕ). getD x (j - 1) 0) flags-body in
-          ap (λ (x : ℕ). after (Answer.accepted (flagNumber x ∷ [])) b []) at
+          ap (λ (x : ℕ). after (Answer.accepted (given Quantity.flag (flagNumber x) ∷ [])) b []) at
           ∙ effect-same b (observationOf b) (readFlag j) bs (f .found .judged) [] refl passes (omega arith) refl
 
       module _ (v : ℕ) (at : v ≡ getD (nibbles b) (place + 3 + (j - 1)) 0) where
-        pub flag-missing : v ≡ 0 → after (answerOf Missing) b [] ≡ effect b (readFlag j)
+        pub flag-missing : v ≡ 0 → after (answerOf MissingFlag) b [] ≡ effect b (readFlag j)
         flag-missing e = rw (eq-eqb v 0 e) at (flag-gives v at)
 
         pub flag-read : (v ≡ 0 → ⊥) → after (answerOf (Flag v)) b [] ≡ effect b (readFlag j)
@@ -206,7 +206,7 @@ module _ (b : List ℕ) (bs : Bytes b) (place : ℕ) (f : FlagsAt b place) where
             (omega (arith, put-size p (withFlag old j v), flag-set-length old j v body-long, body-long))
 
         pub flag-set : (u : Bool) → u ≡ between 1 10 v → not u ≡ false → after (answerOf Done) d [] ≡ effect b (setFlag j v)
-        unfolding callChecks next gives outputOf writes
+        unfolding callChecks edited gives outputOf writes
         flag-set u eu hu =
             let inside : flagInRange j v ≡ true = rw (sym eu ∙ not-false u hu) in
             effect-done b (observationOf b) (setFlag j v) bs (f .found .judged) d []
@@ -215,7 +215,7 @@ module _ (b : List ℕ) (bs : Bytes b) (place : ℕ) (f : FlagsAt b place) where
             flag-fits (omega arith) (flag-laid (range-fits j v inside)) refl
 
         pub flag-cleared : v ≡ 0 → after (answerOf Done) d [] ≡ effect b (clearFlag j)
-        unfolding callChecks next gives outputOf writes
+        unfolding callChecks edited gives outputOf writes
         flag-cleared e =
             effect-done b (observationOf b) (clearFlag j) bs (f .found .judged) d [] passes
             (rw e at flag-fits) (omega arith) (rw e at (flag-laid (rw e (missing-fits j)))) refl

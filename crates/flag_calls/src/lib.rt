@@ -25,7 +25,7 @@ fn flag_of(s: &[u8], j: usize, place: usize) -> Reply
     }
     let v = nibble::nibble_at(s, place + 3 + (j - 1), true);
     if v == 0 {
-        return Reply::Missing;
+        return Reply::MissingFlag;
     }
     Reply::Flag(v)
 }

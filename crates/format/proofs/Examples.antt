@@ -15,7 +15,7 @@ use Rattle.format.specs.Flags.{weights, weight, totalWeight, allMissing,
 use Rattle.format.specs.ShipText.{charCode, short, pairByte, codeNibbles, classify, byteOf, escapable, isSpace, symbolNibbles, fulls, rest, spaceRun, writeFrom, writeText, spaces, textStep, stateAfter, symbolsOf, readFrom, endFrom, atEnd, textValid, readText}
 use Rattle.format.specs.Observation.{Observation, widths, checksum, cardNumbers, cardNibbles, packing}
 use Rattle.format.specs.Report.{observationOf, codesOf, checksumOf, fieldChecks, bodyValid, attachmentChecks, reportChecks, Verdict, refused, accepted, judge}
-use Rattle.format.specs.Calls.{Call, readField, setField, clearField, readFlag, setFlag, clearFlag, put, fetch, remove, putText, fetchText, stands, contentOf, putIn, removeFrom, withAttachments, next, gives, outputOf, writes, allNibbles, callChecks, checks, Answer, step}
+use Rattle.format.specs.Calls.{Call, readField, setField, clearField, readFlag, setFlag, clearFlag, put, fetch, remove, putText, fetchText, stands, contentOf, putIn, removeFrom, withAttachments, edited, Given, gives, outputOf, writes, allNibbles, callChecks, checks, Answer, step}
 use Rattle.format.specs.Buffer.{layout, effect, Shown, calls, run, claim}
 use Rattle.format.specs.Whole.{freshObservation, freshChecks, Wrote, fresh, presenceFrom, countPresent, Unpacked, unpackGives, unpack, packChecks, entriesGiven, countFrom, packObservation, packOrder, pack}
 use Rattle.format.specs.Lister.{digitsFrom, fieldLines, listing}
@@ -28,10 +28,13 @@ signed : ℤ → List ℕ
 signed (pos n) = 0 ∷ n ∷ []
 signed (negsuc n) = 1 ∷ n ∷ []
 
-given : List (Option ℤ) → List ℕ
+optional : Option ℤ → List ℕ
+optional none = 0 ∷ []
+optional (some z) = 1 ∷ signed z
+
+given : List Given → List ℕ
 given [] = []
-given (none ∷ more) = 0 ∷ given more
-given (some z ∷ more) = 1 ∷ (signed z ++ given more)
+given (g ∷ more) = optional (g .number) ++ given more
 
 valueNumbers : List (Option Scaled) → List ℕ
 valueNumbers [] = []
@@ -176,7 +179,7 @@ examples =
 
 -- every example holds: one computed fact, with all that it computes with unfolded
 pub examples-hold : T (every examples)
-unfolding signed given valueNumbers observationNumbers refusal judged answer answers yes refuses example freshExample freshBytes freshObservationExample sBytes textBytes reportWith reportOf highestCodes freshCodes badText flagless put1 flagCalls answersOf roomy wide examples same every first table fieldAt required scaledOf codedOf inRange entryOf codeOf entries codes bits number bitsOf bitField total readFields writeFields nibbles bytes padded attachmentNibbles tailNibbles attachmentsOf among weights weight totalWeight allMissing qualityCode flagsFit flagBody withFlag flagsValid charCode short pairByte codeNibbles classify byteOf escapable isSpace symbolNibbles fulls rest spaceRun writeFrom writeText spaces textStep stateAfter symbolsOf readFrom endFrom atEnd textValid readText widths checksum cardNumbers cardNibbles packing observationOf fieldChecks bodyValid attachmentChecks reportChecks judge stands contentOf putIn removeFrom next gives outputOf writes allNibbles callChecks checks step layout effect calls run claim freshObservation freshChecks fresh digitsFrom fieldLines listing
+unfolding signed optional given valueNumbers observationNumbers refusal judged answer answers yes refuses example freshExample freshBytes freshObservationExample sBytes textBytes reportWith reportOf highestCodes freshCodes badText flagless put1 flagCalls answersOf roomy wide examples same every first table fieldAt required scaledOf codedOf inRange entryOf codeOf entries codes bits number bitsOf bitField total readFields writeFields nibbles bytes padded attachmentNibbles tailNibbles attachmentsOf among weights weight totalWeight allMissing qualityCode flagsFit flagBody withFlag flagsValid charCode short pairByte codeNibbles classify byteOf escapable isSpace symbolNibbles fulls rest spaceRun writeFrom writeText spaces textStep stateAfter symbolsOf readFrom endFrom atEnd textValid readText widths checksum cardNumbers cardNibbles packing observationOf fieldChecks bodyValid attachmentChecks reportChecks judge stands contentOf putIn removeFrom edited gives outputOf writes allNibbles callChecks checks step layout effect calls run claim freshObservation freshChecks fresh digitsFrom fieldLines listing
 examples-hold = tt
 
 -- ---- two refusals that fit at once, zeroed bytes, unpack and pack
@@ -325,5 +328,5 @@ orders =
     ∷ []
 
 pub orders-hold : T (every orders)
-unfolding manyAttachments longTail longReport codesWith codesWithout spoilt one wholeValues numbers packed requiredBits unpackedNumbers orders presenceFrom countPresent unpackGives unpack packChecks entriesGiven countFrom packObservation packOrder pack signed given valueNumbers observationNumbers refusal judged answer answers yes refuses example freshExample freshBytes freshObservationExample sBytes textBytes reportWith reportOf highestCodes freshCodes badText flagless put1 flagCalls answersOf roomy wide same every first table fieldAt required scaledOf codedOf inRange entryOf codeOf entries codes bits number bitsOf bitField total readFields writeFields nibbles bytes padded attachmentNibbles tailNibbles attachmentsOf among weights weight totalWeight allMissing qualityCode flagsFit flagBody withFlag flagsValid charCode short pairByte codeNibbles classify byteOf escapable isSpace symbolNibbles fulls rest spaceRun writeFrom writeText spaces textStep stateAfter symbolsOf readFrom endFrom atEnd textValid readText widths checksum cardNumbers cardNibbles packing observationOf fieldChecks bodyValid attachmentChecks reportChecks judge stands contentOf putIn removeFrom next gives outputOf writes allNibbles callChecks checks step layout effect calls run claim freshObservation freshChecks fresh digitsFrom fieldLines listing
+unfolding manyAttachments longTail longReport codesWith codesWithout spoilt one wholeValues numbers packed requiredBits unpackedNumbers orders presenceFrom countPresent unpackGives unpack packChecks entriesGiven countFrom packObservation packOrder pack signed optional given valueNumbers observationNumbers refusal judged answer answers yes refuses example freshExample freshBytes freshObservationExample sBytes textBytes reportWith reportOf highestCodes freshCodes badText flagless put1 flagCalls answersOf roomy wide same every first table fieldAt required scaledOf codedOf inRange entryOf codeOf entries codes bits number bitsOf bitField total readFields writeFields nibbles bytes padded attachmentNibbles tailNibbles attachmentsOf among weights weight totalWeight allMissing qualityCode flagsFit flagBody withFlag flagsValid charCode short pairByte codeNibbles classify byteOf escapable isSpace symbolNibbles fulls rest spaceRun writeFrom writeText spaces textStep stateAfter symbolsOf readFrom endFrom atEnd textValid readText widths checksum cardNumbers cardNibbles packing observationOf fieldChecks bodyValid attachmentChecks reportChecks judge stands contentOf putIn removeFrom edited gives outputOf writes allNibbles callChecks checks step layout effect calls run claim freshObservation freshChecks fresh digitsFrom fieldLines listing
 orders-hold = tt

@@ -11,8 +11,7 @@ abbrev pub zeros : ℕ → List ℕ
 zeros n = replicate n 0
 
 -- the buffer b, whose report ended at e, with the packing of s at its front: "bytes from the new end up to the old end are 0;
--- those beyond both ends keep their value".
--- A step that changes nothing leaves the buffer: a report is the packing of its observation (crate laws)
+-- those beyond both ends keep their value"
 unfoldable pub layout : List ℕ → ℕ → Observation → List ℕ
 layout b e s = packing s ++ (zeros (e - size s) ++ drop (max e (size s)) b)
 
@@ -25,12 +24,17 @@ pub record After : Type 0 where
 abbrev pub after : Answer → List ℕ → List ℕ → After
 after a b o = record { answer = a; buffer = b; out = o }
 
+-- what a step leaves of the buffer b, whose report ended at e: "a refused step changes nothing"
+abbrev pub bufferAfter : Answer → List ℕ → ℕ → Observation → List ℕ
+bufferAfter (Answer.refused r) b e s = b
+bufferAfter (Answer.accepted gs) b e s = layout b e s
+
 -- "the report is checked first": the verdict decides
 abbrev pub effectOn : Verdict → List ℕ → Call → After
 effectOn (refused r) b c = after (Answer.refused r) b (outputOf c)
 effectOn (accepted s) b c =
     let t = step (length b) s c in
-    after (t .answer) (layout b (size s) (t .observation)) (t .out)
+    after (t .answer) (bufferAfter (t .answer) b (size s) (t .observation)) (t .out)
 
 unfoldable pub effect : List ℕ → Call → After
 effect b c = effectOn (judge b) b c

@@ -71,19 +71,53 @@ content s i = contentOf i (s .attachments)
 
 -- ---- a step that is not refused
 
+-- the observation that an edit makes. A call that reads or fetches makes none
+unfoldable pub edited : Observation → Call → Option Observation
+edited s (readField k) = none
+edited s (setField k v) = some (withValue s k (some v))
+edited s (clearField k) = some (withValue s k none)
+edited s (readFlag j) = none
+edited s (setFlag j v) = some (withContent s 1 (withFlag (content s 1) j v))
+edited s (clearFlag j) = some (withContent s 1 (withFlag (content s 1) j 0))
+edited s (put i ns) = some (withContent s i ns)
+edited s (fetch i out) = none
+edited s (remove i) = some (withAttachments s (removeFrom i (s .attachments)))
+edited s (putText t) = some (withContent s 4 (writeText t))
+edited s (fetchText out) = none
+
 -- the observation after it
-unfoldable pub next : Observation → Call → Observation
-next s (readField k) = s
-next s (setField k v) = withValue s k (some v)
-next s (clearField k) = withValue s k none
-next s (readFlag j) = s
-next s (setFlag j v) = withContent s 1 (withFlag (content s 1) j v)
-next s (clearFlag j) = withContent s 1 (withFlag (content s 1) j 0)
-next s (put i ns) = withContent s i ns
-next s (fetch i out) = s
-next s (remove i) = withAttachments s (removeFrom i (s .attachments))
-next s (putText t) = withContent s 4 (writeText t)
-next s (fetchText out) = s
+abbrev pub afterEdit : Observation → Option Observation → Observation
+afterEdit s none = s
+afterEdit s (some t) = t
+
+abbrev pub next : Observation → Call → Observation
+next s c = afterEdit s (edited s c)
+
+-- what a number that is given is
+pub data Quantity : Type 0 where
+  -- a field's scaled value; a flag's value; how many bytes a fetch wrote
+  value : Quantity
+  flag : Quantity
+  count : Quantity
+  -- of a whole report: the presence word, how many fields are present, RPTIN, AC, its size in bytes, the tail's length
+  word : Quantity
+  present : Quantity
+  rptin : Quantity
+  attachments : Quantity
+  bytes : Quantity
+  nibbles : Quantity
+
+-- a number that is given, or that it is missing
+pub record Given : Type 0 where
+  pub quantity : Quantity
+  pub number : Option ℤ
+
+abbrev pub given : Quantity → Option ℤ → Given
+given q n = record { quantity = q; number = n }
+
+-- one that is not missing, and not negative
+abbrev pub counted : Quantity → ℕ → Given
+counted q n = given q (some (pos n))
 
 abbrev pub valueNumber : Option Scaled → Option ℤ
 valueNumber none = none
@@ -93,19 +127,19 @@ valueNumber (some v) = some (v .0)
 abbrev pub flagNumber : ℕ → Option ℤ
 flagNumber v = cond (eqb v 0) none (some (pos v))
 
--- what it gives: numbers, each of which may be missing
-unfoldable pub gives : Observation → Call → List (Option ℤ)
-gives s (readField k) = valueNumber (valueAt s k) ∷ []
+-- what it gives
+unfoldable pub gives : Observation → Call → List Given
+gives s (readField k) = given value (valueNumber (valueAt s k)) ∷ []
 gives s (setField k v) = []
 gives s (clearField k) = []
-gives s (readFlag j) = flagNumber (flagAt (content s 1) j) ∷ []
+gives s (readFlag j) = given flag (flagNumber (flagAt (content s 1) j)) ∷ []
 gives s (setFlag j v) = []
 gives s (clearFlag j) = []
 gives s (put i ns) = []
-gives s (fetch i out) = some (pos (length (content s i))) ∷ []
+gives s (fetch i out) = counted count (length (content s i)) ∷ []
 gives s (remove i) = []
 gives s (putText t) = []
-gives s (fetchText out) = some (pos (length (readText (content s 4)))) ∷ []
+gives s (fetchText out) = counted count (length (readText (content s 4))) ∷ []
 
 -- the output that a call is lent, refused or not; and what a step that is not refused writes there, from the first byte on
 unfoldable pub outputOf : Call → List ℕ
@@ -173,9 +207,13 @@ allNibbles (x ∷ xs) = leb x 15 && allNibbles xs
 abbrev pub contentCheck : ℕ → List ℕ → Check
 contentCheck i ns = check (not (allNibbles ns && bodyValid i ns)) 14 0
 
--- 13: a lent buffer shorter than the new report, or the output
+-- 13: a lent buffer shorter than the new report, which only an edit makes, or the output shorter than what is written
+abbrev pub shorter : ℕ → Option Observation → Bool
+shorter n none = false
+shorter n (some t) = ltb n (size t)
+
 abbrev pub roomCheck : ℕ → Observation → Call → Check
-roomCheck n s c = check (ltb n (size (next s c)) || ltb (length (outputOf c)) (length (writes s c))) 13 0
+roomCheck n s c = check (shorter n (edited s c) || ltb (length (outputOf c)) (length (writes s c))) 13 0
 
 -- those of each call that may come before 13, "then 8, 9, 10, 11, 12, 14, 13"
 unfoldable pub callChecks : Observation → Call → List Check
@@ -199,7 +237,7 @@ checks n s c = callChecks s c ++ (roomCheck n s c ∷ [])
 -- "the acceptance with what the step gives, or the refusal's number and place"
 pub data Answer : Type 0 where
   refused : Refusal → Answer
-  accepted : List (Option ℤ) → Answer
+  accepted : List Given → Answer
 
 -- the answer, the observation after the step, and the bytes of the output after it
 pub record Stepped : Type 0 where

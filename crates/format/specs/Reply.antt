@@ -3,9 +3,9 @@ use Prim.Native.Nat.{ℕ}
 use mathlib.Core.List.{[], _∷_}
 use mathlib.Core.Option.{none, some}
 use lib.IntN.{pos}
-use Rattle.format.specs.Calls.{Answer, refused, accepted}
+use Rattle.format.specs.Calls.{value, flag, count, given, counted, Answer, refused, accepted}
 use Rattle.format.specs.declared.Reply.{Reply}
-use Rattle.format.specs.declared.Reply.the-variants.{Refused, Done, Value, Flag, Missing, Count}
+use Rattle.format.specs.declared.Reply.the-variants.{Refused, Done, Value, MissingValue, Flag, MissingFlag, Count}
 
 -- the refusal of this number and place
 abbrev pub refusal : ℕ → ℕ → Answer
@@ -14,7 +14,8 @@ refusal n p = refused (record { number = n; place = p })
 abbrev pub answerOf : Reply → Answer
 answerOf (Refused n p) = refusal n p
 answerOf Done = accepted []
-answerOf (Value v) = accepted (some (v .0) ∷ [])
-answerOf (Flag v) = accepted (some (pos v) ∷ [])
-answerOf Missing = accepted (none ∷ [])
-answerOf (Count n) = accepted (some (pos n) ∷ [])
+answerOf (Value v) = accepted (given value (some (v .0)) ∷ [])
+answerOf MissingValue = accepted (given value none ∷ [])
+answerOf (Flag v) = accepted (given flag (some (pos v)) ∷ [])
+answerOf MissingFlag = accepted (given flag none ∷ [])
+answerOf (Count n) = accepted (counted count n ∷ [])

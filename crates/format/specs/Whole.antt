@@ -11,7 +11,7 @@ use Rattle.format.specs.Field.{Field, table, required, inRange, scaled, 
 use Rattle.format.specs.Nibbles.{attachmentsOf, tailNibbles, behind}
 use Rattle.format.specs.Observation.{Observation, observation, packing, size}
 use Rattle.format.specs.Report.{Verdict, judge, attachmentChecks}
-use Rattle.format.specs.Calls.{Answer, refused, accepted, valueCheck, withValue, allNibbles, over}
+use Rattle.format.specs.Calls.{Quantity, Given, counted, Answer, refused, accepted, valueCheck, withValue, allNibbles, over}
 use Rattle.format.specs.declared.Scaled.{Scaled}
 
 -- ---- fresh: "BOX10, YEAR, MONTH, X, Y given; RPTIN 0, all else missing"
@@ -35,9 +35,9 @@ pub record Wrote : Type 0 where
   pub answer : Answer
   pub out : List ℕ
 
-abbrev pub wroteBy : Option Refusal → List (Option ℤ) → List ℕ → List ℕ → Wrote
-wroteBy (some r) given report out = record { answer = refused r; out = out }
-wroteBy none given report out = record { answer = accepted given; out = over report out }
+abbrev pub wroteBy : Option Refusal → List Given → List ℕ → List ℕ → Wrote
+wroteBy (some r) gs report out = record { answer = refused r; out = out }
+wroteBy none gs report out = record { answer = accepted gs; out = over report out }
 
 unfoldable pub fresh : Scaled → Scaled → Scaled → Scaled → Scaled → List ℕ → Wrote
 fresh box10 year month x y out =
@@ -81,11 +81,17 @@ abbrev pub unpacked : Answer → List ℤ → List ℕ → Unpacked
 unpacked a vs ns = record { answer = a; values = vs; tail = ns }
 
 -- the presence word, how many fields are present, RPTIN, AC, byte length, the tail's length
-abbrev pub contents : ℕ → ℕ → ℕ → ℕ → ℕ → ℕ → List (Option ℤ)
+abbrev pub contents : ℕ → ℕ → ℕ → ℕ → ℕ → ℕ → List Given
 contents word present rptin count size tail =
-    some (pos word) ∷ some (pos present) ∷ some (pos rptin) ∷ some (pos count) ∷ some (pos size) ∷ some (pos tail) ∷ []
+    counted Quantity.word word
+    ∷ counted Quantity.present present
+    ∷ counted Quantity.rptin rptin
+    ∷ counted Quantity.attachments count
+    ∷ counted Quantity.bytes size
+    ∷ counted Quantity.nibbles tail
+    ∷ []
 
-unfoldable pub unpackGives : Observation → List (Option ℤ)
+unfoldable pub unpackGives : Observation → List Given
 unpackGives s = contents (presence s) (countPresent (s .values)) (s .rptin) (length (s .attachments)) (size s) (length (tail s))
 
 -- 13: "a lent buffer shorter than .. the output, or 46 values"
@@ -129,7 +135,7 @@ entriesGiven k word [] = []
 entriesGiven k word (v ∷ vs) = cond (bitAt word k) (some (scaled v)) none ∷ entriesGiven (suc k) word vs
 
 -- AC, counted from a tail: attachment after attachment to the tail's end, m at most. Ids are 1 to 15, each once, so a
--- sixteenth is refused, and stray nibbles behind the last are a further attachment whose header doesn't fit
+-- sixteenth is refused. Nibbles behind the last are a further attachment: of one or two the header doesn't fit
 unfoldable pub countFrom : ℕ → List ℕ → ℕ
 countFrom zero ns = 0
 countFrom (suc m) [] = 0
@@ -152,11 +158,15 @@ packOrder n values word rptin ns =
     ∷ (attachmentChecks (countIn ns) 1 [] ns
     ++ (check (ltb n (size (packObservation values word rptin ns))) 13 0 ∷ []))))
 
--- it gives the report's byte length. A refused call leaves the output
+-- the report's byte length
+abbrev pub packGives : ℕ → List Given
+packGives size = counted Quantity.bytes size ∷ []
+
+-- a refused call leaves the output
 unfoldable pub pack : List ℤ → ℕ → ℕ → List ℕ → List ℕ → Wrote
 pack values word rptin ns out =
     let s = packObservation values word rptin ns in
-    wroteBy (first (packOrder (length out) values word rptin ns)) (some (pos (size s)) ∷ []) (packing s) out
+    wroteBy (first (packOrder (length out) values word rptin ns)) (packGives (size s)) (packing s) out
 
 -- ---- what comes back of values that were packed
 

@@ -36,12 +36,12 @@ pub enum Reply {
     Refused(u8, usize),
     // Accepted, and nothing is given.
     Done,
-    // A field's scaled value.
+    // A field's scaled value, or that the field is missing.
     Value(Scaled),
-    // A flag's value, 1 to 10.
+    MissingValue,
+    // A flag's value, 1 to 10, or that the flag is missing.
     Flag(u8),
-    // The field or the flag is missing.
-    Missing,
+    MissingFlag,
     // How many bytes were given.
     Count(usize),
 }

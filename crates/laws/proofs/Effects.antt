@@ -10,8 +10,8 @@ use borrow.Author.Tests.{le-ltb}
 use Rattle.format.specs.Order.{Refusal, Check, check, first, between}
 use Rattle.format.specs.Observation.{Observation, size}
 use Rattle.format.specs.Report.{Verdict, judge}
-use Rattle.format.specs.Calls.{Call, next, gives, outputOf, writes, roomCheck, callChecks, checks, Answer, Stepped, steppedBy, step, over}
-use Rattle.format.specs.Buffer.{layout, after, effect}
+use Rattle.format.specs.Calls.{Call, edited, afterEdit, next, shorter, gives, outputOf, writes, roomCheck, callChecks, checks, Answer, Stepped, steppedBy, step, over}
+use Rattle.format.specs.Buffer.{layout, bufferAfter, after, effect}
 use Rattle.format.specs.Reply.{refusal}
 use Rattle.laws.proofs.Order.{first-fits, first-append-skip, no-check, no-checks, first-nil}
 use Rattle.format.specs.Bits.{Bytes}
@@ -23,9 +23,14 @@ pub effect-refused : (b : List ℕ) (r : Refusal) (c : Call) → judge b ≡ Ver
 unfolding effect
 effect-refused b r c j = rw j
 
+-- a buffer that holds the observation after a step is not too short for it
+long-enough : (n : ℕ) (s : Observation) (o : Option Observation) → size (afterEdit s o) ≤ n → shorter n o ≡ false
+long-enough n s none h = refl
+long-enough n s (some t) h = le-ltb n (size t) h
+
 -- on an accepted one
 module _ (b : List ℕ) (s : Observation) (c : Call) (bs : Bytes b) (j : judge b ≡ Verdict.accepted s) where
-  effect-step : (t : Stepped) → step (length b) s c ≡ t → effect b c ≡ after (t .answer) (layout b (size s) (t .observation)) (t .out)
+  effect-step : (t : Stepped) → step (length b) s c ≡ t → effect b c ≡ after (t .answer) (bufferAfter (t .answer) b (size s) (t .observation)) (t .out)
   unfolding effect
   effect-step t e = rw (j, e)
 
@@ -38,8 +43,7 @@ module _ (b : List ℕ) (s : Observation) (c : Call) (bs : Bytes b) (j : judge b
   effect-refuses before ch behind split passed fits =
       let f : first (checks (length b) s c) ≡ some (ch .refusal) =
       ap first split ∙ first-append-skip before (ch ∷ behind) passed ∙ first-fits ch behind fits in
-      sym (effect-step (steppedBy (some (ch .refusal)) s c) (step-by (some (ch .refusal)) f)
-      ∙ ap (λ (x : List ℕ). after (Answer.refused (ch .refusal)) x (outputOf c)) (sym (layout-same b s bs j)))
+      sym (effect-step (steppedBy (some (ch .refusal)) s c) (step-by (some (ch .refusal)) f))
 
   -- the check ch fits, and none of those before it
   pub call-refuses : (before : List Check) (ch : Check) (behind : List Check) → callChecks s c ≡ before ++ (ch ∷ behind)
@@ -62,7 +66,7 @@ module _ (b : List ℕ) (s : Observation) (c : Call) (bs : Bytes b) (j : judge b
   pub effect-done : (d o : List ℕ) → first (callChecks s c) ≡ none → size (next s c) ≤ length b → length (writes s c) ≤ length (outputOf c)
       → d ≡ layout b (size s) (next s c) → o ≡ over (writes s c) (outputOf c) → after (Answer.accepted (gives s c)) d o ≡ effect b c
   effect-done d o passed room out laid wrote =
-      let r : roomCheck (length b) s c .fits ≡ false = rw (le-ltb (length b) (size (next s c)) room, le-ltb (length (outputOf c)) (length (writes s c)) out) in
+      let r : roomCheck (length b) s c .fits ≡ false = rw (long-enough (length b) s (edited s c) room, le-ltb (length (outputOf c)) (length (writes s c)) out) in
       let f = none-fits passed r in
       sym (effect-step (steppedBy none s c) (step-by none f) ∙ ap₂ (λ (x y : List ℕ). after (Answer.accepted (gives s c)) x y) (sym laid) (sym wrote))
 

@@ -17,3 +17,4 @@ pub mod Edits
 pub mod Effects
 pub mod Presence
 pub mod Whole
+pub mod Bounds

@@ -18,8 +18,8 @@ use Rattle.format.specs.Flags.{withFlag}
 use Rattle.format.specs.ShipText.{writeText}
 use Rattle.format.specs.Observation.{Observation, observation, packing, size}
 use Rattle.format.specs.Report.{Verdict, judge, bodyValid}
-use Rattle.format.specs.Calls.{Call, readField, setField, clearField, readFlag, setFlag, clearFlag, put, fetch, remove, putText, fetchText, withValue, withContent, content, next, outputOf, writes, flagNumberCheck, idCheck, lengthCheck, contentCheck, standsCheck, roomCheck, callChecks, checks, Answer, steppedBy, step}
-use Rattle.format.specs.Buffer.{zeros, layout, after, effect, shown, Ran, calls, run, runOn, refusals, claimOn, claim}
+use Rattle.format.specs.Calls.{Call, readField, setField, clearField, readFlag, setFlag, clearFlag, put, fetch, remove, putText, fetchText, withValue, withContent, content, edited, afterEdit, next, shorter, outputOf, writes, flagNumberCheck, idCheck, lengthCheck, contentCheck, standsCheck, roomCheck, callChecks, checks, Answer, steppedBy, step}
+use Rattle.format.specs.Buffer.{zeros, layout, bufferAfter, after, effect, shown, Ran, calls, run, runOn, refusals, claimOn, claim}
 use Rattle.laws.proofs.Lists.{or-false, drop-append, drop-replicate}
 use Rattle.laws.proofs.Order.{between-in, first-none, first-append-none}
 use Rattle.format.specs.declared.Scaled.{Scaled}
@@ -125,7 +125,7 @@ flag-good s j v g f h c =
     })
 
 next-good : (s : Observation) (c : Call) → Good s → first (callChecks s c) ≡ none → Good (next s c)
-unfolding next callChecks
+unfolding edited callChecks
 next-good s (readField k) g e = g
 next-good s (setField k v) g e =
     let c1 = first-none _ _ e in
@@ -160,18 +160,35 @@ next-good s (putText t) g e =
     put-good s 4 (writeText t) g refl (c1 .0) (c2 .0)
 next-good s (fetchText out) g e = g
 
-step-kept : (n : ℕ) (s : Observation) (c : Call) → Kept n s → Kept n (step n s c .observation)
+pub step-kept : (n : ℕ) (s : Observation) (c : Call) → Kept n s → Kept n (step n s c .observation)
 unfolding step
 step-kept n s c k = go (first (checks n s c)) refl
   where
+    within : (o : Option Observation) → shorter n o ≡ false → size (afterEdit s o) ≤ n
+    within none e = k .fits
+    within (some t) e = ltb-false n (size t) e
+
     go : (o : Option Refusal) → first (checks n s c) ≡ o → Kept n (steppedBy o s c .observation)
     go (some r) e = k
     go none e =
         let f = first-append-none (callChecks s c) (roomCheck n s c ∷ []) (unfold checks in e) in
-        let room = or-false (ltb n (size (next s c))) (ltb (length (outputOf c)) (length (writes s c))) (first-none (roomCheck n s c) [] (f .1) .0) in
-        record { good = next-good s c (k .good) (f .0); fits = ltb-false n (size (next s c)) (room .0) }
+        let room = or-false (shorter n (edited s c)) (ltb (length (outputOf c)) (length (writes s c))) (first-none (roomCheck n s c) [] (f .1) .0) in
+        record { good = next-good s c (k .good) (f .0); fits = within (edited s c) (room .0) }
 
 -- ---- the whole list
+
+-- what a step leaves of a laid-out buffer
+step-laid : (b : List ℕ) (s : Observation) (e : ℕ) (c : Call) → size s ≤ e
+    → (let t = step (length b) s c in
+    bufferAfter (t .answer) (layout b e s) (size s) (t .observation) ≡ layout b (max e (size (t .observation))) (t .observation))
+unfolding step
+step-laid b s e c h = go (first (checks (length b) s c))
+  where
+    go : (o : Option Refusal)
+        → (let t = steppedBy o s c in
+        bufferAfter (t .answer) (layout b e s) (size s) (t .observation) ≡ layout b (max e (size (t .observation))) (t .observation))
+    go (some r) = let m : e ≡ max e (size s) = omega arith in ap (λ (n : ℕ). layout b n s) m
+    go none = relayout b e s (next s c) h
 
 -- one call, on a laid-out buffer
 one : (b : List ℕ) (s : Observation) (e : ℕ) (c : Call) → Kept (length b) s → size s ≤ e → e ≤ length b
@@ -179,7 +196,7 @@ one : (b : List ℕ) (s : Observation) (e : ℕ) (c : Call) → Kept (length b) 
     ≡ after (step (length b) s c .answer) (layout b (max e (size (step (length b) s c .observation))) (step (length b) s c .observation)) (step (length b) s c .out)
 unfolding effect
 one b s e c g h k =
-    rw (judge-layout b e s (g .good), layout-length b e s h k, relayout b e s (step (length b) s c .observation) h)
+    rw (judge-layout b e s (g .good), layout-length b e s h k, step-laid b s e c h)
 
 laid : (cs : List Call) (b : List ℕ) (s : Observation) (e : ℕ) → Kept (length b) s → size s ≤ e → e ≤ length b
     → calls (layout b e s) cs ≡ runOn b (run (length b) s e cs)

@@ -21,7 +21,7 @@ use Rattle.format.specs.ShipText.{textStep, stateAfter, endFrom, atEnd, textVal
 use Rattle.format.specs.Observation.{Observation, packing, size}
 use Rattle.format.specs.Report.{bodyValid, attachmentChecks, Verdict, judge}
 use Rattle.format.specs.Calls.{Answer, valueCheck, withAttachments, allNibbles, over}
-use Rattle.format.specs.Whole.{wroteBy, masked, contents, freshObservation, valueOrZero, isPresent, presence, countPresent, tail, unpacked, unpackGives, unpackChecks, unpackedBy, unpack, bitAt, bitOutside, packChecks, entriesGiven, countIn, packObservation, packOrder, pack}
+use Rattle.format.specs.Whole.{wroteBy, masked, contents, freshObservation, valueOrZero, isPresent, presence, countPresent, tail, unpacked, unpackGives, unpackChecks, unpackedBy, unpack, bitAt, bitOutside, packChecks, entriesGiven, countIn, packObservation, packOrder, packGives, pack}
 use Rattle.format.specs.declared.Scaled.{Scaled}
 use Rattle.laws.proofs.Lists.{true-false, cond-case}
 use Rattle.laws.proofs.Order.{first-nil, no-check, no-checks, first-none, first-append-none}
@@ -91,10 +91,10 @@ module _ (box10 year month x y : Scaled) where
 
 -- the first refusal of its checks, or that there is none, decides what it leaves
 pub pack-outcome : (values : List ℤ) (word rptin : ℕ) (ns out : List ℕ) (o : Option Refusal) → first (packOrder (length out) values word rptin ns) ≡ o
-    → wroteBy o (some (pos (size (packObservation values word rptin ns))) ∷ []) (packing (packObservation values word rptin ns)) out ≡ pack values word rptin ns out
+    → wroteBy o (packGives (size (packObservation values word rptin ns))) (packing (packObservation values word rptin ns)) out ≡ pack values word rptin ns out
 unfolding pack
 pack-outcome values word rptin ns out o e =
-    ap (λ (x : Option Refusal). wroteBy x (some (pos (size (packObservation values word rptin ns))) ∷ []) (packing (packObservation values word rptin ns)) out) (sym e)
+    ap (λ (x : Option Refusal). wroteBy x (packGives (size (packObservation values word rptin ns))) (packing (packObservation values word rptin ns)) out) (sym e)
 
 -- that none of its checks refuses, part by part; `packs-none` below is the way back
 pub record Packs (n : ℕ) (values : List ℤ) (word rptin : ℕ) (ns : List ℕ) : Type 0 where
@@ -292,7 +292,7 @@ module _ (s : Observation) (g : Good s) where
 -- pack of an observation's parts writes its packing
 pack-good-observation : (s : Observation) (out : List ℕ) → Good s → size s ≤ length out
     → pack (map valueOrZero (s .values)) (presence s) (s .rptin) (tail s) out
-    ≡ record { answer = Answer.accepted (some (pos (size s)) ∷ []); out = over (packing s) out }
+    ≡ record { answer = Answer.accepted (packGives (size s)); out = over (packing s) out }
 unfolding pack
 pack-good-observation s out g h =
     rw (packs-none (length out) (map valueOrZero (s .values)) (presence s) (s .rptin) (tail s) (observation-packs s g (length out) h), observation-back s g)
@@ -300,7 +300,7 @@ pack-good-observation s out g h =
 -- pack after unpack: the parts of an accepted report are packed to the same bytes
 pack-after-unpack : (b : List ℕ) (s : Observation) (out : List ℕ) → Bytes b → judge b ≡ Verdict.accepted s → size s ≤ length out
     → (pack (map valueOrZero (s .values)) (presence s) (s .rptin) (tail s) out
-    ≡ record { answer = Answer.accepted (some (pos (size s)) ∷ []); out = over (packing s) out })
+    ≡ record { answer = Answer.accepted (packGives (size s)); out = over (packing s) out })
     × (packing s ≡ take (size s) b)
 pack-after-unpack b s out bs j h =
     let t = judged b s bs j in
@@ -337,7 +337,7 @@ pack-more values more word rptin ns out l =
 pub pack-unpacked : (b : List ℕ) (s : Observation) (vs : List ℤ) (ns out : List ℕ) → Bytes b → judge b ≡ Verdict.accepted s
     → 46 ≤ length vs → length (tail s) ≤ length ns → size s ≤ length out
     → pack (unpack b vs ns .values) (presence s) (s .rptin) (take (length (tail s)) (unpack b vs ns .tail)) out
-    ≡ record { answer = Answer.accepted (some (pos (size s)) ∷ []); out = over (take (size s) b) out }
+    ≡ record { answer = Answer.accepted (packGives (size s)); out = over (take (size s) b) out }
 pack-unpacked b s vs ns out bs j hv hn ho =
     let t = pack-after-unpack b s out bs j ho in
     let l = values-out s (judged b s bs j .good) in

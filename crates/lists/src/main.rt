@@ -26,24 +26,18 @@ fn get_long(most: usize) -> usize
     least(vector_io::get4() as usize, most)
 }
 
-fn put_front(log: &[u8], n: usize) {
-    if n <= log.len() {
-        vector_io::put_bytes(&log[..n]);
-    }
-}
-
 fn replay_in(b: &mut [u8], script: &[u8], log: &mut [u8]) {
     let r = list::replay(b, script, log);
     vector_io::put4(r.calls as u64);
     vector_io::put4(r.taken as u64);
     vector_io::put4(r.written as u64);
     vector_io::put_bytes(b);
-    put_front(log, r.written);
+    vector_io::put_bytes(log);
 }
 
 fn with_script(b: &mut [u8], script: &mut [u8]) {
     vector_io::get_bytes(script);
-    let mut log = [0u8; 60000];
+    let mut log = [165u8; 60000];
     let n = get_long(60000);
     replay_in(b, script, &mut log[..n]);
 }

@@ -1,44 +1,75 @@
 -- What the definitions say of a call, said with its answer in numbers.
 -- Assumes nothing.
+use Prim.{Unit, tt}
 use Prim.Native.Nat.{ℕ, _<_, _^_}
 use native.Mathlib.Omega.{arith}
-use mathlib.Core.Path.{_≡_, refl, sym, ap, ap₂, _∙_}
+use mathlib.Core.Path.{_≡_, refl, sym, ap, ap₂, subst, _∙_}
 use mathlib.Core.List.{List, [], _∷_, map}
-use mathlib.Core.Option.{Option, some}
+use mathlib.Core.Option.{Option, none, some}
 use lib.ListN.{length, set}
 use lib.IntN.{ℤ, pos}
 use mir.Syntax.{w64}
 use mir.Val.{SFits, toZ, ofZ}
 use mir.ValLaws.{toZ-ofZ, toZ-pos}
 use Rattle.words.specs.Words.{unsigned}
-use Rattle.format.specs.Calls as call
-use Rattle.format.specs.Calls.{accepted}
-use Rattle.format.specs.Buffer.{After, after}
+use Rattle.format.specs.Bits.{Bytes}
+use Rattle.format.specs.Order.{Refusal, first}
+use Rattle.format.specs.Observation.{Observation}
 use Rattle.format.specs.Report.{Verdict, judge}
+use Rattle.format.specs.Calls as call
+use Rattle.format.specs.Calls.{Call, Given, accepted}
+use Rattle.format.specs.Buffer.{After, after, effect}
 use Rattle.format.specs.Reply.{refusal}
+use Rattle.format.specs.Whole.{Wrote, Unpacked, unpacked, packObservation, packOrder, packGives, pack}
+use Rattle.laws.proofs.Report.{judged, size-range}
+use Rattle.laws.proofs.Whole.{judge-pack}
+use Rattle.laws.proofs.Bounds.{GivenFit, AnswerFits, effect-fits}
 use Rattle.report.specs.Answers.{judgedOf}
 use Rattle.report.specs.declared.Judged.{Judged}
 use Rattle.report.specs.declared.Judged.the-variants.{Refused, Accepted}
-use Rattle.format.specs.Whole.{Wrote, Unpacked, unpacked}
 use Rattle.unpack.specs.Answers.{contentsNumbers}
 use Rattle.unpack.specs.declared.Contents.{Contents}
+use Rattle.pack.specs.Answers.{packAnswer}
+use Rattle.pack.specs.declared.Packed.{Packed}
 use Rattle.lmr5.specs.declared.Answer.{Answer}
-use Rattle.lmr5.specs.Numbered.{numbers, numbered, left, numberedAfter, judging, numberedWrote, Opened, opening, openedBy, numberedUnpacked, word}
+use Rattle.lmr5.specs.Numbered.{numbers, numberGiven, numbered, left, numberedAfter, judging, numberedWrote, Opened, opening, openedBy, numberedUnpacked, word}
 
 -- a number that 64 bits hold is given as it is
-pub number-given : (z : ℤ) → SFits w64 z → numbers 0 1 0 (toZ w64 (ofZ w64 z)) ≡ numbered (accepted (some z ∷ []))
+pub number-given : (z : ℤ) → SFits w64 z → numberGiven (some (toZ w64 (ofZ w64 z))) ≡ numberGiven (some z)
 number-given z f = ap (numbers 0 1 0) (toZ-ofZ w64 z f)
 
--- held in a register
-pub held-given : (z : ℤ) (r : Answer) → SFits w64 z → r ≡ numbered (accepted (some (toZ w64 (ofZ w64 z)) ∷ [])) → r ≡ numbered (accepted (some z ∷ []))
-held-given z r f h = h ∙ ap (λ (x : ℤ). numbered (accepted (some x ∷ []))) (toZ-ofZ w64 z f)
-
 -- a count, and a flag's value
-pub count-given : (n : ℕ) (r : Answer) → n < 2 ^ 63 → r ≡ numbered (accepted (some (toZ w64 n) ∷ [])) → r ≡ numbered (accepted (some (pos n) ∷ []))
-count-given n r f h = h ∙ ap (λ (x : ℤ). numbered (accepted (some x ∷ []))) (toZ-pos w64 n (omega arith))
+pub count-given : (n : ℕ) (r : Answer) → n < 2 ^ 63 → r ≡ numberGiven (some (toZ w64 n)) → r ≡ numberGiven (some (pos n))
+count-given n r f h = h ∙ ap (λ (x : ℤ). numberGiven (some x)) (toZ-pos w64 n (omega arith))
 
-pub flag-given : (n : ℕ) (r : Answer) → n < 256 → r ≡ numbered (accepted (some (toZ w64 n) ∷ [])) → r ≡ numbered (accepted (some (pos n) ∷ []))
-flag-given n r f h = count-given n r (omega arith) h
+-- ---- the numbers fit
+
+pub call-fits : (a : call.Answer) (b d o : List ℕ) (c : Call) → after a d o ≡ effect b c → Bytes b → AnswerFits a
+call-fits a b d o c e h = subst AnswerFits (sym (ap (λ (w : After). w .answer) e)) (effect-fits b c h)
+
+-- the size that pack gives
+abbrev SizeFits : call.Answer → Type 0
+SizeFits (call.refused r) = Unit {0}
+SizeFits (call.accepted gs) = GivenFit gs
+
+packed-fits : (values : List ℤ) (word rptin : ℕ) (ns out : List ℕ) → rptin < 2 ^ 16 → Bytes (pack values word rptin ns out .out)
+    → SizeFits (pack values word rptin ns out .answer)
+packed-fits values word rptin ns out r h = go (first (packOrder (length out) values word rptin ns)) refl
+  where
+    s : Observation
+    s = packObservation values word rptin ns
+
+    go : (o : Option Refusal) → first (packOrder (length out) values word rptin ns) ≡ o → SizeFits (pack values word rptin ns out .answer)
+    go (some x) q = unfold pack in rw q tt
+    go none q = let z = size-range s (judged _ s h (judge-pack values word rptin ns out r q) .good) in unfold pack in rw q (omega arith, tt)
+
+pub pack-fits : (values : List ℤ) (word rptin : ℕ) (ns out o : List ℕ) (p : Packed) (n : ℕ)
+    → record { answer = packAnswer p; out = o } ≡ pack values word rptin ns out → p ≡ Packed.Written n → rptin < 2 ^ 16 → Bytes o → n < 2 ^ 63
+pack-fits values word rptin ns out o p n e q r h =
+    subst SizeFits (sym (ap (λ (w : Wrote). w .answer) e) ∙ ap packAnswer q)
+    (packed-fits values word rptin ns out r (subst Bytes (ap (λ (w : Wrote). w .out) e) h)) .0
+
+-- ---- each call
 
 -- each of the eleven calls
 pub call-numbered : (a : call.Answer) (b o : List ℕ) (w : After) (r : Answer) → after a b o ≡ w → r ≡ numbered a → left r b o ≡ numberedAfter w
@@ -47,7 +78,7 @@ call-numbered a b o w r h e = ap (λ (x : Answer). left x b o) e ∙ ap numbered
 -- judge
 abbrev pub judgedAnswer : Judged → call.Answer
 judgedAnswer (Refused n p) = refusal n p
-judgedAnswer (Accepted size) = accepted (some (pos size) ∷ [])
+judgedAnswer (Accepted size) = accepted (packGives size)
 
 pub judge-numbered : (b : List ℕ) (j k : Judged) (r : Answer) → j ≡ judgedOf (judge b) → j ≡ k → r ≡ numbered (judgedAnswer k) → r ≡ numbered (judging (judge b))
 judge-numbered b j k r h g e = e ∙ ap (λ (x : Judged). numbered (judgedAnswer x)) (sym g ∙ h) ∙ same (judge b)
@@ -71,9 +102,9 @@ pub unpack-refused : (n p : ℕ) (vs : List ℤ) (ns before : List ℕ) (r : Ans
     → record { answer = r; values = vs; tail = ns; contents = before } ≡ openedBy (refusal n p) vs ns before
 unpack-refused n p vs ns before r e = ap (λ (x : Answer). opening x vs ns before) e
 
-pub unpack-given : (given : List (Option ℤ)) (vs : List ℤ) (ns before after : List ℕ) (r : Answer) → after ≡ map word given → r ≡ numbered (accepted [])
-    → record { answer = r; values = vs; tail = ns; contents = after } ≡ openedBy (accepted given) vs ns before
-unpack-given given vs ns before after r h e = ap₂ (λ (x : Answer) (l : List ℕ). opening x vs ns l) e h
+pub unpack-given : (gs : List Given) (vs : List ℤ) (ns before after : List ℕ) (r : Answer) → after ≡ map word gs → r ≡ numbered (accepted [])
+    → record { answer = r; values = vs; tail = ns; contents = after } ≡ openedBy (accepted gs) vs ns before
+unpack-given gs vs ns before after r h e = ap₂ (λ (x : Answer) (l : List ℕ). opening x vs ns l) e h
 
 -- the six contents, stored one after the other
 pub six-set : (l : List ℕ) (c : Contents) → length l ≡ 6

@@ -1,7 +1,7 @@
 // The calls for programs in C and other languages, over pointers and lengths. Each is one call of the crates below.
 ghost use Prim.Native.Nat.{_<_, _^_};
 ghost use mathlib.Core.Path.{_≡_};
-ghost use mathlib.Core.List.{[], _∷_, map};
+ghost use mathlib.Core.List.{[], map};
 ghost use mathlib.Core.Option.{none, some};
 ghost use lib.ListN.{length};
 ghost use lib.IntN.{pos};
@@ -11,9 +11,10 @@ ghost use Rattle.format.specs.Calls as call;
 ghost use Rattle.format.specs.Buffer.{effect};
 ghost use Rattle.format.specs.Whole as spec;
 ghost use Rattle.format.specs.Reply.{refusal, answerOf};
+ghost use Rattle.laws.proofs.Bounds.{AnswerFits};
 ghost use Rattle.unpack.specs.Answers.{contentsNumbers};
 ghost use Rattle.script.specs.Script.{Performs};
-ghost use Rattle.lmr5.specs.Numbered.{numbered, Counts, left, numberedAfter, judging, numberedWrote, word, opening, numberedUnpacked};
+ghost use Rattle.lmr5.specs.Numbered.{numberGiven, numbered, left, numberedAfter, judging, numberedWrote, word, opening, numberedUnpacked};
 use format::Reply;
 use format::Scaled;
 use fresh::Started;
@@ -63,7 +64,7 @@ fn done() -> Answer
 }
 
 fn missing() -> Answer
-    ensures { λ r. ⌜ r ≡ numbered (call.accepted (none ∷ [])) ⌝ }
+    ensures { λ r. ⌜ r ≡ numberGiven none ⌝ }
 {
     Answer {
         refusal: 0,
@@ -74,7 +75,7 @@ fn missing() -> Answer
 }
 
 fn given(v: i64) -> Answer
-    ensures { λ r. ⌜ r ≡ numbered (call.accepted (some v ∷ [])) ⌝ }
+    ensures { λ r. ⌜ r ≡ numberGiven (some v) ⌝ }
 {
     Answer {
         refusal: 0,
@@ -86,13 +87,13 @@ fn given(v: i64) -> Answer
 
 fn counted(n: usize) -> Answer
     requires { ⌜ n < 2 ^ 63 ⌝ }
-    ensures { λ r. ⌜ r ≡ numbered (call.accepted (some (pos n) ∷ [])) ⌝ }
+    ensures { λ r. ⌜ r ≡ numberGiven (some (pos n)) ⌝ }
 {
     given(n as i64)
 }
 
 fn answer_of(r: Reply) -> Answer
-    requires { ⌜ Counts (answerOf r) ⌝ }
+    requires { ⌜ AnswerFits (answerOf r) ⌝ }
     ensures { λ a. ⌜ a ≡ numbered (answerOf r) ⌝ }
 {
     match r {
@@ -102,8 +103,9 @@ fn answer_of(r: Reply) -> Answer
             let z = v.0;
             given(z)
         }
+        Reply::MissingValue => missing(),
         Reply::Flag(v) => given(v as i64),
-        Reply::Missing => missing(),
+        Reply::MissingFlag => missing(),
         Reply::Count(n) => counted(n),
     }
 }

@@ -2,14 +2,14 @@
 -- Assumes nothing.
 use Prim.Native.Nat.{ℕ, suc, _+_, _-_, _*_, _/_, _%_, _^_, _≤_, _<_, max}
 use native.Mathlib.Omega.{arith}
-use mathlib.Core.Path.{_≡_, refl, sym, ap, ap₂, _∙_}
+use mathlib.Core.Path.{_≡_, refl, sym, ap, ap₂, subst, _∙_}
 use mathlib.Core.Bool.{Bool, true, false, cond, not}
 use mathlib.Core.List.{List, [], _∷_, _++_, append-assoc}
 use mathlib.Core.Option.{Option, none, some}
 use lib.ListN.{length, getD, take, drop, set, length-append}
 use lib.Seq.{paste, take-all, length-take-le, drop-at, set-at, drop-cons}
 use lib.Dec.{ltb}
-use lib.IntN.{ℤ, pos}
+use lib.IntN.{ℤ}
 use borrow.Author.Tests.{lt-ltb, le-ltb, eq-eqb, ne-eqb, eqb-true, eqb-false}
 use Rattle.format.specs.Order.{Refusal, check, first}
 use Rattle.format.specs.Field.{table}
@@ -19,12 +19,9 @@ use Rattle.format.specs.Report.{numbersOf, attachmentChecks, tailOf}
 use Rattle.format.specs.Calls.{Answer, allNibbles, over}
 use Rattle.format.specs.Buffer.{zeros}
 use Rattle.format.specs.Reply.{refusal}
-use Rattle.format.specs.Whole.{bitOutside, packChecks, countIn, packObservation, packOrder, pack}
-use Rattle.tail.specs.Walk.{tailAt, walkedBy, walked}
-use Rattle.tail.specs.declared.Tail.{Tail}
-use Rattle.tail.specs.declared.Walked.{Walked}
-use Rattle.tail.proofs.Turns.{walked-refused, walked-ended}
-use Rattle.nibble.specs.declared.Cursor.{Cursor}
+use Rattle.format.specs.Whole.{bitOutside, packChecks, countIn, packObservation, packOrder, packGives, pack}
+use Rattle.tail.specs.Walk.{countedBy, counted}
+use Rattle.tail.specs.declared.Counted.{Counted}
 use Rattle.card.specs.Answers.{Carded}
 use Rattle.write_values.specs.Given.{given}
 use Rattle.laws.proofs.Order.{first-skip, first-fits, first-append-skip, first-append-some}
@@ -39,20 +36,20 @@ use Rattle.pack.specs.Steps.{FieldsPass, TailPasses}
 
 -- ---- what the walk over a tail says
 
--- the cursor at a tail, one nibble a byte
-abbrev atTail : Cursor
-atTail = record { at = 0; packed = false }
+-- an answer is the first refusal, or says that there is none and the count
+abbrev Said : Option Refusal → ℕ → Counted → Type 0
+Said o count (Counted.Refused n p) = o ≡ some (record { number = n; place = p })
+Said o count (Counted.Ended n) = (o ≡ none) × (n ≡ count)
 
-module _ (ns : List ℕ) (count : ℕ) (w : Walked) (counted : count ≡ countIn ns) (is : w ≡ walked ns atTail count 0) where
-  whole : w ≡ walkedBy (first (attachmentChecks (countIn ns) 1 [] ns)) (tailAt 0 0 (attachmentsOf (countIn ns) ns))
-  unfolding walked
-  whole = is ∙ ap (λ (m : ℕ). walked ns atTail m 0) counted
+said : (o : Option Refusal) (count : ℕ) → Said o count (countedBy o count)
+said none count = (refl, refl)
+said (some r) count = refl
 
-  pub says-refused : (n p : ℕ) → w ≡ Walked.Refused n p → first (attachmentChecks (countIn ns) 1 [] ns) ≡ some (record { number = n; place = p })
-  says-refused n p e = walked-refused _ _ n p (sym whole ∙ e)
-
-  pub says-ended : (t : Tail) → w ≡ Walked.Ended t → first (attachmentChecks (countIn ns) 1 [] ns) ≡ none
-  says-ended t e = walked-ended _ _ t (sym whole ∙ e) .0
+pub says : (ns : List ℕ) (w v : Counted) → w ≡ counted ns → w ≡ v → Said (first (attachmentChecks (countIn ns) 1 [] ns)) (countIn ns) v
+unfolding counted
+says ns w v is e =
+    let o = first (attachmentChecks (countIn ns) 1 [] ns) in
+    subst (Said o (countIn ns)) (sym is ∙ e) (said o (countIn ns))
 
 -- ---- the presence word
 
@@ -160,7 +157,7 @@ module _ (values : List ℤ) (word rptin : ℕ) (ns out : List ℕ) where
         → nibbles o1 ≡ paste (nibbles out) 75 ns (length ns) → length o1 ≡ length out
         → nibbles o2 ≡ cond (odd (75 + length ns)) (set (nibbles o1) (75 + length ns) 0) (nibbles o1) → length o2 ≡ length o1
         → Carded o2 o3 (rptin ∷ (given values word ++ (checksum (given values word) ∷ count ∷ [])))
-        → record { answer = Answer.accepted (some (pos ((75 + length ns) / 2 + (75 + length ns) % 2)) ∷ []); out = o3 } ≡ pack values word rptin ns out
+        → record { answer = Answer.accepted (packGives ((75 + length ns) / 2 + (75 + length ns) % 2)); out = o3 } ≡ pack values word rptin ns out
     unfolding packObservation cardNumbers
     written o1 o2 o3 count room bs counted e1 l1 e2 l2 carded =
         let s : Observation = packObservation values word rptin ns in
@@ -183,4 +180,4 @@ module _ (values : List ℤ) (word rptin : ℕ) (ns out : List ℕ) where
           room = omega (arith, size-of);
         }) in
         let sizes : (75 + length ns) / 2 + (75 + length ns) % 2 ≡ size s = sym size-of in
-        (λ i. record { answer = Answer.accepted (some (pos (sizes i)) ∷ []); out = is i }) ∙ pack-outcome values word rptin ns out none none-refused
+        (λ i. record { answer = Answer.accepted (packGives (sizes i)); out = is i }) ∙ pack-outcome values word rptin ns out none none-refused

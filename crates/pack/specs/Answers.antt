@@ -1,12 +1,10 @@
 -- The answers of pack: 01's number, place and value for each case.
-use mathlib.Core.List.{[], _∷_}
-use mathlib.Core.Option.{some}
-use lib.IntN.{pos}
 use Rattle.format.specs.Calls.{Answer, accepted}
 use Rattle.format.specs.Reply.{refusal}
+use Rattle.format.specs.Whole.{packGives}
 use Rattle.pack.specs.declared.Packed.{Packed}
 use Rattle.pack.specs.declared.Packed.the-variants.{Refused, Written}
 
 abbrev pub packAnswer : Packed → Answer
 packAnswer (Refused n p) = refusal n p
-packAnswer (Written size) = accepted (some (pos size) ∷ [])
+packAnswer (Written size) = accepted (packGives size)

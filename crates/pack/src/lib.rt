@@ -8,8 +8,7 @@ ghost use Rattle.format.specs.Whole.{countIn};
 ghost use Rattle.format.specs.Whole as spec;
 ghost use Rattle.pack.specs.Answers.{packAnswer};
 ghost use Rattle.pack.specs.Steps.{fieldsChecked, FieldsPass, TailPasses};
-use nibble::Cursor;
-use tail::Walked;
+use tail::Counted;
 
 pub enum Packed {
     // The refusal's number and place.
@@ -85,21 +84,12 @@ fn pack_tail(values: &[i64], word: u64, rptin: u16, tail: &[u8], out: &mut [u8])
     ensures { λ r. ⌜ record { answer = packAnswer r; out = now (out .exit) } ≡ spec.pack (now (values .entry)) word rptin (now (tail .entry)) (now (out .entry)) ⌝ }
 {
     if nibble::all_nibbles(tail) {
-        let count = tail::count_in(tail);
-        let w = tail::walk(
-            tail,
-            Cursor {
-                at: 0,
-                packed: false,
-            },
-            count,
-            0,
-        );
+        let w = tail::walk_tail(tail);
         match w {
-            Walked::Refused(n, p) => {
+            Counted::Refused(n, p) => {
                 return Packed::Refused(n, p);
             }
-            Walked::Ended(_) => {
+            Counted::Ended(count) => {
                 return write(values, word, rptin, tail, count, out);
             }
         }

@@ -5,10 +5,9 @@ use native.Mathlib.Omega.{arith}
 use mathlib.Core.Path.{_≡_, refl, sym, ap, _∙_}
 use mathlib.Core.Bool.{Bool, true, false, not, cond, _&&_}
 use mathlib.Core.List.{List, [], _∷_}
-use mathlib.Core.Option.{Option, none}
+use mathlib.Core.Option.{none, some}
 use lib.ListN.{length, take, drop, length-append}
 use lib.Seq.{take-at}
-use lib.IntN.{ℤ}
 use lib.Dec.{ltb, leb}
 use borrow.Author.Tests.{ltb-false, leb-true, leb-false}
 use Rattle.format.specs.Bits.{Bytes}
@@ -17,7 +16,7 @@ use Rattle.format.specs.Nibbles.{attachment}
 use Rattle.format.specs.ShipText.{writeText}
 use Rattle.format.specs.Observation.{size}
 use Rattle.format.specs.Report.{observationOf, bodyValid}
-use Rattle.format.specs.Calls.{Call, put, putText, next, gives, outputOf, writes, allNibbles, withContent, idCheck, lengthCheck, contentCheck, callChecks, Answer}
+use Rattle.format.specs.Calls.{Call, put, putText, edited, afterEdit, next, Given, gives, outputOf, writes, allNibbles, withContent, idCheck, lengthCheck, contentCheck, callChecks, Answer}
 use Rattle.format.specs.Buffer.{layout, after, effect}
 use Rattle.format.specs.Reply.{refusal}
 use Rattle.laws.proofs.Lists.{test-case}
@@ -43,16 +42,17 @@ content-passes i ns valid = no-check (contentCheck i ns) [] (ap not valid) first
 
 module _ {b : List ℕ} {j : ℕ} {r : Report} (bs : Bytes b) (f : Found b j r) where
   -- a call that puts, when only 13 is left
-  putting-effect : (c : Call) (i : ℕ) (ns : List ℕ) → next (observationOf b) c ≡ withContent (observationOf b) i ns → writes (observationOf b) c ≡ [] → outputOf c ≡ []
+  putting-effect : (c : Call) (i : ℕ) (ns : List ℕ) → edited (observationOf b) c ≡ some (withContent (observationOf b) i ns) → writes (observationOf b) c ≡ [] → outputOf c ≡ []
       → gives (observationOf b) c ≡ [] → first (callChecks (observationOf b) c) ≡ none → putting b i ns ≡ effect b c
   putting-effect c i ns is w l g passed =
       let t = withContent (observationOf b) i ns in
+      let then : next (observationOf b) c ≡ t = ap (afterEdit (observationOf b)) is in
       test-case (ltb (length b) (size (withContent (observationOf b) i ns)))
       (λ q. rw q (ap (after (refusal 13 0) b) (sym l) ∙ effect-room b (observationOf b) c bs (f .judged) passed (rw (is, q))))
       (λ q. rw q
-      (ap (λ (y : List (Option ℤ)). after (Answer.accepted y) (layout b (size (observationOf b)) t) []) (sym g)
+      (ap (λ (y : List Given). after (Answer.accepted y) (layout b (size (observationOf b)) t) []) (sym g)
       ∙ effect-done b (observationOf b) c bs (f .judged) (layout b (size (observationOf b)) t) [] passed
-      (rw is (ltb-false (length b) (size t) q)) (rw (w, l) (omega arith)) (ap (layout b (size (observationOf b))) (sym is)) (rw (w, l))))
+      (rw then (ltb-false (length b) (size t) q)) (rw (w, l) (omega arith)) (ap (layout b (size (observationOf b))) (sym then)) (rw (w, l))))
 
   module _ (ns : List ℕ) (low : 1 ≤ j) (high : j ≤ 15) where
     pub put-short : length ns < 1 → after (refusal 12 0) b [] ≡ effect b (put j ns)
@@ -74,7 +74,7 @@ module _ {b : List ℕ} {j : ℕ} {r : Report} (bs : Bytes b) (f : Found b j r) 
         put-fineAt = put-checked j ns (range-fine 1 15 j low high) (range-fine 1 255 (length ns) filled short) valid
 
         pub put-effect : putting b j ns ≡ effect b (put j ns)
-        unfolding callChecks outputOf writes gives next
+        unfolding callChecks outputOf writes gives edited
         put-effect =
             putting-effect (put j ns) j ns refl refl refl refl
             (id-passes j _ low high (length-passes ns _ filled short (content-passes j ns valid)))
@@ -126,7 +126,7 @@ module _ {b : List ℕ} {r : Report} {t before ns : List ℕ} {w : Written} (bs 
           rw is-text (put-checked 4 (writeText t) refl (range-fine 1 255 (length (writeText t)) (omega (arith, fits .1)) (fits .0)) valid)
 
       pub text-effect : putting b 4 (take n ns) ≡ effect b (putText t)
-      unfolding callChecks outputOf writes gives next
+      unfolding callChecks outputOf writes gives edited
       text-effect =
           ap (putting b 4) is-text
           ∙ putting-effect bs f (putText t) 4 (writeText t) refl refl refl refl

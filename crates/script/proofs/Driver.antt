@@ -13,7 +13,8 @@ use Rattle.format.specs.Reply.{answerOf}
 use Rattle.format.specs.declared.Reply.{Reply}
 use Rattle.format.specs.Bits.{Bytes}
 use Rattle.script.specs.Script.{bytes8, Entry, entry, numberAt, bytesAt, kinds, within, entryAt, recordSize, nextIn, headOf, Replayed, Performs, idle, turn}
-use Rattle.script.proofs.Scripts.{head-length, entry-whole, entry-cut, next-in, next-full, next-none, next-some, turn-idle, turn-done, effect-out, Kept, kept-turn, kept-end, replay-claim, performs}
+use Rattle.script.proofs.Log.{head-length, effect-out}
+use Rattle.script.proofs.Scripts.{entry-whole, entry-cut, next-in, next-full, next-none, next-some, turn-idle, turn-done, Kept, kept-turn, kept-end, performs}
 
 -- ---- one entry
 
@@ -176,4 +177,4 @@ module _ (b₀ script log₀ b log : List ℕ) (n at to : ℕ) (k : Kept b₀ sc
       → Performs (record { buffer = t .buffer; log = take to log ++ (t .log ++ drop (length log - to) (drop to log)); calls = n; taken = at; written = to }) b₀ script log₀
   parts-end z bytes =
       rw (put-whole log (t .log) to)
-      (performs _ b₀ script log₀ (kept-end b₀ script log₀ b log n at to k t turns z ∙ replay-claim b₀ script log₀ bytes))
+      (performs _ b₀ script log₀ (kept-end b₀ script log₀ b log n at to k t turns z) bytes)

@@ -6,7 +6,7 @@ use mathlib.Core.Option.{none, some}
 use lib.ListN.{length, take}
 use lib.Dec.{T}
 use lib.IntN.{pos, negsuc}
-use Rattle.format.specs.Calls.{Call, readField, setField, clearField, readFlag, setFlag, clearFlag, put, fetch, remove, putText, fetchText, outputOf, accepted}
+use Rattle.format.specs.Calls.{Call, readField, setField, clearField, readFlag, setFlag, clearFlag, put, fetch, remove, putText, fetchText, outputOf, Quantity, given, accepted}
 use Rattle.format.specs.Buffer.{shown}
 use Rattle.format.specs.Reply.{refusal}
 use Rattle.format.proofs.Test.{Example, same, every}
@@ -65,7 +65,7 @@ examples =
     -- a log
     ∷ example (records (shown (refusal 13 258) (9 ∷ 8 ∷ []) ∷ shown (accepted []) [] ∷ []))
     (0 ∷ 13 ∷ 0 ∷ 0 ∷ 0 ∷ 0 ∷ 0 ∷ 0 ∷ 1 ∷ 2 ∷ 9 ∷ 8 ∷ 1 ∷ 0 ∷ 0 ∷ 0 ∷ 0 ∷ 0 ∷ 0 ∷ 0 ∷ 0 ∷ 0 ∷ [])
-    ∷ example (records (shown (accepted (some (pos 300) ∷ [])) [] ∷ shown (accepted (some (negsuc 1) ∷ [])) (1 ∷ []) ∷ shown (accepted (none ∷ [])) [] ∷ []))
+    ∷ example (records (shown (accepted (given Quantity.value (some (pos 300)) ∷ [])) [] ∷ shown (accepted (given Quantity.value (some (negsuc 1)) ∷ [])) (1 ∷ []) ∷ shown (accepted (given Quantity.flag none ∷ [])) [] ∷ []))
     (2 ∷ 0 ∷ 0 ∷ 0 ∷ 0 ∷ 0 ∷ 0 ∷ 0 ∷ 1 ∷ 44 ∷ 2 ∷ 0 ∷ 255 ∷ 255 ∷ 255 ∷ 255 ∷ 255 ∷ 255 ∷ 255 ∷ 254 ∷ 1 ∷ 3 ∷ 0 ∷ 0 ∷ 0 ∷ 0 ∷ 0 ∷ 0 ∷ 0 ∷ 0 ∷ 0 ∷ [])
     ∷ []
 

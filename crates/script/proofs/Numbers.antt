@@ -7,13 +7,13 @@ use native.Mathlib.Omega.{arith}
 use mathlib.Core.Path.{_≡_, refl, sym, ap, _∙_}
 use mathlib.Core.List.{List, [], _∷_, _++_, append-assoc, append-nil}
 use lib.ListN.{length, getD, take, drop, set, length-set, length-drop}
-use lib.Seq.{getD-drop, drop-at, length-take-le, take-all, take-suc, take-suc-set, set-split, drop-length}
+use lib.Seq.{getD-drop, drop-at, length-take-le, take-all, take-suc, take-suc-set, set-split, drop-length, drop-drop, take-at, take-append-seam}
 use lib.Pow.{pow-add, pow-mono, mod-pow-add}
 use lib.IntN.{ℤ, pos, negsuc}
 use lib.Signed.{mag}
 use borrow.Author.Tests.{lt-ltb, le-ltb}
 use Rattle.format.specs.Calls.{over}
-use Rattle.script.specs.Script.{numberFrom, numberOf, bytesOf, bytes8, numberAt}
+use Rattle.script.specs.Script.{numberFrom, numberOf, bytesOf, bytes8, numberAt, bytesAt}
 use Rattle.words.specs.Words.{signed, unsigned}
 
 -- ---- of a number
@@ -166,3 +166,14 @@ pub copied-end : (from to : List ℕ) (i : ℕ) → Copied from to i → length 
 copied-end from to i c h =
     let l = c .same-length in
     sym (take-all i to (omega arith)) ∙ c .same ∙ take-all i from h
+
+-- ---- reading what was written
+
+module _ (p : List ℕ) (i : ℕ) (h : length p ≡ i) where
+  pub number-at : (n : ℕ) (more : List ℕ) → n < 2 ^ 64 → numberAt (p ++ (bytes8 n ++ more)) i ≡ n
+  number-at n more f = rw (drop-at p (bytes8 n ++ more) i h, take-at (bytes8 n) more 8 (length-bytes8 n)) (number-bytes8 n f)
+
+  pub bytes-at : (s more : List ℕ) → length s < 2 ^ 64 → bytesAt (p ++ (bytes8 (length s) ++ (s ++ more))) i ≡ s
+  bytes-at s more f =
+      rw (number-at (length s) (s ++ more) f, ← drop-drop 8 i (p ++ (bytes8 (length s) ++ (s ++ more))), drop-at p (bytes8 (length s) ++ (s ++ more)) i h, drop-at (bytes8 (length s)) (s ++ more) 8 (length-bytes8 (length s)))
+      (take-append-seam s more)

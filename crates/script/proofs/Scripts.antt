@@ -8,34 +8,21 @@ use mathlib.Core.Bool.{Bool, true, false, cond}
 use mathlib.Core.List.{List, [], _∷_, _++_, append-assoc, append-nil}
 use mathlib.Core.Option.{Option, none, some}
 use lib.ListN.{length, getD, take, drop, length-append, length-drop}
-use lib.Seq.{drop-drop, drop-at, take-at, take-append-seam, drop-append-seam, take-append-add, drop-append-add, length-take-le}
-use lib.Dec.{ltb, leb}
+use lib.Seq.{drop-drop, drop-at, take-at, drop-append-seam, take-append-add, drop-append-add, length-take-le}
+use lib.Dec.{leb}
 use lib.IntN.{ℤ}
-use borrow.Author.Tests.{ltb-false, le-leb, lt-leb, leb-true}
+use borrow.Author.Tests.{le-leb, lt-leb, leb-true}
 use Rattle.format.specs.Bits.{Bytes}
-use Rattle.format.specs.Order.{Refusal, first}
-use Rattle.format.specs.Observation.{Observation, size}
-use Rattle.format.specs.Report.{Verdict, judge}
-use Rattle.format.specs.Calls.{Call, readField, setField, clearField, readFlag, setFlag, clearFlag, put, fetch, remove, putText, fetchText, next, outputOf, writes, roomCheck, callChecks, checks, Answer, refused, accepted, steppedBy, step, over}
-use Rattle.format.specs.Buffer.{after, Shown, shown, Ran, effectOn, effect, calls, claim}
-use Rattle.laws.proofs.Lists.{or-false}
-use Rattle.laws.proofs.Order.{first-none, first-append-none}
+use Rattle.format.specs.Order.{first}
+use Rattle.format.specs.Observation.{size}
+use Rattle.format.specs.Calls.{Call, readField, setField, clearField, readFlag, setFlag, clearFlag, put, fetch, remove, putText, fetchText, Answer, over}
+use Rattle.format.specs.Buffer.{after, Shown, shown, Ran, effect, calls, claim}
 use Rattle.laws.proofs.Bits.{append-below}
 use Rattle.laws.proofs.List.{whole-list}
-use Rattle.script.specs.Script.{bytesOf, bytes8, Entry, entry, numberAt, bytesAt, kinds, within, entryAt, recordSize, logSize, nextIn, listOf, entryOf, scriptOf, Slice, Fits, AllFit, headOf, recordOf, records, answerAt, AnswerFits, Replayed, logged, replayed, Performs, idle, performed, turn}
+use Rattle.script.specs.Script.{bytesOf, bytes8, Entry, entry, numberAt, bytesAt, kinds, within, entryAt, recordSize, logSize, nextIn, listOf, entryOf, scriptOf, Slice, Fits, AllFit, headOf, recordOf, records, answersIn, Replayed, logged, Claimed, Performs, idle, performed, turn}
 use Rattle.words.specs.Words.{signed, unsigned}
-use Rattle.script.proofs.Numbers.{length-bytes8, number-bytes8, signed-unsigned, unsigned-lt}
-
--- ---- reading what was written
-
-module _ (p : List ℕ) (i : ℕ) (h : length p ≡ i) where
-  number-at : (n : ℕ) (more : List ℕ) → n < 2 ^ 64 → numberAt (p ++ (bytes8 n ++ more)) i ≡ n
-  number-at n more f = rw (drop-at p (bytes8 n ++ more) i h, take-at (bytes8 n) more 8 (length-bytes8 n)) (number-bytes8 n f)
-
-  bytes-at : (s more : List ℕ) → length s < 2 ^ 64 → bytesAt (p ++ (bytes8 (length s) ++ (s ++ more))) i ≡ s
-  bytes-at s more f =
-      rw (number-at (length s) (s ++ more) f, ← drop-drop 8 i (p ++ (bytes8 (length s) ++ (s ++ more))), drop-at p (bytes8 (length s) ++ (s ++ more)) i h, drop-at (bytes8 (length s)) (s ++ more) 8 (length-bytes8 (length s)))
-      (take-append-seam s more)
+use Rattle.script.proofs.Numbers.{length-bytes8, number-at, bytes-at, signed-unsigned, unsigned-lt}
+use Rattle.script.proofs.Log.{record-length, effect-out, claim-told}
 
 -- ---- entries
 
@@ -318,50 +305,6 @@ unfolding scriptOf AllFit
 script-bytes [] f = λ i. omega arith
 script-bytes (c ∷ cs) f = append-below 256 (entryOf c) (scriptOf cs) (entry-bytes c (f .0)) (script-bytes cs (f .1))
 
--- ---- the log cuts nothing: an answer within 64 bits is read back from its record
-
-pub answer-back : (a : Answer) (out : List ℕ) → AnswerFits a → answerAt (recordOf (shown a out)) ≡ a
-unfolding answerAt recordOf headOf
-answer-back (refused r) out h = rw (number-at (0 ∷ r .number ∷ []) 2 refl (r .place) out h)
-answer-back (accepted []) out h = refl
-answer-back (accepted (some z ∷ [])) out h = rw (number-at (2 ∷ 0 ∷ []) 2 refl (unsigned z) out (unsigned-lt z h), signed-unsigned z h)
-answer-back (accepted (none ∷ [])) out h = refl
-answer-back (accepted (x ∷ y ∷ more)) out h = absurd h
-
--- ---- lengths
-
-pub head-length : (a : Answer) → length (headOf a) ≡ 10
-unfolding headOf
-head-length (refused r) = rw length-bytes8
-head-length (accepted []) = rw length-bytes8
-head-length (accepted (some z ∷ more)) = rw length-bytes8
-head-length (accepted (none ∷ more)) = rw length-bytes8
-
-pub record-length : (a : Shown) → length (recordOf a) ≡ 10 + length (a .out)
-unfolding recordOf
-record-length a = simp (length-append, head-length)
-
--- no call changes the length of its output
-step-out : (n : ℕ) (s : Observation) (c : Call) → length (step n s c .out) ≡ length (outputOf c)
-unfolding step
-step-out n s c = go (first (checks n s c)) refl
-  where
-    go : (o : Option Refusal) → first (checks n s c) ≡ o → length (steppedBy o s c .out) ≡ length (outputOf c)
-    go (some r) q = refl
-    go none q =
-        let f = first-append-none (callChecks s c) (roomCheck n s c ∷ []) (unfold checks in q) in
-        let room = or-false (ltb n (size (next s c))) (ltb (length (outputOf c)) (length (writes s c))) (first-none (roomCheck n s c) [] (f .1) .0) in
-        let fits = ltb-false (length (outputOf c)) (length (writes s c)) (room .1) in
-        simp (length-append, length-drop) (omega arith)
-
-pub effect-out : (b : List ℕ) (c : Call) → length (effect b c .out) ≡ length (outputOf c)
-unfolding effect
-effect-out b c = go (judge b)
-  where
-    go : (v : Verdict) → length (effectOn v b c .out) ≡ length (outputOf c)
-    go (Verdict.refused r) = refl
-    go (Verdict.accepted s) = step-out (length b) s c
-
 -- a call's answer and output
 abbrev pub shownOf : List ℕ → Call → Shown
 shownOf b c = shown (effect b c .answer) (effect b c .out)
@@ -378,20 +321,23 @@ finish b script log =
     let cs = listOf (length script) (length log) script in
     logged cs (calls b cs) log
 
--- it is what is claimed
-pub replay-claim : (b script log : List ℕ) → Bytes b → finish b script log ≡ replayed b script log
-unfolding finish replayed
-replay-claim b script log h =
-    let cs = listOf (length script) (length log) script in
-    ap (λ (r : Ran). logged cs r log) (whole-list b cs h)
-
--- and it is claimed of every list that has this script
-pub performs : (r : Replayed) (b script log : List ℕ) → r ≡ replayed b script log → Performs r b script log
-unfolding replayed
-performs r b script log h = record { of-script = h; of-list = λ cs f e g. h ∙ of cs f e g; in-bytes = script-bytes; told = answer-back }
+-- it is what is claimed, of the script's list and of every list that has this script
+pub performs : (r : Replayed) (b script log : List ℕ) → r ≡ finish b script log → Bytes b → Performs r b script log
+unfolding finish
+performs r b script log h bytes =
+    record {
+      of-script = claimed (listOf (length script) (length log) script) h;
+      of-list = λ cs f e g. claimed cs (h ∙ ap (λ (l : List Call). logged l (calls b l) log) (of cs f e g));
+      in-bytes = script-bytes;
+    }
   where
-    of : (cs : List Call) → AllFit cs → scriptOf cs ≡ script → logSize cs ≤ length log → replayed b script log ≡ logged cs (claim b cs) log
-    of cs f e g = rw (← e, script-alone cs (length log) f g)
+    claimed : (cs : List Call) → r ≡ logged cs (calls b cs) log → Claimed r b log cs
+    claimed cs q =
+        let is : r ≡ logged cs (claim b cs) log = q ∙ ap (λ (x : Ran). logged cs x log) (whole-list b cs bytes) in
+        record { left = is; told = ap (λ (x : Replayed). answersIn cs (x .log)) is ∙ claim-told b cs log bytes }
+
+    of : (cs : List Call) → AllFit cs → scriptOf cs ≡ script → logSize cs ≤ length log → listOf (length script) (length log) script ≡ cs
+    of cs f e g = rw (← e) (script-alone cs (length log) f g)
 
 -- a part of the log that stands already, and what comes behind it
 abbrev pub behind : List ℕ → ℕ → ℕ → Replayed → Replayed

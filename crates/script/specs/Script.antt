@@ -6,9 +6,10 @@ use mathlib.Core.List.{List, [], _∷_, _++_}
 use mathlib.Core.Option.{Option, none, some}
 use lib.ListN.{length, getD, take, drop}
 use lib.Dec.{leb, eqb}
+use lib.IntN.{ℤ}
 use lib.Signed.{mag}
 use Rattle.words.specs.Words.{signed, unsigned}
-use Rattle.format.specs.Calls.{Call, readField, setField, clearField, readFlag, setFlag, clearFlag, put, fetch, remove, putText, fetchText, outputOf, Answer, refused, accepted, over}
+use Rattle.format.specs.Calls.{Call, readField, setField, clearField, readFlag, setFlag, clearFlag, put, fetch, remove, putText, fetchText, outputOf, Quantity, value, flag, count, Given, given, Answer, refused, accepted, over}
 use Rattle.format.specs.Buffer.{Shown, shown, Ran, effect, claim}
 use Rattle.format.specs.Reply.{refusal}
 use Rattle.format.specs.declared.Scaled.{Scaled}
@@ -141,12 +142,17 @@ AllFit (c ∷ cs) = Fits c × AllFit cs
 
 -- ---- the log
 
--- an answer in 10 bytes: a tag, the refusal's number, and its place or the number that was given. No call gives two
+-- a number that is given, or that it is missing
+abbrev pub numberHead : Option ℤ → List ℕ
+numberHead (some z) = 2 ∷ 0 ∷ bytes8 (unsigned z)
+numberHead none = 3 ∷ 0 ∷ bytes8 0
+
+-- an answer in 10 bytes: a tag, the refusal's number, and its place or the number that was given. No call gives two, and
+-- the call tells what the number is
 unfoldable pub headOf : Answer → List ℕ
 headOf (refused r) = 0 ∷ r .number ∷ bytes8 (r .place)
 headOf (accepted []) = 1 ∷ 0 ∷ bytes8 0
-headOf (accepted (some z ∷ more)) = 2 ∷ 0 ∷ bytes8 (unsigned z)
-headOf (accepted (none ∷ more)) = 3 ∷ 0 ∷ bytes8 0
+headOf (accepted (g ∷ more)) = numberHead (g .number)
 
 -- the record of a call: its answer, and its output after it
 unfoldable pub recordOf : Shown → List ℕ
@@ -156,20 +162,35 @@ unfoldable pub records : List Shown → List ℕ
 records [] = []
 records (a ∷ more) = recordOf a ++ records more
 
--- the answer that a record tells
-unfoldable pub answerAt : List ℕ → Answer
-answerAt s =
-    cond (eqb (getD s 0 0) 0) (refusal (getD s 1 0) (numberAt s 2))
-    (cond (eqb (getD s 0 0) 1) (accepted [])
-    (cond (eqb (getD s 0 0) 2) (accepted (some (signed (numberAt s 2)) ∷ [])) (accepted (none ∷ []))))
+-- ---- the log read back
 
--- an answer that 64 bits hold
-abbrev pub AnswerFits : Answer → Type 0
-AnswerFits (refused r) = r .place < 2 ^ 64
-AnswerFits (accepted []) = Unit {0}
-AnswerFits (accepted (some z ∷ [])) = mag z < 2 ^ 63
-AnswerFits (accepted (none ∷ [])) = Unit {0}
-AnswerFits (accepted (x ∷ y ∷ more)) = ⊥
+-- what the number is that a call gives
+unfoldable pub quantityOf : Call → Option Quantity
+quantityOf (readField k) = some value
+quantityOf (setField k v) = none
+quantityOf (clearField k) = none
+quantityOf (readFlag j) = some flag
+quantityOf (setFlag j v) = none
+quantityOf (clearFlag j) = none
+quantityOf (put i ns) = none
+quantityOf (fetch i out) = some count
+quantityOf (remove i) = none
+quantityOf (putText t) = none
+quantityOf (fetchText out) = some count
+
+-- the number of this quantity that a record tells, or that it is missing
+abbrev pub givenAt : Option Quantity → List ℕ → List Given
+givenAt none s = []
+givenAt (some q) s = given q (cond (eqb (getD s 0 0) 2) (some (signed (numberAt s 2))) none) ∷ []
+
+-- the answer that a call's record tells
+unfoldable pub answerAt : Call → List ℕ → Answer
+answerAt c s = cond (eqb (getD s 0 0) 0) (refusal (getD s 1 0) (numberAt s 2)) (accepted (givenAt (quantityOf c) s))
+
+-- the answers to a list of calls and their outputs, as its records tell them
+unfoldable pub answersIn : List Call → List ℕ → List Shown
+answersIn [] s = []
+answersIn (c ∷ cs) s = shown (answerAt c s) (take (length (outputOf c)) (drop 10 s)) ∷ answersIn cs (drop (recordSize c) s)
 
 -- ---- the claim
 
@@ -192,20 +213,18 @@ logged cs r log =
       written = length (records (r .answers));
     }
 
--- THE CLAIM about running code: the buffer and the answers are those that are claimed of the script's list
-unfoldable pub replayed : List ℕ → List ℕ → List ℕ → Replayed
-replayed b script log =
-    let cs = listOf (length script) (length log) script in
-    logged cs (claim b cs) log
+-- THE CLAIM about running code: r is what is claimed of the list cs, and the log tells the answers and the outputs
+pub record Claimed (r : Replayed) (b log : List ℕ) (cs : List Call) : Type 0 where
+  pub left : r ≡ logged cs (claim b cs) log
+  pub told : answersIn cs (r .log) ≡ claim b cs .answers
 
--- demand 3 of a script that was performed: r is what is claimed of the script's list; and, for every list of these calls whose
--- arguments the code's types hold and whose records fit the log, what is claimed of that list where the script is its own
+-- demand 3 of a script that was performed: of the script's list; and of every list of these calls whose arguments the code's
+-- types hold and whose records fit the log, where the script is its own
 pub record Performs (r : Replayed) (b script log : List ℕ) : Type 0 where
-  pub of-script : r ≡ replayed b script log
-  pub of-list : (cs : List Call) → AllFit cs → scriptOf cs ≡ script → logSize cs ≤ length log → r ≡ logged cs (claim b cs) log
-  -- such a list's script is bytes, and a record tells its answer
+  pub of-script : Claimed r b log (listOf (length script) (length log) script)
+  pub of-list : (cs : List Call) → AllFit cs → scriptOf cs ≡ script → logSize cs ≤ length log → Claimed r b log cs
+  -- such a list's script is bytes
   pub in-bytes : (cs : List Call) → AllFit cs → Bytes (scriptOf cs)
-  pub told : (a : Answer) (out : List ℕ) → AnswerFits a → answerAt (recordOf (shown a out)) ≡ a
 
 -- ---- one call
 

@@ -69,10 +69,13 @@ pub fn put_reply(log: &mut [u8], r: Reply)
             let n = words::unsigned_of(z);
             put_head(log, 2, 0, n);
         }
+        Reply::MissingValue => {
+            put_head(log, 3, 0, 0);
+        }
         Reply::Flag(v) => {
             put_head(log, 2, 0, v as u64);
         }
-        Reply::Missing => {
+        Reply::MissingFlag => {
             put_head(log, 3, 0, 0);
         }
         Reply::Count(n) => {

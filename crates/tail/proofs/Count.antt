@@ -1,29 +1,29 @@
--- Counting attachments in a tail, one after the other.
+-- A walk to the end of a tail counts its attachments.
 -- Assumes nothing.
-use Prim.Native.Nat.{ℕ, zero, suc, _+_, _-_, _*_, _≤_, _<_}
-use native.Mathlib.Nat.{add-zero, zero-add}
+use Prim.Native.Nat.{ℕ, zero, suc, _+_, _-_, _≤_, _<_}
+use native.Mathlib.Nat.{zero-add}
 use native.Mathlib.Omega.{arith}
-use mathlib.Core.Path.{_≡_, refl, sym, ap, _∙_}
+use mathlib.Core.Path.{_≡_, refl, ap, _∙_}
+use mathlib.Core.Bool.{false}
 use mathlib.Core.List.{List, [], _∷_}
-use lib.ListN.{length, getD, drop, length-drop, drop-of-length-le}
-use lib.Seq.{drop-length, drop-drop, getD-drop}
-use Rattle.format.specs.Nibbles.{lengthAt, behind}
+use mathlib.Core.Option.{Option, none, some}
+use lib.ListN.{length, length-drop, drop-of-length-le}
+use Rattle.format.specs.Order.{Refusal, first}
+use Rattle.format.specs.Nibbles.{behind, Nibbles}
+use Rattle.format.specs.Report.{attachmentChecks}
 use Rattle.format.specs.Whole.{countFrom, countIn}
-
--- ---- the place behind an attachment
-
-module _ (s : List ℕ) (at : ℕ) where
-  -- where what is behind it begins
-  pub behind-is : behind (drop at s) ≡ drop (at + 3 + lengthAt (drop at s)) s
-  behind-is = ap (drop (lengthAt (drop at s))) (drop-drop 3 at s) ∙ drop-drop (lengthAt (drop at s)) (at + 3) s
-
-  pub behind-end : length s ≤ at + 3 + lengthAt (drop at s) → drop (length s) s ≡ behind (drop at s)
-  behind-end h = drop-length s ∙ sym (behind-is ∙ drop-of-length-le s h)
-
-  pub length-read : (x y : ℕ) → x ≡ getD s at 0 → y ≡ getD s (at + 1) 0 → x * 16 + y ≡ lengthAt (drop at s)
-  length-read x y ex ey = rw (ex, ey, getD-drop at s 0 0, getD-drop at s 1 0, add-zero at)
-
--- ---- the count
+use Rattle.nibble.specs.View.{from}
+use Rattle.nibble.specs.declared.Cursor.{Cursor}
+use Rattle.tail.specs.Look.{lookedAt, passedBy}
+use Rattle.tail.specs.Walk.{walkedBy, walked, countedBy, counted}
+use Rattle.tail.specs.declared.Counted.{Counted}
+use Rattle.tail.specs.declared.Looked.the-variants.{Fault, Fine}
+use Rattle.tail.specs.declared.State.{State}
+use Rattle.tail.specs.declared.Tail.{Tail}
+use Rattle.tail.specs.declared.Walked.{Walked}
+use Rattle.tail.specs.declared.Walked.the-variants.{Refused, Ended}
+use Rattle.tail.proofs.Checks.{passes}
+use Rattle.tail.proofs.Turns.{Walking, behind-from, walk-start, walk-end, walk-fault, walk-more}
 
 count-step : (n : ℕ) (ns : List ℕ) → 0 < length ns → countFrom (suc n) ns ≡ 1 + countFrom n (behind ns)
 unfolding countFrom
@@ -35,26 +35,69 @@ unfolding countFrom
 count-nil zero = refl
 count-nil (suc n) = refl
 
--- count attachments so far, and at least one nibble each
-pub record Counting (s : List ℕ) (at count : ℕ) : Type 0 where
-  pub inside : at ≤ length s
-  pub few : count ≤ at
-  pub rest : count + countFrom (length s - count) (drop at s) ≡ countIn s
+-- the cursor at a tail, one nibble a byte
+abbrev atTail : Cursor
+atTail = record { at = 0; packed = false }
 
-pub count-start : (s : List ℕ) → Counting s 0 0
-count-start s = record { inside = omega arith; few = omega arith; rest = let e : length s - 0 ≡ length s = omega arith in rw e (zero-add (countIn s)) }
+-- a walk's answer, with the count where it ended
+abbrev asCounted : ℕ → Walked → Counted
+asCounted n (Refused m p) = Counted.Refused m p
+asCounted n (Ended t) = Counted.Ended n
 
-pub count-more : (s : List ℕ) (at count next : ℕ) → at < length s → Counting s at count → at < next → next ≤ length s → drop next s ≡ behind (drop at s) → Counting s next (count + 1)
-count-more s at count next h k l m e =
-    let a = k .few in
-    let f : length s - count ≡ suc (length s - (count + 1)) = omega arith in
-    let d : 0 < length (drop at s) = rw length-drop (omega arith) in
-    let r = k .rest in
-    let t : countFrom (length s - count) (drop at s) ≡ 1 + countFrom (length s - (count + 1)) (drop next s) = rw (f, e) (count-step (length s - (count + 1)) (drop at s) d) in
-    record { inside = m; few = omega arith; rest = omega arith }
+counted-by : (o : Option Refusal) (t : Tail) (n : ℕ) → asCounted n (walkedBy o t) ≡ countedBy o n
+counted-by none t n = refl
+counted-by (some r) t n = refl
 
-pub count-end : (s : List ℕ) (at count : ℕ) → length s ≤ at → Counting s at count → count ≡ countIn s
-count-end s at count h k =
-    let z : countFrom (length s - count) (drop at s) ≡ 0 = rw (drop-of-length-le s h) (count-nil (length s - count)) in
-    let r = k .rest in
-    omega arith
+counted-is : (s : List ℕ) → asCounted (countIn s) (walked s atTail (countIn s) 0) ≡ counted s
+unfolding walked counted
+counted-is s = counted-by (first (attachmentChecks (countIn s) 1 [] s)) _ (countIn s)
+
+-- i attachments of a tail are walked over, at least one nibble each, and the others are still to be counted
+pub record Counting (s : List ℕ) (st : State) (i : ℕ) : Type 0 where
+  pub walking : Walking s atTail (countIn s) 0 st i
+  pub flat : st .cursor .packed ≡ false
+  pub few : i ≤ st .cursor .at
+  pub rest : i + countFrom (length s - i) (from s (st .cursor)) ≡ countIn s
+
+pub count-start : (s : List ℕ) → Nibbles s → Counting s (record { cursor = atTail; mask = 0; place = 0; al = 0 }) 0
+count-start s n =
+    let e : length s - 0 ≡ length s = omega arith in
+    record {
+      walking = walk-start s atTail (countIn s) 0 n (omega arith);
+      flat = refl;
+      few = omega arith;
+      rest = rw e (zero-add (countIn s));
+    }
+
+module _ (s : List ℕ) (st : State) (i : ℕ) (k : Counting s st i) where
+  pub count-end : length s ≤ st .cursor .at → Counted.Ended i ≡ counted s
+  count-end h =
+      let z : countFrom (length s - i) (from s (st .cursor)) ≡ 0 = rw (k .flat, drop-of-length-le s h) (count-nil (length s - i)) in
+      let r = k .rest in
+      let e : i ≡ countIn s = omega arith in
+      ap Counted.Ended e ∙ ap (asCounted (countIn s)) (walk-end s atTail (countIn s) 0 st i (k .walking) (omega arith)) ∙ counted-is s
+
+  module _ (h : st .cursor .at < length s) where
+    -- the attachment at the cursor is one of them
+    one-of : i + suc (countFrom (length s - (i + 1)) (behind (from s (st .cursor)))) ≡ countIn s
+    one-of =
+        let f : length s - i ≡ suc (length s - (i + 1)) = omega (arith, k .few) in
+        let d : 0 < length (from s (st .cursor)) = rw (length-drop, k .flat) (omega arith) in
+        let r = rw f at (k .rest) in
+        omega (arith, count-step (length s - (i + 1)) (from s (st .cursor)) d)
+
+    before-end : i < countIn s
+    before-end = omega (arith, one-of)
+
+    pub count-fault : (n : ℕ) → lookedAt s (st .cursor) (st .mask) ≡ Fault n → Counted.Refused n (i + 1) ≡ counted s
+    count-fault n e = ap (asCounted (countIn s)) (walk-fault s atTail (countIn s) 0 st i (k .walking) before-end n e) ∙ counted-is s
+
+    pub count-more : (a d : ℕ) → lookedAt s (st .cursor) (st .mask) ≡ Fine a d → Counting s (passedBy st a d 0) (i + 1)
+    count-more a d e =
+        let b = behind-from s (st .cursor) a (passes s (st .cursor) (st .mask) a d e .read) in
+        record {
+          walking = walk-more s atTail (countIn s) 0 st i (k .walking) before-end a d e;
+          flat = k .flat;
+          few = omega (arith, k .few);
+          rest = rw (← b) (omega (arith, one-of));
+        }

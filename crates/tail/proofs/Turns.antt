@@ -1,6 +1,6 @@
 -- A walk over attachments: what is still to be walked gives the answer.
 -- Assumes nothing.
-use Prim.Native.Nat.{ℕ, suc, _+_, _-_, _*_, _≤_, _<_}
+use Prim.Native.Nat.{ℕ, suc, _+_, _-_, _*_, _^_, _≤_, _<_}
 use native.Mathlib.Nat.{add-zero}
 use native.Mathlib.Numerals.{add-one}
 use native.Mathlib.Omega.{arith}
@@ -80,10 +80,10 @@ module _ (found : Bool) (place al at want a d : ℕ) (content : List ℕ) (more 
       rw (e, length-cond, size, p, l)
 
 -- what stands behind an attachment begins 3 + AL nibbles further
-behind-from : (b : List ℕ) (c : Cursor) → behind (from b c) ≡ from b (moved c (3 + lengthAt (from b c)))
-behind-from b c =
+pub behind-from : (b : List ℕ) (c : Cursor) (a : ℕ) → a ≡ lengthAt (from b c) → behind (from b c) ≡ from b (moved c (3 + a))
+behind-from b c a q =
     let l = lengthAt (from b c) in
-    let e : c .at + 3 + l ≡ c .at + (3 + l) = omega arith in
+    let e : c .at + 3 + l ≡ c .at + (3 + a) = omega arith in
     ap (drop l) (from-moved b c 3) ∙ from-moved b (moved c 3) l ∙ ap (λ (k : ℕ). drop k (view (c .packed) b)) e
 
 -- ---- one attachment of a walk
@@ -101,7 +101,7 @@ module _ (b : List ℕ) (c : Cursor) (mask : ℕ) (seen : List ℕ) (want place 
       let ns = from b c in
       let next = moved c (3 + a) in
       let more = attachmentsOf n (from b next) in
-      let rest : behind ns ≡ from b next = rw (p .read) (behind-from b c) in
+      let rest = behind-from b c a (p .read) in
       let list : attachmentsOf (suc n) ns ≡ attachment d (contentAt ns) ∷ more = rw (rest, p .told) in
       let size : length (contentAt ns) ≡ a = length-take-le (lengthAt ns) (drop 3 ns) (omega (arith, p .fits, p .read, length-drop 3 ns, from-length b c)) ∙ sym (p .read) in
       let new : d ≡ want → among want seen ≡ false = λ q. ap (λ (x : ℕ). among x seen) (sym q) ∙ sym (m .at d) ∙ p .new in
@@ -118,14 +118,14 @@ pub record Walking (b : List ℕ) (c : Cursor) (count want : ℕ) (st : State) (
   pub few : i ≤ st .mask
   pub low : st .mask < 65536
   pub near : st .cursor .at ≤ 65536 + 258 * i
-  pub packed : st .cursor .packed ≡ c .packed
+  pub nibbles : Nibbles (view (st .cursor .packed) b)
   pub passed : i ≤ count
   pub rest : walkedFrom b (count - i) (i + 1) seen (st .cursor) want (st .place) (st .al) ≡ walked b c count want
 
-pub walk-start : (b : List ℕ) (c : Cursor) (count want : ℕ) → c .at ≤ 65536
+pub walk-start : (b : List ℕ) (c : Cursor) (count want : ℕ) → Nibbles (view (c .packed) b) → c .at ≤ 65536
     → Walking b c count want (record { cursor = c; mask = 0; place = 0; al = 0 }) 0
 unfolding walkedFrom walked among
-walk-start b c count want h =
+walk-start b c count want n h =
     let e : count - 0 ≡ count = omega arith in
     record {
       seen = [];
@@ -134,7 +134,7 @@ walk-start b c count want h =
       few = omega arith;
       low = omega arith;
       near = omega arith;
-      packed = refl;
+      nibbles = n;
       passed = omega arith;
       rest = rw e;
     }
@@ -149,6 +149,15 @@ module _ (b : List ℕ) (c : Cursor) (count want : ℕ) (st : State) (i : ℕ) (
       let ended : walkedFrom b 0 (i + 1) (k .seen) (st .cursor) want (st .place) (st .al) ≡ Ended (record { end = st .cursor .at; place = st .place; al = st .al }) = rw (add-zero (st .cursor .at), place, al) in
       sym ended ∙ (rw z at (k .rest))
 
+  -- what a look requires, and a pass
+  pub walk-look : Nibbles (view (st .cursor .packed) b) × (st .cursor .at ≤ 2 ^ 30)
+  walk-look = (k .nibbles, omega (arith, k .few, k .low, k .near))
+
+  pub walk-pass : (a d : ℕ) → lookedAt b (st .cursor) (st .mask) ≡ Fine a d → (st .cursor .at ≤ 2 ^ 30) × (a < 256) × (d < 16)
+  walk-pass a d e =
+      let s = passed-small b (st .cursor) (st .mask) a d (k .nibbles) (passes b (st .cursor) (st .mask) a d e) in
+      (walk-look .1, s .0, s .1)
+
   module _ (h : i < count) where
     left : count - i ≡ suc (count - (i + 1))
     left = omega arith
@@ -156,11 +165,11 @@ module _ (b : List ℕ) (c : Cursor) (count want : ℕ) (st : State) (i : ℕ) (
     pub walk-fault : (n : ℕ) → lookedAt b (st .cursor) (st .mask) ≡ Fault n → Refused n (i + 1) ≡ walked b c count want
     walk-fault n e = sym (from-fault b (st .cursor) (st .mask) (k .seen) want (st .place) (st .al) (count - (i + 1)) (i + 1) (k .marks) n e) ∙ (rw left at (k .rest))
 
-    pub walk-more : (a d : ℕ) → Nibbles (view (c .packed) b) → lookedAt b (st .cursor) (st .mask) ≡ Fine a d → Walking b c count want (passedBy st a d want) (i + 1)
+    pub walk-more : (a d : ℕ) → lookedAt b (st .cursor) (st .mask) ≡ Fine a d → Walking b c count want (passedBy st a d want) (i + 1)
     unfolding among
-    walk-more a d nibbles e =
+    walk-more a d e =
         let p = passes b (st .cursor) (st .mask) a d e in
-        let s = passed-small b (st .cursor) (st .mask) a d (rw (k .packed) nibbles) p in
+        let s = walk-pass a d e in
         let g = mask-grows (st .mask) d (p .new) in
         let few = k .few in
         let near = k .near in
@@ -169,9 +178,9 @@ module _ (b : List ℕ) (c : Cursor) (count want : ℕ) (st : State) (i : ℕ) (
           marks = marks-more (st .mask) (k .seen) d (k .marks);
           kept = λ t. let f = or-false (eqb want d) (among want (k .seen)) t in rw (eqb-sym d want, f .0) (k .kept (f .1));
           few = omega arith;
-          low = mask-lt (st .mask) d (k .low) (s .1);
+          low = mask-lt (st .mask) d (k .low) (s .2);
           near = omega arith;
-          packed = k .packed;
+          nibbles = k .nibbles;
           passed = omega arith;
           rest = rw (add-one (i + 1)) (sym (from-fine b (st .cursor) (st .mask) (k .seen) want (st .place) (st .al) (count - (i + 1)) (i + 1) (k .marks) a d e) ∙ (rw left at (k .rest)));
         }

@@ -9,11 +9,13 @@ use Rattle.format.specs.Order.{Refusal, first}
 use Rattle.format.specs.Nibbles.{Attachment, tailNibbles, attachmentsOf}
 use Rattle.format.specs.Report.{attachmentChecks}
 use Rattle.format.specs.Calls.{contentOf}
+use Rattle.format.specs.Whole.{countIn}
 use Rattle.nibble.specs.View.{from}
 use Rattle.nibble.specs.declared.Cursor.{Cursor}
 use Rattle.tail.specs.declared.Tail.{Tail}
 use Rattle.tail.specs.declared.Walked.{Walked}
 use Rattle.tail.specs.declared.Walked.the-variants.{Refused, Ended}
+use Rattle.tail.specs.declared.Counted.{Counted}
 
 -- the place of id i, where the attachments begin at a place; 0 where i does not stand
 unfoldable pub placeOf : ℕ → ℕ → List Attachment → ℕ
@@ -33,3 +35,11 @@ walkedBy none t = Ended t
 unfoldable pub walked : List ℕ → Cursor → ℕ → ℕ → Walked
 walked b c count i =
     walkedBy (first (attachmentChecks count 1 [] (from b c))) (tailAt (c .at) i (attachmentsOf count (from b c)))
+
+abbrev pub countedBy : Option Refusal → ℕ → Counted
+countedBy (some r) n = Counted.Refused (r .number) (r .place)
+countedBy none n = Counted.Ended n
+
+-- the first refusal of a tail's attachments, 1, 5 or 6, or how many there are
+unfoldable pub counted : List ℕ → Counted
+counted ns = countedBy (first (attachmentChecks (countIn ns) 1 [] ns)) (countIn ns)

@@ -1,13 +1,12 @@
-// The attachments behind the card: a walk that checks each, and says where they end and where one id stands.
+// The attachments behind the card: a walk that checks each, and says where they end and where one id stands, or how many there are.
 ghost use mathlib.Core.Path.{_≡_};
 ghost use Prim.Native.Nat.{_+_, _≤_, _<_, _^_};
-ghost use lib.ListN.{length, drop};
-ghost use Rattle.format.specs.Nibbles.{behind, Nibbles};
+ghost use lib.ListN.{length};
+ghost use Rattle.format.specs.Nibbles.{Nibbles};
 ghost use Rattle.format.specs.Report.{bodyValid};
-ghost use Rattle.format.specs.Whole.{countIn};
 ghost use Rattle.nibble.specs.View.{view, part};
 ghost use Rattle.tail.specs.Look.{judgedAt, lookedAt, passedBy};
-ghost use Rattle.tail.specs.Walk.{walked};
+ghost use Rattle.tail.specs.Walk.{walked, counted};
 use nibble::Cursor;
 use nibble::Header;
 
@@ -22,6 +21,14 @@ pub enum Walked {
     // The refusal's number, and the attachment's position from 1.
     Refused(u8, usize),
     Ended(Tail),
+}
+
+// What a walk to a tail's end answers.
+pub enum Counted {
+    // The refusal's number, and the attachment's position from 1.
+    Refused(u8, usize),
+    // How many attachments the tail holds.
+    Ended(usize),
 }
 
 // What a look at one attachment finds.
@@ -146,31 +153,32 @@ pub fn walk(s: &[u8], c: Cursor, count: usize, want: usize) -> Walked
     })
 }
 
-// The place behind the attachment at a place, one nibble a byte, or the end.
-fn next(s: &[u8], at: usize) -> usize
-    requires { ⌜ at < length (now s) ⌝ }
-    ensures { λ r. ⌜ (at < r) × (r ≤ length (now (s .entry))) × (drop r (now (s .entry)) ≡ behind (drop at (now (s .entry)))) ⌝ }
+// Checks the attachments of a tail, one nibble a byte, to its end, and counts them.
+pub fn walk_tail(s: &[u8]) -> Counted
+    requires { ⌜ Nibbles (now s) ⌝ }
+    ensures { λ r. ⌜ r ≡ counted (now (s .entry)) ⌝ }
 {
-    let left = s.len() - at;
-    if left <= 3 {
-        return s.len();
-    }
-    let al = nibble::wide(s[at]) * 16 + nibble::wide(s[at + 1]);
-    if left - 3 <= al {
-        return s.len();
-    }
-    at + 3 + al
-}
-
-// How many attachments stand in a tail, one nibble a byte.
-pub fn count_in(s: &[u8]) -> usize
-    ensures { λ r. ⌜ r ≡ countIn (now (s .entry)) ⌝ }
-{
-    let mut at = 0;
+    let mut st = State {
+        cursor: Cursor {
+            at: 0,
+            packed: false,
+        },
+        mask: 0,
+        place: 0,
+        al: 0,
+    };
     let mut count = 0;
-    while at < s.len() {
-        at = next(s, at);
+    while st.cursor.at < s.len() {
+        let l = look(s, st.cursor, st.mask);
+        match l {
+            Looked::Fault(n) => {
+                return Counted::Refused(n, count + 1);
+            }
+            Looked::Fine(al, id) => {
+                st = passed(st, al, id, 0);
+            }
+        }
         count += 1;
     }
-    count
+    Counted::Ended(count)
 }

@@ -1,33 +1,36 @@
 -- The two round trips, from what unpack and pack leave.
 -- Assumes nothing.
-use Prim.Native.Nat.{ℕ, _+_, _/_, _%_, _^_, _≤_, _<_}
+use Prim.Native.Nat.{ℕ, _^_, _≤_, _<_}
 use native.Mathlib.Omega.{arith}
-use mathlib.Core.Path.{_≡_, refl, sym, ap, _∙_}
-use mathlib.Core.Bool.{Bool, true, false, cond, _||_}
-use mathlib.Core.List.{List, [], _∷_, map}
+use mathlib.Core.Path.{_≡_, refl, sym, ap, ap₂, _∙_}
+use mathlib.Core.Bool.{Bool, true, false, cond, not, _||_}
+use mathlib.Core.List.{List, [], _∷_, _++_, map, append-assoc, append-nil}
 use mathlib.Core.Option.{Option, none, some}
-use lib.ListN.{length, take, drop, replicate, length-append, length-replicate}
+use lib.ListN.{length, take, drop, length-append, take-append-drop, drop-of-length-le}
+use lib.Seq.{length-take-le, take-all}
 use lib.Dec.{ltb}
-use lib.IntN.{ℤ, pos}
-use lib.Seq.{length-take-le}
-use borrow.Author.Tests.{le-ltb, ltb-true, ltb-false}
-use Rattle.format.specs.Order.{Refusal, first}
-use Rattle.format.specs.Observation.{Observation, packing, size}
-use Rattle.format.specs.Report.{Verdict, judge}
-use Rattle.format.specs.Calls.{Answer, over}
-use Rattle.format.specs.Reply.{refusal}
-use Rattle.format.specs.Whole.{Wrote, wroteBy, Unpacked, unpacked, unpackOn, unpackedBy, unpackChecks, unpackGives, unpack, valueOrZero, presence, tail, packObservation, packOrder, pack}
-use Rattle.laws.proofs.Lists.{or-false}
-use Rattle.laws.proofs.Order.{first-fits, first-skip, first-nil}
+use lib.IntN.{ℤ}
+use lib.Signed.{mag}
+use borrow.Author.Tests.{le-ltb, lt-ltb, ltb-false}
 use Rattle.format.specs.Bits.{Bytes}
-use Rattle.laws.proofs.Whole.{pack-outcome, packs, pack-tail, unpack-accepted, pack-unpacked, judge-pack, unpack-after-pack}
-use Rattle.unpack.specs.Answers.{contentsNumbers}
-use Rattle.trips.specs.Trips.{trip, restoredOn, restored, recoveredBy, recovered}
-use Rattle.unpack.specs.declared.Contents.{Contents}
+use Rattle.format.specs.Order.{Refusal, Check, check, first}
+use Rattle.format.specs.Field.{table}
+use Rattle.format.specs.Observation.{Observation, packing, size}
+use Rattle.format.specs.Report.{Verdict, judge, attachmentChecks}
+use Rattle.format.specs.Calls.{Given, Answer, allNibbles, over}
+use Rattle.format.specs.Reply.{refusal}
+use Rattle.format.specs.Whole.{Wrote, wroteBy, Unpacked, unpacked, unpackOn, unpackedBy, unpackChecks, unpackGives, unpack, valueOrZero, presence, tail, bitOutside, packChecks, countIn, packObservation, packOrder, packGives, pack}
+use Rattle.laws.proofs.Lists.{or-false, cond-case}
+use Rattle.laws.proofs.Order.{first-fits, first-skip, first-nil, first-none, first-append-some, first-append-skip, first-append-none}
 use Rattle.laws.proofs.Report.{size-is}
-use Rattle.pack.proofs.Outcomes.{short-out}
+use Rattle.laws.proofs.Whole.{pack-outcome, unpack-accepted, pack-unpacked, unpack-after-pack}
+use Rattle.report.specs.Answers.{judgedOf}
+use Rattle.report.specs.declared.Judged.{Judged}
+use Rattle.unpack.specs.Answers.{contentsNumbers}
+use Rattle.unpack.specs.declared.Contents.{Contents}
+use Rattle.trips.specs.Trips.{trip, restoreChecks, restoredBy, restoredOn, restored, recoverChecks, recoveredBy, recovered, Holds}
 
-refused-accepted : {A : Type 0} (r : Refusal) (gs : List (Option ℤ)) → Answer.refused r ≡ Answer.accepted gs → A
+refused-accepted : {A : Type 0} (r : Refusal) (gs : List Given) → Answer.refused r ≡ Answer.accepted gs → A
 refused-accepted r gs e = let z : _≡_ {A = ℕ} 0 1 = cc in absurd (omega arith)
 
 -- ---- pack after unpack
@@ -53,6 +56,15 @@ pub record Opened (b : List ℕ) (vs us : List ℤ) (ns ts : List ℕ) (c : Cont
   pub rptin : c .rptin ≡ observation .rptin
   pub end : c .tail ≡ length (tail observation)
 
+-- the numbers of an answer that gives counts
+abbrev amount : Option ℤ → ℕ
+amount none = 0
+amount (some z) = mag z
+
+abbrev amounts : Answer → List ℕ
+amounts (Answer.refused r) = []
+amounts (Answer.accepted gs) = map (λ (g : Given). amount (g .number)) gs
+
 module _ (b : List ℕ) (vs us : List ℤ) (ns ts : List ℕ) where
   pub restore-refused : (n p : ℕ) (out : List ℕ) → unpacked (refusal n p) us ts ≡ unpack b vs ns → trip (refusal n p) us ts out ≡ restored b vs ns out
   unfolding unpack restored
@@ -62,7 +74,8 @@ module _ (b : List ℕ) (vs us : List ℤ) (ns ts : List ℕ) where
           → trip (refusal n p) us ts out ≡ restoredOn (Verdict.accepted s) b vs ns out
       inner s true q e =
           let f = e ∙ by-test s vs ns true q in
-          rw q (λ i. trip (f i .answer) (f i .values) (f i .tail) out)
+          (λ i. trip (f i .answer) (f i .values) (f i .tail) out)
+          ∙ ap (λ (o : Option Refusal). restoredBy o s b vs ns out) (sym (first-fits _ _ q))
       inner s false q e = refused-accepted _ _ (ap (λ (u : Unpacked). u .answer) (e ∙ by-test s vs ns false q))
 
       go : (v : Verdict) → unpacked (refusal n p) us ts ≡ unpackOn v vs ns → trip (refusal n p) us ts out ≡ restoredOn v b vs ns out
@@ -72,7 +85,9 @@ module _ (b : List ℕ) (vs us : List ℤ) (ns ts : List ℕ) where
   numbers-word : (c : Contents) (s : Observation) → Answer.accepted (contentsNumbers c) ≡ Answer.accepted (unpackGives s)
       → (c .word ≡ presence s) × (c .rptin ≡ s .rptin) × (c .tail ≡ length (tail s))
   unfolding unpackGives
-  numbers-word c s e = ((cc), (cc), (cc))
+  numbers-word c s e =
+      let f : amounts (Answer.accepted (contentsNumbers c)) ≡ amounts (Answer.accepted (unpackGives s)) = ap amounts e in
+      ((cc), (cc), (cc))
 
   pub opened : (c : Contents) → unpacked (Answer.accepted (contentsNumbers c)) us ts ≡ unpack b vs ns → Opened b vs us ns ts c
   unfolding unpack
@@ -106,22 +121,14 @@ pub opened-within : {b : List ℕ} {vs us : List ℤ} {ns ts : List ℕ} {c : Co
 opened-within {ns = ns} o = omega (arith, o .end, ap length (o .rest), length-append (tail (o .observation)) (drop (length (tail (o .observation))) ns))
 
 -- pack accepts what it accepted
-pack-accepted : (values : List ℤ) (word rptin : ℕ) (ns out : List ℕ) (gs : List (Option ℤ)) (o : List ℕ)
+pack-accepted : (values : List ℤ) (word rptin : ℕ) (ns out : List ℕ) (gs : List Given) (o : List ℕ)
     → pack values word rptin ns out ≡ record { answer = Answer.accepted gs; out = o } → first (packOrder (length out) values word rptin ns) ≡ none
 unfolding pack
 pack-accepted values word rptin ns out gs o e = go (first (packOrder (length out) values word rptin ns)) e
   where
-    go : (q : Option Refusal) → wroteBy q (some (pos (size (packObservation values word rptin ns))) ∷ []) (packing (packObservation values word rptin ns)) out ≡ record { answer = Answer.accepted gs; out = o } → q ≡ none
+    go : (q : Option Refusal) → wroteBy q (packGives (size (packObservation values word rptin ns))) (packing (packObservation values word rptin ns)) out ≡ record { answer = Answer.accepted gs; out = o } → q ≡ none
     go none e = refl
     go (some r) e = refused-accepted _ _ (ap (λ (w : Wrote). w .answer) e)
-
--- with an output that is too short
-pack-short : (values : List ℤ) (word rptin : ℕ) (ns out more : List ℕ) → first (packOrder (length more) values word rptin ns) ≡ none
-    → length out < (75 + length ns) / 2 + (75 + length ns) % 2 → record { answer = refusal 13 0; out = out } ≡ pack values word rptin ns out
-pack-short values word rptin ns out more e h =
-    let k = packs (length more) values word rptin ns e in
-    short-out values word rptin ns out
-    (record { passed = record { long = k .long; inside = k .inside; fields = k .fields }; nibbles = k .nibbles; attachments = k .attachments }) h
 
 module _ (b : List ℕ) (bs : Bytes b) (vs us : List ℤ) (ns ts : List ℕ) (c : Contents) (o : Opened b vs us ns ts c) where
   same-pack : (out : List ℕ)
@@ -135,79 +142,168 @@ module _ (b : List ℕ) (bs : Bytes b) (vs us : List ℤ) (ns ts : List ℕ) (c 
 
   pack-back : (out : List ℕ) → size (o .observation) ≤ length out
       → pack us (c .word) (c .rptin) (take (c .tail) ts) out
-      ≡ record { answer = Answer.accepted (some (pos (size (o .observation))) ∷ []); out = over (take (size (o .observation)) b) out }
+      ≡ record { answer = Answer.accepted (packGives (size (o .observation))); out = over (take (size (o .observation)) b) out }
   pack-back out h = same-pack out ∙ pack-unpacked b (o .observation) vs ns out bs (o .verdict) (o .long) (o .wide) h
 
-  pack-no-room : (out : List ℕ) → length out < size (o .observation)
-      → record { answer = refusal 13 0; out = out } ≡ pack us (c .word) (c .rptin) (take (c .tail) ts) out
-  pack-no-room out h =
-      let more : List ℕ = replicate (size (o .observation)) 0 in
-      let l : length (take (c .tail) ts) ≡ length (tail (o .observation)) = length-take-le (c .tail) ts (opened-within o) ∙ o .end in
-      pack-short us (c .word) (c .rptin) (take (c .tail) ts) out more
-      (pack-accepted us (c .word) (c .rptin) (take (c .tail) ts) more _ _ (pack-back more (omega (arith, length-replicate {A = ℕ} (size (o .observation)) 0))))
-      (omega (arith, size-is (o .observation), l))
-
-  restored-is : (out : List ℕ) (t : Bool) → ltb (length out) (size (o .observation)) ≡ t
-      → cond t (trip (refusal 13 0) (over (map valueOrZero (o .observation .values)) vs) (over (tail (o .observation)) ns) out)
-      (trip (Answer.accepted (some (pos (size (o .observation))) ∷ [])) (over (map valueOrZero (o .observation .values)) vs) (over (tail (o .observation)) ns) (over (take (size (o .observation)) b) out))
-      ≡ restored b vs ns out
-  unfolding restored
-  restored-is out t e = rw (o .verdict, le-ltb (length vs) 46 (o .long), le-ltb (length ns) (length (tail (o .observation))) (o .wide), e)
-
-  pub restore-packed : (a : Answer) (out after : List ℕ) → record { answer = a; out = after } ≡ pack us (c .word) (c .rptin) (take (c .tail) ts) out
+  pub restore-packed : (a : Answer) (out after : List ℕ) → Holds out b → record { answer = a; out = after } ≡ pack us (c .word) (c .rptin) (take (c .tail) ts) out
       → trip a us ts after ≡ restored b vs ns out
-  restore-packed a out after e = go (ltb (length out) (size (o .observation))) refl
+  unfolding restored
+  restore-packed a out after holds e =
+      let x = o .observation in
+      let h = holds x (o .verdict) in
+      let short : tooShort x vs ns ≡ false = rw (le-ltb (length vs) 46 (o .long), le-ltb (length ns) (length (tail x)) (o .wide)) in
+      let passed : first (restoreChecks x vs ns out) ≡ none = first-skip _ _ short ∙ first-skip _ _ (le-ltb (length out) (size x) h) ∙ first-nil in
+      let f = e ∙ pack-back out h in
+      (λ i. trip (f i .answer) (o .values i) (o .rest i) (f i .out))
+      ∙ ap (λ (q : Option Refusal). restoredBy q x b vs ns out) (sym passed)
+      ∙ ap (λ (v : Verdict). restoredOn v b vs ns out) (sym (o .verdict))
+
+-- the report is refused; the output is too short for it; it holds it
+module _ (b : List ℕ) (j : Judged) (is : j ≡ judgedOf (judge b)) where
+  pub report-refused : (n p : ℕ) (vs : List ℤ) (ns out : List ℕ) → j ≡ Judged.Refused n p → trip (refusal n p) vs ns out ≡ restored b vs ns out
+  unfolding restored
+  report-refused n p vs ns out e = go (judge b) (sym e ∙ is)
     where
-      go : (t : Bool) → ltb (length out) (size (o .observation)) ≡ t → trip a us ts after ≡ restored b vs ns out
-      go true q =
-          let f = e ∙ sym (pack-no-room out (ltb-true (length out) (size (o .observation)) q)) in
-          (λ i. trip (f i .answer) (o .values i) (o .rest i) (f i .out)) ∙ restored-is out true q
-      go false q =
-          let f = e ∙ pack-back out (ltb-false (length out) (size (o .observation)) q) in
-          (λ i. trip (f i .answer) (o .values i) (o .rest i) (f i .out)) ∙ restored-is out false q
+      go : (v : Verdict) → Judged.Refused n p ≡ judgedOf v → trip (refusal n p) vs ns out ≡ restoredOn v b vs ns out
+      go (Verdict.refused r) q =
+          let x : n ≡ r .number = cc in
+          let y : p ≡ r .place = cc in
+          ap₂ (λ (k m : ℕ). trip (refusal k m) vs ns out) x y
+      go (Verdict.accepted s) q = let z : _≡_ {A = ℕ} 0 1 = cc in absurd (omega arith)
+
+  pub report-no-room : (n : ℕ) (vs : List ℤ) (ns out : List ℕ) → j ≡ Judged.Accepted n → length out < n → trip (refusal 13 0) vs ns out ≡ restored b vs ns out
+  unfolding restored
+  report-no-room n vs ns out e h = go (judge b) (sym e ∙ is)
+    where
+      short : (s : Observation) → length out < size s → (t : Bool) → tooShort s vs ns ≡ t → first (restoreChecks s vs ns out) ≡ some (record { number = 13; place = 0 })
+      short s l true q = first-fits _ _ q
+      short s l false q = first-skip _ _ q ∙ first-fits _ _ (lt-ltb (length out) (size s) l)
+
+      go : (v : Verdict) → Judged.Accepted n ≡ judgedOf v → trip (refusal 13 0) vs ns out ≡ restoredOn v b vs ns out
+      go (Verdict.refused r) q = let z : _≡_ {A = ℕ} 0 1 = cc in absurd (omega arith)
+      go (Verdict.accepted s) q =
+          let x : n ≡ size s = cc in
+          ap (λ (o : Option Refusal). restoredBy o s b vs ns out) (sym (short s (omega arith) (tooShort s vs ns) refl))
+
+  pub report-holds : (n : ℕ) (out : List ℕ) → j ≡ Judged.Accepted n → n ≤ length out → Holds out b
+  report-holds n out e h s v =
+      let q : Judged.Accepted n ≡ Judged.Accepted (size s) = sym e ∙ is ∙ ap judgedOf v in
+      let x : n ≡ size s = cc in
+      omega arith
 
 -- ---- unpack after pack
 
 module _ (values : List ℤ) (word rptin : ℕ) (ns out : List ℕ) (vs : List ℤ) (ts : List ℕ) where
-  pub recover-refused : (n p : ℕ) (o : List ℕ) → record { answer = refusal n p; out = o } ≡ pack values word rptin ns out
-      → trip (refusal n p) vs ts o ≡ recovered values word rptin ns out vs ts
-  unfolding pack recovered
-  recover-refused n p o = go (first (packOrder (length out) values word rptin ns))
+  abbrev packed : Observation
+  packed = packObservation values word rptin ns
+
+  -- the test that refuses the outputs of unpack, and how much of its output pack is lent
+  abbrev tooLittle : Bool
+  tooLittle = ltb (length vs) 46 || ltb (length ts) (length ns)
+
+  abbrev lent : ℕ
+  lent = cond tooLittle 0 (length out)
+
+  -- pack's checks, the last of which is that of its output
+  abbrev front : List Check
+  front =
+      check (ltb (length values) 46) 13 0
+      ∷ check (bitOutside word) 8 0
+      ∷ (packChecks 1 table word values ++ (check (not (allNibbles ns)) 14 0 ∷ attachmentChecks (countIn ns) 1 [] ns))
+
+  order-split : (n : ℕ) → packOrder n values word rptin ns ≡ front ++ (check (ltb n (size packed)) 13 0 ∷ [])
+  unfolding packOrder
+  order-split n =
+      ap (λ (l : List Check). check (ltb (length values) 46) 13 0 ∷ check (bitOutside word) 8 0 ∷ l)
+      (sym (append-assoc (packChecks 1 table word values) (check (not (allNibbles ns)) 14 0 ∷ attachmentChecks (countIn ns) 1 [] ns) _))
+
+  -- the trip's first refusal is pack's on what it is lent
+  lent-order : first (recoverChecks values word rptin ns out vs ts) ≡ first (packOrder lent values word rptin ns)
+  unfolding first
+  lent-order = go tooLittle refl
     where
-      go : (q : Option Refusal) → record { answer = refusal n p; out = o } ≡ wroteBy q (some (pos (size (packObservation values word rptin ns))) ∷ []) (packing (packObservation values word rptin ns)) out
-          → trip (refusal n p) vs ts o ≡ recoveredBy q values word rptin ns out vs ts
-      go (some r) e = λ i. trip (e i .answer) vs ts (e i .out)
-      go none e = refused-accepted _ _ (ap (λ (w : Wrote). w .answer) e)
+      thirteen : Option Refusal
+      thirteen = some (record { number = 13; place = 0 })
 
-  module _ (r : rptin < 2 ^ 16) (q : first (packOrder (length out) values word rptin ns) ≡ none) where
-    no-room : ltb (length vs) 46 || ltb (length ts) (length ns) ≡ true → unpack (pack values word rptin ns out .out) vs ts ≡ unpacked (refusal 13 0) vs ts
-    unfolding unpack
-    no-room t =
-        ap (λ (v : Verdict). unpackOn v vs ts) (judge-pack values word rptin ns out r q)
-        ∙ by-test (packObservation values word rptin ns) vs ts true (rw (pack-tail (length out) values word rptin ns q) t)
+      -- 13 of pack's output, or the one behind it
+      either : (t : Bool) → first (check t 13 0 ∷ check true 13 0 ∷ []) ≡ thirteen
+      either true = refl
+      either false = refl
 
-    pub recover-written : (o : List ℕ) (a : Answer) (us : List ℤ) (qs : List ℕ) → o ≡ pack values word rptin ns out .out
-        → unpacked a us qs ≡ unpack o vs ts → trip a us qs o ≡ recovered values word rptin ns out vs ts
-    unfolding recovered
-    recover-written o a us qs oi e =
-        go (ltb (length vs) 46 || ltb (length ts) (length ns)) refl
-        ∙ ap (λ (x : Option Refusal). recoveredBy x values word rptin ns out vs ts) (sym q)
+      nothing-lent : (o : Option Refusal) → first front ≡ o → (t : Bool)
+          → first (front ++ (check t 13 0 ∷ check true 13 0 ∷ [])) ≡ first (front ++ (check (ltb 0 (size packed)) 13 0 ∷ []))
+      nothing-lent (some r) q t = first-append-some front (check t 13 0 ∷ check true 13 0 ∷ []) r q ∙ sym (first-append-some front (check (ltb 0 (size packed)) 13 0 ∷ []) r q)
+      nothing-lent none q t =
+          first-append-skip front (check t 13 0 ∷ check true 13 0 ∷ []) q
+          ∙ either t
+          ∙ sym (first-append-skip front (check (ltb 0 (size packed)) 13 0 ∷ []) q ∙ first-fits (check (ltb 0 (size packed)) 13 0) [] (lt-ltb 0 (size packed) (omega (arith, size-is packed))))
+
+      all-lent : (o : Option Refusal) → first (packOrder (length out) values word rptin ns) ≡ o
+          → first (packOrder (length out) values word rptin ns ++ (check false 13 0 ∷ [])) ≡ o
+      all-lent (some r) q = first-append-some (packOrder (length out) values word rptin ns) (check false 13 0 ∷ []) r q
+      all-lent none q = first-append-skip (packOrder (length out) values word rptin ns) (check false 13 0 ∷ []) q ∙ first-skip (check false 13 0) [] refl ∙ first-nil
+
+      go : (t : Bool) → tooLittle ≡ t
+          → first (packOrder (length out) values word rptin ns ++ (check t 13 0 ∷ [])) ≡ first (packOrder (cond t 0 (length out)) values word rptin ns)
+      go true q =
+          ap (λ (l : List Check). first (l ++ (check true 13 0 ∷ []))) (order-split (length out))
+          ∙ ap first (append-assoc front (check (ltb (length out) (size packed)) 13 0 ∷ []) (check true 13 0 ∷ []))
+          ∙ nothing-lent (first front) refl (ltb (length out) (size packed))
+          ∙ ap first (sym (order-split 0))
+      go false q = all-lent _ refl
+
+  module _ (n : ℕ) (is : n ≡ lent) where
+    pub lent-within : n ≤ length out
+    lent-within = rw is (cond-case (λ (m : ℕ). m ≤ length out) tooLittle 0 (length out) (λ e. omega arith) (λ e. omega arith))
+
+    lent-first : first (packOrder (length (take n out)) values word rptin ns) ≡ first (recoverChecks values word rptin ns out vs ts)
+    lent-first =
+        ap (λ (m : ℕ). first (packOrder m values word rptin ns)) (length-take-le n out lent-within ∙ is) ∙ sym lent-order
+
+    pub recover-refused : (number place : ℕ) (o : List ℕ) → record { answer = refusal number place; out = o } ≡ pack values word rptin ns (take n out)
+        → trip (refusal number place) vs ts (o ++ drop n out) ≡ recovered values word rptin ns out vs ts
+    unfolding pack recovered
+    recover-refused number place o e = go (first (packOrder (length (take n out)) values word rptin ns)) refl e
       where
-        f : unpacked a us qs ≡ unpack (pack values word rptin ns out .out) vs ts
-        f = e ∙ ap (λ (x : List ℕ). unpack x vs ts) oi
+        go : (q : Option Refusal) → first (packOrder (length (take n out)) values word rptin ns) ≡ q
+            → record { answer = refusal number place; out = o } ≡ wroteBy q (packGives (size packed)) (packing packed) (take n out)
+            → trip (refusal number place) vs ts (o ++ drop n out) ≡ recoveredBy (first (recoverChecks values word rptin ns out vs ts)) values word rptin ns out vs ts
+        go (some r) q e =
+            (λ i. trip (e i .answer) vs ts (e i .out ++ drop n out))
+            ∙ ap (λ (x : List ℕ). trip (Answer.refused r) vs ts x) (take-append-drop n out)
+            ∙ ap (λ (x : Option Refusal). recoveredBy x values word rptin ns out vs ts) (sym q ∙ lent-first)
+        go none q e = refused-accepted _ _ (ap (λ (w : Wrote). w .answer) e)
 
-        report : o ≡ over (packing (packObservation values word rptin ns)) out
-        report = oi ∙ ap (λ (w : Wrote). w .out) (sym (pack-outcome values word rptin ns out none q))
+    module _ (gs : List Given) (o : List ℕ) (e : record { answer = Answer.accepted gs; out = o } ≡ pack values word rptin ns (take n out)) where
+      -- no check fits, so that all of the output was lent
+      passed : first (recoverChecks values word rptin ns out vs ts) ≡ none
+      passed = sym lent-first ∙ pack-accepted values word rptin ns (take n out) gs o (sym e)
 
-        go : (t : Bool) → ltb (length vs) 46 || ltb (length ts) (length ns) ≡ t → trip a us qs o ≡ recoveredBy none values word rptin ns out vs ts
-        go true t =
-            let g = f ∙ no-room t in
-            rw t (λ i. trip (g i .answer) (g i .values) (g i .tail) (report i))
-        go false t =
-            let h = or-false _ _ t in
-            let g = f ∙ unpack-after-pack values word rptin ns out r q vs ts (ltb-false (length vs) 46 (h .0)) (ltb-false (length ts) (length ns) (h .1)) in
-            rw t (λ i. trip (g i .answer) (g i .values) (g i .tail) (report i))
+      order-passed : first (packOrder (length out) values word rptin ns) ≡ none
+      order-passed = first-append-none _ _ passed .0
 
-  pub recover-accepted : (gs : List (Option ℤ)) (o : List ℕ) → record { answer = Answer.accepted gs; out = o } ≡ pack values word rptin ns out
-      → first (packOrder (length out) values word rptin ns) ≡ none
-  recover-accepted gs o e = pack-accepted values word rptin ns out gs o (sym e)
+      enough : tooLittle ≡ false
+      enough = first-none _ [] (first-append-none (packOrder (length out) values word rptin ns) _ passed .1) .0
+
+      all : n ≡ length out
+      all = is ∙ ap (λ (t : Bool). cond t 0 (length out)) enough
+
+      written : o ++ drop n out ≡ pack values word rptin ns out .out
+      written =
+          ap₂ (λ (x y : List ℕ). x ++ y)
+          (ap (λ (w : Wrote). w .out) e ∙ ap (λ (x : List ℕ). pack values word rptin ns x .out) (take-all n out (omega (arith, all))))
+          (drop-of-length-le out {i = n} (omega (arith, all)))
+          ∙ append-nil _
+
+      pub recover-written : (r : rptin < 2 ^ 16) (a : Answer) (us : List ℤ) (qs : List ℕ)
+          → unpacked a us qs ≡ unpack (o ++ drop n out) vs ts → trip a us qs (o ++ drop n out) ≡ recovered values word rptin ns out vs ts
+      unfolding recovered
+      recover-written r a us qs u =
+          let h = or-false _ _ enough in
+          let f =
+          u ∙ ap (λ (x : List ℕ). unpack x vs ts) written
+          ∙ unpack-after-pack values word rptin ns out r order-passed vs ts (ltb-false (length vs) 46 (h .0)) (ltb-false (length ts) (length ns) (h .1)) in
+          let report : o ++ drop n out ≡ over (packing packed) out =
+          written ∙ ap (λ (w : Wrote). w .out) (sym (pack-outcome values word rptin ns out none order-passed)) in
+          (λ i. trip (f i .answer) (f i .values) (f i .tail) (report i))
+          ∙ ap (λ (x : Option Refusal). recoveredBy x values word rptin ns out vs ts) (sym passed)

@@ -2,6 +2,7 @@
 use format::Scaled;
 use fresh::Started;
 use pack::Packed;
+use report::Compared;
 use report::Judged;
 use unpack::Unpacked;
 use vector_io::Kind;
@@ -19,6 +20,32 @@ fn judge_one() {
     let mut s = [0u8; 2000];
     let n = vector_io::get_length(2000);
     judge_in(&mut s[..n]);
+}
+
+fn put_compared(r: Compared) {
+    match r {
+        Compared::Refused(number, place) => vector_io::put_refused(number, place),
+        Compared::Same => vector_io::put_head(2, 0, 1),
+        Compared::Different => vector_io::put_head(2, 0, 0),
+    }
+}
+
+fn same_second(a: &[u8], b: &mut [u8]) {
+    vector_io::get_bytes(b);
+    put_compared(report::same(a, b));
+}
+
+fn same_first(a: &mut [u8]) {
+    vector_io::get_bytes(a);
+    let mut b = [0u8; 2000];
+    let n = vector_io::get_length(2000);
+    same_second(a, &mut b[..n]);
+}
+
+fn same_one() {
+    let mut a = [0u8; 2000];
+    let n = vector_io::get_length(2000);
+    same_first(&mut a[..n]);
 }
 
 fn list_in(s: &mut [u8]) {
@@ -89,33 +116,6 @@ fn put_unpacked(r: Unpacked) {
     }
 }
 
-fn unpack_tail(s: &[u8], values: &mut [i64], tail: &mut [u8]) {
-    vector_io::get_bytes(tail);
-    put_unpacked(unpack::unpack(s, values, tail));
-    put_values(values);
-    vector_io::put_bytes(tail);
-}
-
-fn unpack_values(s: &[u8], values: &mut [i64]) {
-    get_values(values);
-    let mut tail = [0u8; 4200];
-    let n = vector_io::get_length(4200);
-    unpack_tail(s, values, &mut tail[..n]);
-}
-
-fn unpack_in(s: &mut [u8]) {
-    vector_io::get_bytes(s);
-    let mut values = [0i64; 60];
-    let n = vector_io::get_length(60);
-    unpack_values(s, &mut values[..n]);
-}
-
-fn unpack_one() {
-    let mut s = [0u8; 2000];
-    let n = vector_io::get_length(2000);
-    unpack_in(&mut s[..n]);
-}
-
 fn put_packed(r: Packed) {
     match r {
         Packed::Refused(number, place) => vector_io::put_refused(number, place),
@@ -123,32 +123,129 @@ fn put_packed(r: Packed) {
     }
 }
 
-fn pack_out(values: &[i64], word: u64, rptin: u16, tail: &[u8], out: &mut [u8]) {
+fn put_lent(values: &[i64], tail: &[u8], out: &[u8]) {
+    put_values(values);
+    vector_io::put_bytes(tail);
+    vector_io::put_bytes(out);
+}
+
+fn restore_out(s: &[u8], values: &mut [i64], tail: &mut [u8], out: &mut [u8]) {
     vector_io::get_bytes(out);
+    put_packed(trips::restore(s, values, tail, out));
+    put_lent(values, tail, out);
+}
+
+fn restore_tail(s: &[u8], values: &mut [i64], tail: &mut [u8]) {
+    let mut out = [0u8; 2000];
+    let n = vector_io::get_length(2000);
+    restore_out(s, values, tail, &mut out[..n]);
+}
+
+fn unpack_tail(s: &[u8], values: &mut [i64], tail: &mut [u8], trip: bool) {
+    vector_io::get_bytes(tail);
+    if trip {
+        restore_tail(s, values, tail);
+        return;
+    }
+    put_unpacked(unpack::unpack(s, values, tail));
+    put_values(values);
+    vector_io::put_bytes(tail);
+}
+
+fn unpack_values(s: &[u8], values: &mut [i64], trip: bool) {
+    get_values(values);
+    let mut tail = [0u8; 4200];
+    let n = vector_io::get_length(4200);
+    unpack_tail(s, values, &mut tail[..n], trip);
+}
+
+fn unpack_in(s: &mut [u8], trip: bool) {
+    vector_io::get_bytes(s);
+    let mut values = [0i64; 60];
+    let n = vector_io::get_length(60);
+    unpack_values(s, &mut values[..n], trip);
+}
+
+// A report unpacked; with trip, packed again.
+fn unpack_one(trip: bool) {
+    let mut s = [0u8; 2000];
+    let n = vector_io::get_length(2000);
+    unpack_in(&mut s[..n], trip);
+}
+
+fn recover_tail(
+    values: &[i64],
+    word: u64,
+    rptin: u16,
+    tail: &[u8],
+    out: &mut [u8],
+    values_out: &mut [i64],
+    tail_out: &mut [u8],
+) {
+    vector_io::get_bytes(tail_out);
+    put_unpacked(trips::recover(values, word, rptin, tail, out, values_out, tail_out));
+    put_lent(values_out, tail_out, out);
+}
+
+fn recover_values(
+    values: &[i64],
+    word: u64,
+    rptin: u16,
+    tail: &[u8],
+    out: &mut [u8],
+    values_out: &mut [i64],
+) {
+    get_values(values_out);
+    let mut tail_out = [0u8; 4200];
+    let n = vector_io::get_length(4200);
+    recover_tail(
+        values,
+        word,
+        rptin,
+        tail,
+        out,
+        values_out,
+        &mut tail_out[..n],
+    );
+}
+
+fn recover_out(values: &[i64], word: u64, rptin: u16, tail: &[u8], out: &mut [u8]) {
+    let mut values_out = [0i64; 60];
+    let n = vector_io::get_length(60);
+    recover_values(values, word, rptin, tail, out, &mut values_out[..n]);
+}
+
+fn pack_out(values: &[i64], word: u64, rptin: u16, tail: &[u8], out: &mut [u8], trip: bool) {
+    vector_io::get_bytes(out);
+    if trip {
+        recover_out(values, word, rptin, tail, out);
+        return;
+    }
     put_packed(pack::pack(values, word, rptin, tail, out));
     vector_io::put_bytes(out);
 }
 
-fn pack_tail(values: &[i64], word: u64, rptin: u16, tail: &mut [u8]) {
+fn pack_tail(values: &[i64], word: u64, rptin: u16, tail: &mut [u8], trip: bool) {
     vector_io::get_bytes(tail);
     let mut out = [0u8; 2000];
     let n = vector_io::get_length(2000);
-    pack_out(values, word, rptin, tail, &mut out[..n]);
+    pack_out(values, word, rptin, tail, &mut out[..n], trip);
 }
 
-fn pack_in(values: &mut [i64]) {
+fn pack_in(values: &mut [i64], trip: bool) {
     get_values(values);
     let word = vector_io::get8();
     let rptin = (vector_io::get2() % 65536) as u16;
     let mut tail = [0u8; 4200];
     let n = vector_io::get_length(4200);
-    pack_tail(values, word, rptin, &mut tail[..n]);
+    pack_tail(values, word, rptin, &mut tail[..n], trip);
 }
 
-fn pack_one() {
+// Values packed; with trip, unpacked again.
+fn pack_one(trip: bool) {
     let mut values = [0i64; 60];
     let n = vector_io::get_length(60);
-    pack_in(&mut values[..n]);
+    pack_in(&mut values[..n], trip);
 }
 
 // One vector; false at the end of the input.
@@ -161,8 +258,11 @@ fn one() -> bool {
         1 => judge_one(),
         2 => list_one(),
         3 => fresh_one(),
-        4 => unpack_one(),
-        5 => pack_one(),
+        4 => unpack_one(false),
+        5 => pack_one(false),
+        6 => same_one(),
+        7 => unpack_one(true),
+        8 => pack_one(true),
         _ => return false,
     }
     true

@@ -10,8 +10,9 @@ pub mod reports;
 use crate::call::{Answer, Call};
 use crate::judge::{Report, judge};
 use crate::lister;
-use crate::outside::{Unpacked, fresh, pack, unpack};
+use crate::outside::{Unpacked, fresh, pack, same, unpack};
 use crate::refusal::Refusal;
+use crate::trips::{recover, restore};
 
 /// One case, with every buffer as the call gets it.
 #[derive(Clone, Debug, PartialEq, Eq)]
@@ -38,6 +39,25 @@ pub enum Case {
         tail: Vec<u8>,
         output: Vec<u8>,
     },
+    Same {
+        first: Vec<u8>,
+        second: Vec<u8>,
+    },
+    Restore {
+        report: Vec<u8>,
+        values: Vec<i64>,
+        tail: Vec<u8>,
+        output: Vec<u8>,
+    },
+    Recover {
+        values: Vec<i64>,
+        word: u64,
+        rptin: u16,
+        tail: Vec<u8>,
+        output: Vec<u8>,
+        values_out: Vec<i64>,
+        tail_out: Vec<u8>,
+    },
     /// A list of calls on one buffer.
     Calls {
         buffer: Vec<u8>,
@@ -62,6 +82,19 @@ pub enum Outcome {
     Pack {
         result: Result<usize, Refusal>,
         output: Vec<u8>,
+    },
+    Same(Result<bool, Refusal>),
+    Restore {
+        result: Result<usize, Refusal>,
+        values: Vec<i64>,
+        tail: Vec<u8>,
+        output: Vec<u8>,
+    },
+    Recover {
+        result: Result<Unpacked, Refusal>,
+        output: Vec<u8>,
+        values_out: Vec<i64>,
+        tail_out: Vec<u8>,
     },
     /// For each call its answer and the buffer after it.
     Calls(Vec<(Answer, Vec<u8>)>),
@@ -100,6 +133,50 @@ impl Case {
                 let mut output = output.clone();
                 let result = pack(values, *word, *rptin, tail, &mut output);
                 Outcome::Pack { result, output }
+            }
+            Case::Same { first, second } => Outcome::Same(same(first, second)),
+            Case::Restore {
+                report,
+                values,
+                tail,
+                output,
+            } => {
+                let (mut values, mut tail) = (values.clone(), tail.clone());
+                let mut output = output.clone();
+                let result = restore(report, &mut values, &mut tail, &mut output);
+                Outcome::Restore {
+                    result,
+                    values,
+                    tail,
+                    output,
+                }
+            }
+            Case::Recover {
+                values,
+                word,
+                rptin,
+                tail,
+                output,
+                values_out,
+                tail_out,
+            } => {
+                let mut output = output.clone();
+                let (mut values_out, mut tail_out) = (values_out.clone(), tail_out.clone());
+                let result = recover(
+                    values,
+                    *word,
+                    *rptin,
+                    tail,
+                    &mut output,
+                    &mut values_out,
+                    &mut tail_out,
+                );
+                Outcome::Recover {
+                    result,
+                    output,
+                    values_out,
+                    tail_out,
+                }
             }
             Case::Calls { buffer, calls } => {
                 let mut buffer = buffer.clone();

@@ -3,6 +3,7 @@
 use super::Case;
 use super::material::*;
 use crate::flags;
+use crate::judge::judge;
 use crate::observation::Observation;
 use crate::table::{REQUIRED, Scaled, fields};
 use crate::text;
@@ -93,6 +94,22 @@ pub fn damaged() -> Vec<Vec<u8>> {
     reports.extend(bad_last_nibbles());
     reports.extend([22, 23, 255].map(beyond_the_lister));
     reports
+}
+
+/// Of each refusal, ascending, the first of the damaged reports under 100 bytes
+/// and one amid them.
+pub fn two_of_each_refusal() -> Vec<Vec<u8>> {
+    let mut damaged = damaged();
+    damaged.retain(|report| report.len() < 100);
+    let mut chosen = Vec::new();
+    for number in 1..=7 {
+        let refused: Vec<&Vec<u8>> = damaged
+            .iter()
+            .filter(|report| judge(report).is_err_and(|refusal| refusal.number == number))
+            .collect();
+        chosen.extend([refused[0].clone(), refused[refused.len() / 2].clone()]);
+    }
+    chosen
 }
 
 fn short() -> Vec<Vec<u8>> {

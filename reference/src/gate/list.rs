@@ -8,6 +8,9 @@ pub const MOST_BUFFER: usize = 2000;
 pub const MOST_SCRIPT: usize = 60_000;
 pub const MOST_LOG: usize = 60_000;
 
+/// Every byte of the log before the list.
+pub const UNWRITTEN: u8 = 165;
+
 #[derive(Clone, Debug, PartialEq, Eq)]
 pub struct List {
     pub buffer: Vec<u8>,
@@ -49,17 +52,20 @@ impl List {
         let ran = run(&mut buffer, &self.script, self.room);
         (buffer, ran)
     }
-}
 
-/// Calls performed, script bytes taken, log bytes written, buffer and log.
-pub fn answer(after: &[u8], ran: &Ran) -> Vec<u8> {
-    let mut bytes = Vec::new();
-    for number in [ran.calls.len(), ran.taken, ran.log.len()] {
-        bytes.extend(count(number));
+    /// Calls performed, script bytes taken, log bytes written, the buffer and the
+    /// whole log.
+    pub fn answer(&self, after: &[u8], ran: &Ran) -> Vec<u8> {
+        let mut bytes = Vec::new();
+        for number in [ran.calls.len(), ran.taken, ran.log.len()] {
+            bytes.extend(count(number));
+        }
+        bytes.extend(after);
+        let mut log = ran.log.clone();
+        log.resize(self.room, UNWRITTEN);
+        bytes.extend(log);
+        bytes
     }
-    bytes.extend(after);
-    bytes.extend(&ran.log);
-    bytes
 }
 
 fn count(count: usize) -> [u8; 4] {

@@ -1,5 +1,7 @@
 //! Lists of calls in script form.
 
+use std::collections::BTreeSet;
+
 use crate::attachment::Attachment;
 use crate::call::Call;
 use crate::cases::Case;
@@ -8,8 +10,9 @@ use crate::cases::material::*;
 use crate::cases::outside::edge_values;
 use crate::cases::random::random_call;
 use crate::cases::{pairs, reports};
-use crate::gate::list::List;
-use crate::gate::script::{entry, record_size, script};
+use crate::gate::head::HEAD;
+use crate::gate::list::{List, MOST_LOG};
+use crate::gate::script::{entry, record_size, run, script};
 use crate::gate::sizes::{LONGEST_TAIL, observation_of_tail};
 use crate::judge::judge;
 use crate::observation::Observation;
@@ -35,9 +38,17 @@ pub fn lists(seed: u64) -> Vec<List> {
     lists.extend(growing_lists(&mut prng));
     lists.extend(fitting_lists(&mut prng));
     lists.extend(drawn_lists(&mut prng));
+    lengthen_logs(&mut lists);
     lists.extend(ended_lists());
     lists.extend(refused_lists());
     lists
+}
+
+/// Leaves 1 to 40 bytes of the log behind the records of every second list.
+fn lengthen_logs(lists: &mut [List]) {
+    for (index, list) in lists.iter_mut().step_by(2).enumerate() {
+        list.room += 1 + index % 40;
+    }
 }
 
 /// A report in a buffer with some bytes after it.
@@ -441,12 +452,14 @@ fn one_of_each() -> Vec<Call> {
     ]
 }
 
-/// A list of raw script bytes, with room for many records.
-fn raw(script: Vec<u8>) -> List {
+/// A list of raw script bytes, with so much room left in the log where it ends.
+fn raw(script: Vec<u8>, left: usize) -> List {
+    let buffer = held_buffer();
+    let written = run(&mut buffer.clone(), &script, MOST_LOG).log.len();
     List {
-        buffer: held_buffer(),
+        buffer,
         script,
-        room: 1000,
+        room: written + left,
     }
 }
 
@@ -457,15 +470,15 @@ fn cut_off_lists() -> Vec<List> {
         Call::SetField { field: 4, value: 9 },
         Call::SetFlag { flag: 3, value: 7 },
     ]);
-    let mut lists = vec![raw(Vec::new())];
+    let mut lists = vec![raw(Vec::new(), 40)];
     for call in one_of_each() {
         let whole = entry(&call);
         for length in [1, 8, 9, 16, 17, whole.len() - 1] {
             if length < whole.len() {
-                lists.push(raw([&before[..], &whole[..length]].concat()));
+                lists.push(raw([&before[..], &whole[..length]].concat(), 40));
             }
         }
-        lists.push(raw(whole[..whole.len() - 1].to_vec()));
+        lists.push(raw(whole[..whole.len() - 1].to_vec(), 40));
     }
     lists
 }
@@ -488,7 +501,7 @@ fn wide_count_lists() -> Vec<List> {
         ] {
             let mut wide = whole.clone();
             wide[numbers - 8..numbers].copy_from_slice(&u64::to_be_bytes(count));
-            lists.push(raw([before.clone(), wide].concat()));
+            lists.push(raw([before.clone(), wide].concat(), 300));
         }
     }
     lists
@@ -499,33 +512,37 @@ fn unknown_kind_lists() -> Vec<List> {
     let calls = script(&one_of_each());
     let mut lists = Vec::new();
     for kind in [0, 12, 13, 128, 255] {
-        lists.push(raw([&[kind][..], &calls].concat()));
-        lists.push(raw([&calls[..], &[kind], &calls].concat()));
+        lists.push(raw([&[kind][..], &calls].concat(), 40));
+        lists.push(raw([&calls[..], &[kind], &calls].concat(), 40));
     }
     lists
 }
 
-/// Logs without room for the last record or for all of its output.
+/// Logs without room for the last record, and with room for its head but not for
+/// all of its output.
 fn short_log_lists() -> Vec<List> {
     let mut lists = Vec::new();
     let calls = one_of_each();
-    for count in 1..=calls.len() {
-        let given = &calls[..count];
-        let needed: usize = given.iter().map(record_size).sum();
-        for room in [needed - 1, needed] {
+    let mut written = 0;
+    for call in &calls {
+        let needed = written + record_size(call);
+        for room in BTreeSet::from([written + HEAD, needed - 1, needed]) {
             lists.push(List {
                 room,
                 ..List::of(held_buffer(), &calls)
             });
         }
+        written = needed;
     }
     // A shorter record behind the one that does not fit is not written either.
     let long_first = [fetch(4, 60), Call::ReadField { field: 1 }];
-    for room in [0, 9, 10, 11, 69, 70, 79, 80, 81] {
-        lists.push(List {
-            room,
-            ..List::of(held_buffer(), &long_first)
-        });
+    for room in [0, 9, 10, 11, 40, 69, 70, 79, 80, 81] {
+        for buffer in [held_buffer(), vec![0; 37]] {
+            lists.push(List {
+                room,
+                ..List::of(buffer, &long_first)
+            });
+        }
     }
     lists
 }

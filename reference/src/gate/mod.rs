@@ -5,9 +5,11 @@ pub mod head;
 pub mod list;
 pub mod list_cases;
 pub mod record;
+pub mod same_cases;
 pub mod script;
 pub mod sizes;
 pub mod tally;
+pub mod trip_cases;
 pub mod whole_cases;
 
 use std::fs;
@@ -45,7 +47,7 @@ pub fn lists(lists: &[List]) -> Files {
     for list in lists {
         let (after, ran) = list.run();
         files.stdin.extend(list.input());
-        files.stdout.extend(list::answer(&after, &ran));
+        files.stdout.extend(list.answer(&after, &ran));
         files.tally.add_list(list, &ran);
     }
     files

@@ -4,12 +4,16 @@ use crate::call::Given;
 use crate::cases::{Case, Outcome};
 use crate::gate::head::head;
 use crate::outside::Unpacked;
+use crate::refusal::Refusal;
 
 const JUDGE: u8 = 1;
 const LISTER: u8 = 2;
 const FRESH: u8 = 3;
 const UNPACK: u8 = 4;
 const PACK: u8 = 5;
+const SAME: u8 = 6;
+const RESTORE: u8 = 7;
+const RECOVER: u8 = 8;
 
 /// The longest report, input or output; the most values; the longest tails.
 pub const MOST_BYTES: usize = 2000;
@@ -41,6 +45,32 @@ pub fn fits(case: &Case) -> bool {
             values.len() <= MOST_VALUES
                 && tail.len() <= MOST_PACK_TAIL
                 && output.len() <= MOST_BYTES
+        }
+        Case::Same { first, second } => first.len() <= MOST_BYTES && second.len() <= MOST_BYTES,
+        Case::Restore {
+            report,
+            values,
+            tail,
+            output,
+        } => {
+            report.len() <= MOST_BYTES
+                && values.len() <= MOST_VALUES
+                && tail.len() <= MOST_UNPACK_TAIL
+                && output.len() <= MOST_BYTES
+        }
+        Case::Recover {
+            values,
+            tail,
+            output,
+            values_out,
+            tail_out,
+            ..
+        } => {
+            values.len() <= MOST_VALUES
+                && tail.len() <= MOST_PACK_TAIL
+                && output.len() <= MOST_BYTES
+                && values_out.len() <= MOST_VALUES
+                && tail_out.len() <= MOST_UNPACK_TAIL
         }
         Case::Calls { .. } => false,
     }
@@ -80,6 +110,39 @@ pub fn input(case: &Case) -> Vec<u8> {
             counted(output),
         ]
         .concat(),
+        Case::Same { first, second } => [vec![SAME], counted(first), counted(second)].concat(),
+        Case::Restore {
+            report,
+            values,
+            tail,
+            output,
+        } => [
+            vec![RESTORE],
+            counted(report),
+            counted_numbers(values),
+            counted(tail),
+            counted(output),
+        ]
+        .concat(),
+        Case::Recover {
+            values,
+            word,
+            rptin,
+            tail,
+            output,
+            values_out,
+            tail_out,
+        } => [
+            vec![RECOVER],
+            counted_numbers(values),
+            word.to_be_bytes().to_vec(),
+            rptin.to_be_bytes().to_vec(),
+            counted(tail),
+            counted(output),
+            counted_numbers(values_out),
+            counted(tail_out),
+        ]
+        .concat(),
         Case::Calls { .. } => unreachable!("a list of calls is no record"),
     }
 }
@@ -102,28 +165,54 @@ pub fn answer(outcome: &Outcome) -> Vec<u8> {
             result,
             values,
             tail,
-        } => {
-            let given = result.map_or(Vec::new(), |given| unpacked(&given));
-            let head = head(result.map(|_| Given::Nothing));
-            [head, given, numbers(values), tail.clone()].concat()
-        }
+        } => [unpacked(result), numbers(values), tail.clone()].concat(),
         Outcome::Pack { result, output } => {
             [head(result.map(Given::Count)), output.clone()].concat()
         }
+        Outcome::Same(result) => head(result.map(|same| Given::Count(usize::from(same)))),
+        Outcome::Restore {
+            result,
+            values,
+            tail,
+            output,
+        } => [
+            head(result.map(Given::Count)),
+            numbers(values),
+            tail.clone(),
+            output.clone(),
+        ]
+        .concat(),
+        Outcome::Recover {
+            result,
+            output,
+            values_out,
+            tail_out,
+        } => [
+            unpacked(result),
+            numbers(values_out),
+            tail_out.clone(),
+            output.clone(),
+        ]
+        .concat(),
         Outcome::Calls(_) => unreachable!("a list of calls is no record"),
     }
 }
 
-fn unpacked(given: &Unpacked) -> Vec<u8> {
-    let numbers = [
-        given.word,
-        given.present as u64,
-        u64::from(given.rptin),
-        given.ac as u64,
-        given.bytes as u64,
-        given.tail as u64,
-    ];
-    numbers.iter().flat_map(|n| n.to_be_bytes()).collect()
+/// The head, and the six numbers where they are given.
+fn unpacked(result: &Result<Unpacked, Refusal>) -> Vec<u8> {
+    let mut bytes = head(result.map(|_| Given::Nothing));
+    if let Ok(given) = result {
+        let numbers = [
+            given.word,
+            given.present as u64,
+            u64::from(given.rptin),
+            given.ac as u64,
+            given.bytes as u64,
+            given.tail as u64,
+        ];
+        bytes.extend(numbers.iter().flat_map(|n| n.to_be_bytes()));
+    }
+    bytes
 }
 
 fn counted(bytes: &[u8]) -> Vec<u8> {

@@ -27,6 +27,9 @@ impl Tally {
             Outcome::Fresh { result, .. } => ("fresh", number(result)),
             Outcome::Unpack { result, .. } => ("unpack", number(result)),
             Outcome::Pack { result, .. } => ("pack", number(result)),
+            Outcome::Same(result) => ("same", number(result)),
+            Outcome::Restore { result, .. } => ("restore", number(result)),
+            Outcome::Recover { result, .. } => ("recover", number(result)),
             Outcome::Calls(_) => unreachable!("a list of calls is no record"),
         };
         self.add(kind, refusal);

@@ -6,8 +6,8 @@ use std::collections::BTreeSet;
 use crate::cases::material::*;
 use crate::cases::outside::{edge_values, tails};
 use crate::cases::{self, Case, pairs, random, reports};
-use crate::gate::record;
 use crate::gate::sizes::{LONGEST_TAIL, observation_of_sum, observation_of_tail};
+use crate::gate::{record, same_cases, trip_cases};
 use crate::observation::Observation;
 use crate::prng::Prng;
 use crate::table::{FIELDS, fields};
@@ -29,13 +29,15 @@ pub fn cases(seed: u64) -> Vec<Case> {
     cases.extend(caller_pairs());
     cases.extend(sizes(&mut prng));
     cases.extend(drawn(&mut prng));
+    cases.extend(same_cases::cases());
+    cases.extend(trip_cases::cases(&mut prng));
     let mut seen = BTreeSet::new();
     cases.retain(|case| record::fits(case) && seen.insert(record::input(case)));
     cases
 }
 
 /// Values as given to unpack, each its own.
-fn lent_values(count: usize) -> Vec<i64> {
+pub fn lent_values(count: usize) -> Vec<i64> {
     (0..count as i64)
         .map(|index| -7_000_000_000 - index)
         .collect()
@@ -345,7 +347,7 @@ fn sizes(prng: &mut Prng) -> Vec<Case> {
 }
 
 /// Outputs mostly just fitting, at times longer, now and then one short.
-fn room(prng: &mut Prng, needed: usize) -> usize {
+pub fn room(prng: &mut Prng, needed: usize) -> usize {
     let rooms = [needed, needed, needed, needed + 1, needed + 6];
     if prng.one_in(12) {
         needed.saturating_sub(1)

@@ -1,10 +1,11 @@
 -- `lmr5::answer_of` meets its contract.
 -- Assumes nothing.
-use Rattle.lmr5.proofs.Calls.{held-given, flag-given}
 use mathlib.Core.Path.{sym, ap, subst, _∙_}
 use Rattle.format.specs.Reply.{answerOf}
 use Rattle.format.specs.declared.Reply.{Reply}
-use Rattle.lmr5.specs.Numbered.{numbered, Counts}
+use Rattle.laws.proofs.Bounds.{AnswerFits}
+use Rattle.lmr5.specs.Numbered.{numbered}
+use Rattle.lmr5.proofs.Calls.{number-given, count-given}
 use borrow.Author.Needs.{needs}
 use Rattle.lmr5.proofs.answer_of.Statement.{statement}
 use Rattle.lmr5.proofs.answer_of.Tie as tie
@@ -27,6 +28,12 @@ enum-known-r-2 c = search needs
 given-requires : tie.Need-given-requires
 given-requires c κs = search needs
 
+enum-told-2 : tie.Need-enum-told-2
+enum-told-2 c = search needs
+
+missing-requires : tie.Need-missing-requires
+missing-requires c κs = search needs
+
 enum-known-r-3 : tie.Need-enum-known-r-3
 enum-known-r-3 c = search needs
 
@@ -36,17 +43,17 @@ cast-given c = search needs
 given-requires-2 : tie.Need-given-requires-2
 given-requires-2 c κs = search needs
 
-enum-told-2 : tie.Need-enum-told-2
-enum-told-2 c = search needs
+enum-told-3 : tie.Need-enum-told-3
+enum-told-3 c = search needs
 
-missing-requires : tie.Need-missing-requires
-missing-requires c κs = search needs
+missing-requires-2 : tie.Need-missing-requires-2
+missing-requires-2 c κs = search needs
 
 enum-known-r-4 : tie.Need-enum-known-r-4
 enum-known-r-4 c = search needs
 
 counted-requires : tie.Need-counted-requires
-counted-requires c κs = subst (λ (r : Reply). Counts (answerOf r)) (c .before .r4 .given .1) (c .before .before .before .pre)
+counted-requires c κs = subst (λ (r : Reply). AnswerFits (answerOf r)) (c .before .r4 .given .1) (c .before .before .before .pre) .0
 
 returns : tie.Need-returns
 returns c = c .refused .ensures ∙ ap (λ (r : Reply). numbered (answerOf r)) (sym (c .before .before .r .given .1))
@@ -55,16 +62,19 @@ returns-2 : tie.Need-returns-2
 returns-2 c = search needs
 
 returns-3 : tie.Need-returns-3
-returns-3 c = held-given _ _ (search needs) (c .given .ensures) ∙ ap (λ (r : Reply). numbered (answerOf r)) (sym (c .before .before .before .r2 .given .1))
+returns-3 c = c .given .ensures ∙ number-given _ (search needs) ∙ ap (λ (r : Reply). numbered (answerOf r)) (sym (c .before .before .before .r2 .given .1))
 
 returns-4 : tie.Need-returns-4
-returns-4 c = flag-given _ _ (search needs) (c .given2 .ensures) ∙ ap (λ (r : Reply). numbered (answerOf r)) (sym (c .before .before .r3 .given .1))
+returns-4 c = search needs
 
 returns-5 : tie.Need-returns-5
-returns-5 c = search needs
+returns-5 c = count-given _ _ (search needs) (c .given2 .ensures) ∙ ap (λ (r : Reply). numbered (answerOf r)) (sym (c .before .before .r3 .given .1))
 
 returns-6 : tie.Need-returns-6
-returns-6 c = c .counted .ensures ∙ ap (λ (r : Reply). numbered (answerOf r)) (sym (c .before .before .r4 .given .1))
+returns-6 c = search needs
+
+returns-7 : tie.Need-returns-7
+returns-7 c = c .counted .ensures ∙ ap (λ (r : Reply). numbered (answerOf r)) (sym (c .before .before .r4 .given .1))
 
 pub answer-of-spec : {M : Type 1} → statement M
 answer-of-spec =
@@ -76,11 +86,13 @@ answer-of-spec =
     done-requires
     enum-known-r-2
     given-requires
+    enum-told-2
+    missing-requires
     enum-known-r-3
     cast-given
     given-requires-2
-    enum-told-2
-    missing-requires
+    enum-told-3
+    missing-requires-2
     enum-known-r-4
     counted-requires
     returns
@@ -88,4 +100,5 @@ answer-of-spec =
     returns-3
     returns-4
     returns-5
-    returns-6)
+    returns-6
+    returns-7)

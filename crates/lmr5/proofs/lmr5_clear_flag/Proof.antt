@@ -1,7 +1,6 @@
 -- `lmr5::lmr5_clear_flag` meets its contract.
 -- Assumes nothing.
-use Rattle.lmr5.proofs.Bounds.{call-counts}
-use Rattle.lmr5.proofs.Calls.{call-numbered}
+use Rattle.lmr5.proofs.Calls.{call-fits, call-numbered}
 use borrow.Author.Needs.{needs}
 use Rattle.lmr5.proofs.lmr5_clear_flag.Statement.{statement}
 use Rattle.lmr5.proofs.lmr5_clear_flag.Tie as tie
@@ -10,7 +9,7 @@ clear-flag-requires : tie.Need-clear-flag-requires
 clear-flag-requires c κs = search needs
 
 answer-of-requires : tie.Need-answer-of-requires
-answer-of-requires c κs = call-counts _ _ _ _ _ (c .before .before .clear-flag .ensures) (λ i. c .before .before .before .before .slice-known .given i .fits)
+answer-of-requires c κs = call-fits _ _ _ _ _ (c .before .before .clear-flag .ensures) (λ i. c .before .before .before .before .slice-known .given i .fits)
 
 same-length : tie.Need-same-length
 same-length c = search needs

@@ -4,8 +4,7 @@ use mathlib.Core.Path.{sym, ap, _∙_}
 use Rattle.pack.specs.Answers.{packAnswer}
 use Rattle.pack.specs.declared.Packed.{Packed}
 use Rattle.lmr5.specs.Numbered.{numbered}
-use Rattle.lmr5.proofs.Bounds.{pack-counts}
-use Rattle.lmr5.proofs.Calls.{wrote-numbered}
+use Rattle.lmr5.proofs.Calls.{pack-fits, wrote-numbered}
 use borrow.Author.Needs.{needs}
 use Rattle.lmr5.proofs.lmr5_pack.Statement.{statement}
 use Rattle.lmr5.proofs.lmr5_pack.Tie as tie
@@ -23,7 +22,7 @@ enum-known-p-2 : tie.Need-enum-known-p-2
 enum-known-p-2 c = search needs
 
 counted-requires : tie.Need-counted-requires
-counted-requires c κs = pack-counts _ _ _ _ _ _ _ _ (c .before .before .before .before .before .pack .ensures) (c .before .p2 .given .1) (c .before .before .before .before .before .before .before .before .before .fits .rptin .fits) (λ i. c .before .before .before .slice-known2 .given i .fits)
+counted-requires c κs = pack-fits _ _ _ _ _ _ _ _ (c .before .before .before .before .before .pack .ensures) (c .before .p2 .given .1) (c .before .before .before .before .before .before .before .before .before .fits .rptin .fits) (λ i. c .before .before .before .slice-known2 .given i .fits)
 
 same-length : tie.Need-same-length
 same-length c = search needs

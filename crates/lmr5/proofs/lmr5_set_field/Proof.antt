@@ -7,8 +7,7 @@ use mir.ValLaws.{toZ-ofZ}
 use Rattle.format.specs.Field.{scaled}
 use Rattle.format.specs.Calls.{setField}
 use Rattle.format.specs.Buffer.{effect}
-use Rattle.lmr5.proofs.Bounds.{call-counts}
-use Rattle.lmr5.proofs.Calls.{call-numbered}
+use Rattle.lmr5.proofs.Calls.{call-fits, call-numbered}
 use borrow.Author.Needs.{needs}
 use Rattle.lmr5.proofs.lmr5_set_field.Statement.{statement}
 use Rattle.lmr5.proofs.lmr5_set_field.Tie as tie
@@ -17,7 +16,7 @@ set-field-requires : tie.Need-set-field-requires
 set-field-requires c κs = search needs
 
 answer-of-requires : tie.Need-answer-of-requires
-answer-of-requires c κs = call-counts _ _ _ _ _ (c .before .before .set-field .ensures) (λ i. c .before .before .before .before .slice-known .given i .fits)
+answer-of-requires c κs = call-fits _ _ _ _ _ (c .before .before .set-field .ensures) (λ i. c .before .before .before .before .slice-known .given i .fits)
 
 same-length : tie.Need-same-length
 same-length c = search needs

@@ -1,34 +1,40 @@
 -- `pack::pack_tail` meets its contract: one law for each return.
 -- Assumes nothing.
-use native.Mathlib.Omega.{arith}
-use native.Mathlib.Omega.{arith}
-use mathlib.Core.Path.{sym, _∙_}
-use Rattle.laws.proofs.Attachments.{all-nibbles}
-use Rattle.pack.proofs.Outcomes.{says-refused, says-ended, bytes-refused, tail-refused}
+use mathlib.Core.Path.{_≡_, sym, _∙_}
+use mathlib.Core.Bool.{true}
+use denote.Ref.{now}
 use borrow.Author.Needs.{needs}
+use Rattle.format.specs.Calls.{allNibbles}
+use Rattle.laws.proofs.Attachments.{all-nibbles}
+use Rattle.pack.proofs.Outcomes.{says, bytes-refused, tail-refused}
 use Rattle.pack.proofs.pack_tail.Statement.{statement}
 use Rattle.pack.proofs.pack_tail.Tie as tie
+
+nibbles : (c : tie.Then1) → allNibbles (now (c .before .before .before .before .args .tail)) ≡ true
+nibbles c = sym (c .before .all-nibbles .ensures) ∙ c .if1 .taken
 
 all-nibbles-requires : tie.Need-all-nibbles-requires
 all-nibbles-requires c κs = search needs
 
-count-in-requires : tie.Need-count-in-requires
-count-in-requires c κs = search needs
-
-walk-requires : tie.Need-walk-requires
-walk-requires c κs = (all-nibbles _ (sym (c .before .before .all-nibbles .ensures) ∙ c .before .if1 .taken), omega arith, omega arith)
+walk-tail-requires : tie.Need-walk-tail-requires
+walk-tail-requires c κs = all-nibbles _ (nibbles c)
 
 enum-known-w : tie.Need-enum-known-w
 enum-known-w c = search needs
 
 returns : tie.Need-returns
-returns c = tail-refused _ _ _ _ _ (c .before .before .before .before .before .before .before .before .before .pre) _ _ (sym (c .before .before .before .before .before .before .all-nibbles .ensures) ∙ c .before .before .before .before .before .if1 .taken) (says-refused _ _ _ (c .before .before .before .before .count-in .ensures) (c .before .before .before .walk .ensures) _ _ (c .before .w .given .1))
+returns c =
+    let t = c .before .before .before .before in
+    tail-refused _ _ _ _ _ (t .before .before .before .before .pre) _ _ (nibbles t) (says _ _ _ (c .before .before .before .walk-tail .ensures) (c .before .w .given .1))
 
-enum-told : tie.Need-enum-told
-enum-told c = search needs
+enum-known-w-2 : tie.Need-enum-known-w-2
+enum-known-w-2 c = search needs
 
 write-requires : tie.Need-write-requires
-write-requires c κs = (record { passed = c .before .before .before .before .before .before .before .before .before .pre; nibbles = sym (c .before .before .before .before .before .before .all-nibbles .ensures) ∙ c .before .before .before .before .before .if1 .taken; attachments = says-ended _ _ _ (c .before .before .before .before .count-in .ensures) (c .before .before .before .walk .ensures) _ (c .before .enum-told .given .1) }, c .before .before .before .before .count-in .ensures)
+write-requires c κs =
+    let t = c .before .before .before .before .before in
+    let s = says _ _ _ (c .before .before .before .before .walk-tail .ensures) (c .before .before .w2 .given .1) in
+    (record { passed = t .before .before .before .before .pre; nibbles = nibbles t; attachments = s .0 }, s .1)
 
 same-length : tie.Need-same-length
 same-length c = search needs
@@ -44,11 +50,10 @@ pack-tail-spec =
     tie.close
     (tie.spec
     all-nibbles-requires
-    count-in-requires
-    walk-requires
+    walk-tail-requires
     enum-known-w
     returns
-    enum-told
+    enum-known-w-2
     write-requires
     same-length
     returns-2

@@ -3,10 +3,8 @@
 use Prim.Native.Nat.{_-_}
 use mathlib.Core.Path.{sym, _∙_}
 use native.Mathlib.Omega.{arith}
-use denote.Ref.{now}
 use borrow.Author.Needs.{needs}
-use Rattle.tail.proofs.Checks.{passes, passed-small}
-use Rattle.tail.proofs.Turns.{Walking, walk-start, walk-fault, walk-more, walk-end}
+use Rattle.tail.proofs.Turns.{Walking, walk-start, walk-look, walk-pass, walk-fault, walk-more, walk-end}
 use Rattle.tail.proofs.walk.Statement.{statement}
 use Rattle.tail.proofs.walk.Tie as tie
 
@@ -17,14 +15,10 @@ abbrev μ-loop : tie.MeasureT-loop
 μ-loop s count want st₀ i₀ st i = count - i
 
 loop-holds : tie.Need-loop-holds Inv-loop μ-loop
-loop-holds c =
-    let a = c .before .args in
-    walk-start (now (a .s)) (a .c) (a .count) (a .want) (c .before .pre .2)
+loop-holds c = walk-start _ _ _ _ (c .before .pre .0) (c .before .pre .2)
 
 look-requires : tie.Need-look-requires Inv-loop μ-loop
-look-requires c κs =
-    let l = c .before .loop in
-    (rw (l .inv .packed) (c .before .before .before .pre .0), omega (arith, l .inv .few, l .inv .low, l .inv .near))
+look-requires c κs = walk-look _ _ _ _ _ _ (c .before .loop .inv)
 
 enum-known-l : tie.Need-enum-known-l Inv-loop μ-loop
 enum-known-l c = search needs
@@ -34,19 +28,16 @@ add-t12 c = search needs
 
 returns : tie.Need-returns Inv-loop μ-loop
 returns c =
-    let a = c .before .before .before .before .before .before .before .args in
     let l = c .before .before .before .before .before .loop in
-    walk-fault (now (a .s)) (a .c) (a .count) (a .want) (l .st) (l .i) (l .inv) (omega arith) _ (sym (c .before .before .before .look .ensures) ∙ c .before .l .given .1)
+    walk-fault _ _ _ _ _ _ (l .inv) (omega arith) _ (sym (c .before .before .before .look .ensures) ∙ c .before .l .given .1)
 
 enum-known-l-2 : tie.Need-enum-known-l-2 Inv-loop μ-loop
 enum-known-l-2 c = search needs
 
 passed-requires : tie.Need-passed-requires Inv-loop μ-loop
 passed-requires c κs =
-    let a = c .before .before .before .before .before .before .before .args in
     let l = c .before .before .before .before .before .loop in
-    let s = passed-small (now (a .s)) (l .st .cursor) (l .st .mask) _ _ (rw (l .inv .packed) (c .before .before .before .before .before .before .before .pre .0)) (passes _ _ _ _ _ (sym (c .before .before .before .look .ensures) ∙ c .before .l2 .given .1)) in
-    (omega (arith, l .inv .few, l .inv .low, l .inv .near), s .0, s .1)
+    walk-pass _ _ _ _ _ _ (l .inv) _ _ (sym (c .before .before .before .look .ensures) ∙ c .before .l2 .given .1)
 
 add-i : tie.Need-add-i Inv-loop μ-loop
 add-i c = search needs
@@ -56,15 +47,12 @@ loop-less c = search needs
 
 loop-again : tie.Need-loop-again Inv-loop μ-loop
 loop-again c =
-    let a = c .before .before .before .before .before .before .before .before .args in
     let l = c .before .before .before .before .before .before .loop in
-    rw (c .passed .ensures) (walk-more (now (a .s)) (a .c) (a .count) (a .want) (l .st) (l .i) (l .inv) (omega arith) _ _ (c .before .before .before .before .before .before .before .before .pre .0) (sym (c .before .before .before .before .look .ensures) ∙ c .before .before .l2 .given .1))
+    let e = sym (c .before .before .before .before .look .ensures) ∙ c .before .before .l2 .given .1 in
+    rw (c .passed .ensures) (walk-more _ _ _ _ _ _ (l .inv) (omega arith) _ _ e)
 
 returns-2 : tie.Need-returns-2 Inv-loop μ-loop
-returns-2 c =
-    let a = c .before .before .before .args in
-    let l = c .before .loop in
-    walk-end (now (a .s)) (a .c) (a .count) (a .want) (l .st) (l .i) (l .inv) (omega arith)
+returns-2 c = walk-end _ _ _ _ _ _ (c .before .loop .inv) (omega arith)
 
 pub walk-spec : {M : Type 1} → statement M
 walk-spec =

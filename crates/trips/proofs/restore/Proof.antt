@@ -1,40 +1,28 @@
--- `trips::restore` meets its contract: pack after unpack.
+-- `trips::restore` meets its contract: the report judged first.
 -- Assumes nothing.
-use native.Mathlib.Omega.{arith}
-use native.Mathlib.Omega.{arith}
-use mathlib.Core.Path.{_≡_, sym}
-use lib.Seq.{length-take-le}
 use denote.Ref.{now}
-use Rattle.unpack.specs.declared.Contents.{Contents}
-use Rattle.unpack.specs.declared.Unpacked as answers
-use Rattle.trips.proofs.Trips.{Opened, opened, opened-within, restore-refused, restore-packed}
+use Rattle.trips.proofs.Trips.{report-refused, report-no-room, report-holds}
 use borrow.Author.Needs.{needs}
 use Rattle.trips.proofs.restore.Statement.{statement}
 use Rattle.trips.proofs.restore.Tie as tie
 
--- what unpack gave
-found : (c : tie.After-unpack) (x : Contents) → c .unpack .result ≡ answers.Unpacked.Given x
-    → (let a = c .before .before .before .before .before .before .args in
-    Opened (now (a .s)) (now (a .values)) (c .unpack .last .1 .0) (now (a .tail)) (c .unpack .last .1 .1 .0) x)
-found c x e = opened _ _ _ _ _ x (rw e at (c .unpack .ensures))
+judge-requires : tie.Need-judge-requires
+judge-requires c κs = search needs
 
-unpack-requires : tie.Need-unpack-requires
-unpack-requires c κs = search needs
+enum-known-j : tie.Need-enum-known-j
+enum-known-j c = search needs
 
-enum-known-u : tie.Need-enum-known-u
-enum-known-u c = search needs
+enum-known-j-2 : tie.Need-enum-known-j-2
+enum-known-j-2 c = search needs
 
-enum-known-u-2 : tie.Need-enum-known-u-2
-enum-known-u-2 c = search needs
+returns : tie.Need-returns
+returns c = report-no-room _ _ (c .before .before .before .before .judge .ensures .0) _ _ _ _ (c .before .before .j2 .given .1) (c .if1 .taken)
 
-slice-reshare-prefix-pack : tie.Need-slice-reshare-prefix-pack
-slice-reshare-prefix-pack c = opened-within (found (c .before .before .before .before .before .before .before) _ (c .before .before .u2 .given .1))
+restore-to-requires : tie.Need-restore-to-requires
+restore-to-requires c κs = report-holds _ _ (c .before .before .before .before .before .before .before .judge .ensures .0) _ (now (c .before .before .before .before .before .before .before .before .before .before .before .args .out)) (c .before .before .before .before .before .j2 .given .1) (c .before .before .before .if1 .left)
 
-slice-aggregate-pack : tie.Need-slice-aggregate-pack
-slice-aggregate-pack c = sym (length-take-le _ _ (opened-within (found (c .before .before .before .before .before .before .before .before) _ (c .before .before .before .u2 .given .1))))
-
-pack-requires : tie.Need-pack-requires
-pack-requires c κs = search needs
+returns-2 : tie.Need-returns-2
+returns-2 c = report-refused _ _ (c .before .before .before .judge .ensures .0) _ _ _ _ _ (c .before .j .given .1)
 
 same-length : tie.Need-same-length
 same-length c = search needs
@@ -42,35 +30,23 @@ same-length c = search needs
 same-length-2 : tie.Need-same-length-2
 same-length-2 c = search needs
 
-returns : tie.Need-returns
-returns c = restore-refused _ _ _ _ _ _ _ (now (c .before .before .before .before .before .before .before .before .before .before .before .before .args .out)) (rw (c .before .u .given .1) at (c .before .before .before .before .before .before .unpack .ensures))
-
 same-length-3 : tie.Need-same-length-3
 same-length-3 c = search needs
 
-same-length-4 : tie.Need-same-length-4
-same-length-4 c = search needs
-
-same-length-5 : tie.Need-same-length-5
-same-length-5 c = search needs
-
-returns-2 : tie.Need-returns-2
-returns-2 c = restore-packed _ (λ i. omega (arith, c .before .before .before .before .before .before .before .before .before .before .before .before .before .before .before .before .before .shared-slice-known .given i)) _ _ _ _ _ (found (c .before .before .before .before .before .before .before .before .before .before .before .before) _ (c .before .before .before .before .before .before .before .u2 .given .1)) _ _ _ (c .before .before .pack .ensures)
+returns-3 : tie.Need-returns-3
+returns-3 c = search needs
 
 pub restore-spec : {M : Type 1} → statement M
 restore-spec =
     tie.close
     (tie.spec
-    unpack-requires
-    enum-known-u
-    enum-known-u-2
-    slice-reshare-prefix-pack
-    slice-aggregate-pack
-    pack-requires
+    judge-requires
+    enum-known-j
+    enum-known-j-2
+    returns
+    restore-to-requires
+    returns-2
     same-length
     same-length-2
-    returns
     same-length-3
-    same-length-4
-    same-length-5
-    returns-2)
+    returns-3)

@@ -4,8 +4,6 @@ use borrow.Author.Needs.{needs}
 use Rattle.words.proofs.Complement.{low, high-fits, high}
 use Rattle.words.proofs.signed_of.Statement.{statement}
 use Rattle.words.proofs.signed_of.Tie as tie
-use Rattle.words.proofs.signed_of.Reads as reads
-use Rattle.words.proofs.signed_of.Lts as lts
 
 cast-result : tie.Need-cast-result
 cast-result c = search needs

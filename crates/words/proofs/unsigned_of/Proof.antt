@@ -4,8 +4,6 @@ use borrow.Author.Needs.{needs}
 use Rattle.words.proofs.Complement.{above, below}
 use Rattle.words.proofs.unsigned_of.Statement.{statement}
 use Rattle.words.proofs.unsigned_of.Tie as tie
-use Rattle.words.proofs.unsigned_of.Reads as reads
-use Rattle.words.proofs.unsigned_of.Lts as lts
 
 cast-result : tie.Need-cast-result
 cast-result c = let a = above (c .before .args .v) (search needs) (c .if1 .taken) in (a .least, a .most)

@@ -1,0 +1,249 @@
+-- Every answer fits 64 bits: a refusal's place, and each number that a call gives, negative ones too.
+-- Assumes nothing.
+use Prim.{Unit, tt}
+use Prim.Native.Nat.{ℕ, zero, suc, _+_, _-_, _^_, _≤_, _<_, max}
+use native.Mathlib.Omega.{arith}
+use mathlib.Core.Path.{_≡_, refl, sym, ap, subst, _∙_}
+use mathlib.Core.Bool.{Bool, true, false, cond, not, _&&_}
+use mathlib.Core.List.{List, [], _∷_, _++_}
+use mathlib.Core.Option.{Option, none, some}
+use lib.ListN.{length, getD}
+use lib.Dec.{eqb}
+use lib.IntN.{ℤ, pos, negsuc, _+ℤ_}
+use lib.Signed.{leZ, mag}
+use borrow.Author.Tests.{leb-true}
+use Rattle.format.specs.Order.{Refusal, Check, check, first, between}
+use Rattle.format.specs.Field.{Field, table, inRange}
+use Rattle.format.specs.Bits.{Bytes, bitField, offset}
+use Rattle.format.specs.Nibbles.{Attachment, Nibbles, idAt, behind}
+use Rattle.format.specs.Flags.{flagAt}
+use Rattle.format.specs.Observation.{Observation, widths, size}
+use Rattle.format.specs.Report.{codesOf, countOf, tailOf, fieldChecks, attachmentChecks, reportChecks, observationOf, Verdict, verdict, judge}
+use Rattle.format.specs.Calls.{Call, readField, setField, clearField, readFlag, setFlag, clearFlag, put, fetch, remove, putText, fetchText, contentOf, content, valueNumber, Given, gives, roomCheck, callChecks, checks, Answer, refused, accepted, steppedBy, step}
+use Rattle.format.specs.Buffer.{Shown, run, effectOn, effect, refusals, claimOn, claim}
+use Rattle.format.specs.declared.Scaled.{Scaled}
+use Rattle.laws.proofs.Lists.{and-true, true-false, cond-case}
+use Rattle.laws.proofs.Order.{between-in, first-append-some, first-append-skip}
+use Rattle.laws.proofs.Bits.{bitField-at, bitField-lt}
+use Rattle.laws.proofs.Card.{length-widths}
+use Rattle.laws.proofs.Fields.{Fair, FairAll, nil, cons, fair-range, table-length}
+use Rattle.laws.proofs.Attachments.{Fine, empty, one}
+use Rattle.laws.proofs.ShipText.{read-text-length}
+use Rattle.laws.proofs.Report.{Good, judged, size-within}
+use Rattle.laws.proofs.List.{Kept, step-kept}
+
+-- ---- what fits
+
+-- a number that a signed word of 64 bits holds, or that is missing
+abbrev pub NumberFits : Option ℤ → Type 0
+NumberFits none = Unit {0}
+NumberFits (some z) = mag z < 2 ^ 63
+
+abbrev pub GivenFit : List Given → Type 0
+GivenFit [] = Unit {0}
+GivenFit (g ∷ more) = NumberFits (g .number) × GivenFit more
+
+abbrev pub AnswerFits : Answer → Type 0
+AnswerFits (refused r) = r .place < 2 ^ 64
+AnswerFits (accepted gs) = GivenFit gs
+
+-- ---- places
+
+-- the first refusal of these checks, if there is one, has a place below 64
+unfoldable Near : List Check → Type 0
+Near cs = (r : Refusal) → first cs ≡ some r → r .place < 64
+
+near-nil : Near []
+unfolding Near first
+near-nil r e = let z : _≡_ {A = ℕ} 0 1 = cc in absurd (omega arith)
+
+-- a check, and those behind it, which count where it does not fit
+near-cons : (c : Check) (more : List Check) → c .refusal .place < 64 → (c .fits ≡ false → Near more) → Near (c ∷ more)
+unfolding Near first
+near-cons c more h rest r = go (c .fits) refl
+  where
+    go : (t : Bool) → c .fits ≡ t → cond t (some (c .refusal)) (first more) ≡ some r → r .place < 64
+    go true q e = let s : c .refusal ≡ r = cc in subst (λ (x : Refusal). x .place < 64) s h
+    go false q e = rest q r e
+
+near-one : (c : Check) → c .refusal .place < 64 → Near (c ∷ [])
+near-one c h = near-cons c [] h (λ q. near-nil)
+
+near-append : (xs ys : List Check) → Near xs → Near ys → Near (xs ++ ys)
+unfolding Near
+near-append xs ys hx hy r = go (first xs) refl
+  where
+    go : (o : Option Refusal) → first xs ≡ o → first (xs ++ ys) ≡ some r → r .place < 64
+    go none q e = hy r (sym (first-append-skip xs ys q) ∙ e)
+    go (some x) q e = hx r (q ∙ sym (first-append-some xs ys x q) ∙ e)
+
+-- the report's
+fields-near : (k : ℕ) (fs : List Field) (cs : List ℕ) → k + length fs ≤ 64 → Near (fieldChecks k fs cs)
+unfolding fieldChecks
+fields-near k [] cs h = near-nil
+fields-near k (f ∷ fs) [] h = near-nil
+fields-near k (f ∷ fs) (c ∷ cs) h =
+    near-cons _ _ (omega arith) (λ q. near-cons _ _ (omega arith) (λ p. fields-near (suc k) fs cs (omega arith)))
+
+attachments-near : (n i : ℕ) (seen ns : List ℕ) → i + n ≤ 64 → Near (attachmentChecks n i seen ns)
+unfolding attachmentChecks
+attachments-near zero i seen ns h = near-nil
+attachments-near (suc n) i seen ns h =
+    near-cons _ _ (omega arith)
+    (λ q1. near-cons _ _ (omega arith)
+    (λ q2. near-cons _ _ (omega arith)
+    (λ q3. near-cons _ _ (omega arith) (λ q4. attachments-near n (suc i) (idAt ns ∷ seen) (behind ns) (omega arith)))))
+
+count-low : (b : List ℕ) → countOf b < 16
+unfolding widths table
+count-low b =
+    let at = bitField-at widths b 48 (omega (arith, length-widths)) in
+    subst (λ (n : ℕ). n < 16) at (bitField-lt b (offset widths 48) 4)
+
+report-near : (b : List ℕ) → Near (reportChecks b)
+unfolding reportChecks
+report-near b =
+    near-cons _ _ (omega arith)
+    (λ q. near-append (fieldChecks 1 table (codesOf b)) _ (fields-near 1 table (codesOf b) (omega (arith, table-length)))
+    (near-cons _ _ (omega arith)
+    (λ p. near-append (attachmentChecks (countOf b) 1 [] (tailOf b)) _ (attachments-near (countOf b) 1 [] (tailOf b) (omega (arith, count-low b)))
+    (near-one _ (omega arith)))))
+
+pub judge-fits : (b : List ℕ) (r : Refusal) → judge b ≡ Verdict.refused r → r .place < 2 ^ 64
+unfolding judge Near
+judge-fits b r = go (first (reportChecks b)) refl
+  where
+    go : (o : Option Refusal) → first (reportChecks b) ≡ o → verdict o (observationOf b) ≡ Verdict.refused r → r .place < 2 ^ 64
+    go none q e = let z : _≡_ {A = ℕ} 0 1 = cc in absurd (omega arith)
+    go (some x) q e = let s : x ≡ r = cc in let h = report-near b x q in omega (arith, ap (λ (y : Refusal). y .place) s)
+
+-- a call's: a number is judged before it is a place
+number-near : (low high x : ℕ) (more : List Check) → (x ≤ high → Near more) → Near (check (not (between low high x)) 8 0 ∷ more)
+number-near low high x more h = near-cons _ _ (omega arith) (λ q. h (between-in low high x (between low high x) refl q .1))
+
+calls-near : (s : Observation) (c : Call) → Near (callChecks s c)
+unfolding callChecks
+calls-near s (readField k) = number-near 1 46 k _ (λ h. near-nil)
+calls-near s (setField k v) = number-near 1 46 k _ (λ h. near-one _ (omega arith))
+calls-near s (clearField k) = number-near 1 46 k _ (λ h. near-one _ (omega arith))
+calls-near s (readFlag j) = number-near 1 14 j _ (λ h. near-one _ (omega arith))
+calls-near s (setFlag j v) = number-near 1 14 j _ (λ h. near-cons _ _ (omega arith) (λ q. near-one _ (omega arith)))
+calls-near s (clearFlag j) = number-near 1 14 j _ (λ h. near-one _ (omega arith))
+calls-near s (put i ns) = number-near 1 15 i _ (λ h. near-cons _ _ (omega arith) (λ q. near-one _ (omega arith)))
+calls-near s (fetch i out) = number-near 1 15 i _ (λ h. near-one _ (omega arith))
+calls-near s (remove i) = number-near 1 15 i _ (λ h. near-one _ (omega arith))
+calls-near s (putText t) = near-cons _ _ (omega arith) (λ q. near-one _ (omega arith))
+calls-near s (fetchText out) = near-one _ (omega arith)
+
+-- ---- numbers that are given
+
+-- fields: no range goes beyond 20000 either way
+abbrev lowest : Field → ℤ
+lowest f = f .base +ℤ pos 1
+
+abbrev top : Field → ℤ
+top f = f .base +ℤ pos (f .highest)
+
+abbrev narrow : Field → Bool
+narrow f = leZ (negsuc 20000) (lowest f) && leZ (top f) (pos 20000)
+
+allNarrow : List Field → Bool
+allNarrow [] = true
+allNarrow (f ∷ fs) = narrow f && allNarrow fs
+
+table-narrow : allNarrow table ≡ true
+unfolding allNarrow table
+table-narrow = refl
+
+between-fits : (a z b : ℤ) → leZ (negsuc 20000) a ≡ true → leZ a z ≡ true → leZ z b ≡ true → leZ b (pos 20000) ≡ true → mag z < 2 ^ 63
+between-fits a (pos n) (pos m) h1 h2 h3 h4 = let x = leb-true n m h3 in let y = leb-true m 20000 h4 in omega arith
+between-fits a (pos n) (negsuc m) h1 h2 h3 h4 = absurd (true-false false h3 refl)
+between-fits (pos m) (negsuc n) b h1 h2 h3 h4 = absurd (true-false false h2 refl)
+between-fits (negsuc m) (negsuc n) b h1 h2 h3 h4 = let x = leb-true n m h2 in let y = leb-true m 20000 h1 in omega arith
+
+entry-fits : (f : Field) (e : Option Scaled) → Fair f e → narrow f ≡ true → NumberFits (valueNumber e)
+unfolding inRange
+entry-fits f none h l = tt
+entry-fits f (some v) h l =
+    let r = and-true (leZ (lowest f) (v .0)) (leZ (v .0) (top f)) (fair-range f v h) in
+    let n = and-true (leZ (negsuc 20000) (lowest f)) (leZ (top f) (pos 20000)) l in
+    between-fits (lowest f) (v .0) (top f) (n .0) (r .0) (r .1) (n .1)
+
+value-fits : {fs : List Field} {es : List (Option Scaled)} → FairAll fs es → allNarrow fs ≡ true → (i : ℕ) → NumberFits (valueNumber (getD es i none))
+unfolding allNarrow
+value-fits nil l i = tt
+value-fits (cons {f = f} {e = e} {fs = fs} h t) l zero = entry-fits f e h (and-true (narrow f) (allNarrow fs) l .0)
+value-fits (cons {f = f} {fs = fs} h t) l (suc i) = value-fits t (and-true (narrow f) (allNarrow fs) l .1) i
+
+-- attachments: 255 nibbles at most
+content-low : {seen : List ℕ} {list : List Attachment} (i : ℕ) → Fine seen list
+    → (length (contentOf i list) ≤ 255) × Nibbles (contentOf i list)
+unfolding contentOf
+content-low i empty = (omega arith, λ k. omega arith)
+content-low i (one {a = a} {more = more} at new f) =
+    cond-case (λ (ns : List ℕ). (length ns ≤ 255) × Nibbles ns) (eqb (a .id) i) (a .content) (contentOf i more)
+    (λ e. (at .short, at .nibbles))
+    (λ e. content-low i f)
+
+gives-fit : (s : Observation) (c : Call) → Good s → GivenFit (gives s c)
+unfolding gives
+gives-fit s (readField k) g = (value-fits (g .fair) table-narrow (k - 1), tt)
+gives-fit s (setField k v) g = tt
+gives-fit s (clearField k) g = tt
+gives-fit s (readFlag j) g =
+    let v = flagAt (content s 1) j in
+    let h = content-low 1 (g .fine) .1 (j - 1) in
+    (cond-case NumberFits (eqb v 0) none (some (pos v)) (λ e. tt) (λ e. omega arith), tt)
+gives-fit s (setFlag j v) g = tt
+gives-fit s (clearFlag j) g = tt
+gives-fit s (put i ns) g = tt
+gives-fit s (fetch i out) g = let h = content-low i (g .fine) .0 in (omega arith, tt)
+gives-fit s (remove i) g = tt
+gives-fit s (putText t) g = tt
+gives-fit s (fetchText out) g = let h = content-low 4 (g .fine) .0 in (omega (arith, read-text-length (content s 4)), tt)
+
+-- ---- answers
+
+step-fits : (n : ℕ) (s : Observation) (c : Call) → Good s → AnswerFits (step n s c .answer)
+unfolding step Near
+step-fits n s c g = go (first (checks n s c)) refl
+  where
+    near : Near (checks n s c)
+    near = unfold checks in near-append (callChecks s c) (roomCheck n s c ∷ []) (calls-near s c) (near-one (roomCheck n s c) (omega arith))
+
+    go : (o : Option Refusal) → first (checks n s c) ≡ o → AnswerFits (steppedBy o s c .answer)
+    go (some r) q = let h = near r q in omega arith
+    go none q = gives-fit s c g
+
+pub effect-fits : (b : List ℕ) (c : Call) → Bytes b → AnswerFits (effect b c .answer)
+unfolding effect
+effect-fits b c h = go (judge b) refl
+  where
+    go : (v : Verdict) → judge b ≡ v → AnswerFits (effectOn v b c .answer)
+    go (Verdict.refused r) q = judge-fits b r q
+    go (Verdict.accepted s) q = step-fits (length b) s c (judged b s h q .good)
+
+-- every answer of a list
+abbrev pub AllFit : List Shown → Type 0
+AllFit [] = Unit {0}
+AllFit (a ∷ more) = AnswerFits (a .answer) × AllFit more
+
+refusals-fit : (r : Refusal) (cs : List Call) → r .place < 2 ^ 64 → AllFit (refusals r cs)
+refusals-fit r [] h = tt
+refusals-fit r (c ∷ cs) h = (h, refusals-fit r cs h)
+
+run-fits : (n : ℕ) (s : Observation) (e : ℕ) (cs : List Call) → Kept n s → AllFit (run n s e cs .answers)
+unfolding run
+run-fits n s e [] k = tt
+run-fits n s e (c ∷ cs) k =
+    let t = step n s c .observation in
+    (step-fits n s c (k .good), run-fits n t (max e (size t)) cs (step-kept n s c k))
+
+pub claim-fits : (b : List ℕ) (cs : List Call) → Bytes b → AllFit (claim b cs .answers)
+unfolding claim
+claim-fits b cs h = go (judge b) refl
+  where
+    go : (v : Verdict) → judge b ≡ v → AllFit (claimOn v b cs .answers)
+    go (Verdict.refused r) q = refusals-fit r cs (judge-fits b r q)
+    go (Verdict.accepted s) q =
+        run-fits (length b) s (size s) cs (record { good = judged b s h q .good; fits = size-within b s h q })
