@@ -146,24 +146,23 @@ fn kinds(script: &str) -> Vec<String> {
         .collect()
 }
 
-/// The shapes of an answer.
-const SHAPES: [(&str, &str); 4] = [
-    ("refused r", "REFUSED"),
-    ("accepted []", "NOTHING"),
-    ("accepted (some z ∷ more)", "VALUE"),
-    ("accepted (none ∷ more)", "MISSING"),
+/// The shapes of an answer, in the log and as numbers.
+const LOGGED: [(&str, &str); 4] = [
+    ("headOf (refused r)", "REFUSED"),
+    ("headOf (accepted [])", "NOTHING"),
+    ("numberHead (some z)", "VALUE"),
+    ("numberHead none", "MISSING"),
+];
+const NUMBERED: [(&str, &str); 3] = [
+    ("numbered (accepted [])", "NOTHING"),
+    ("numberGiven (some z)", "VALUE"),
+    ("numberGiven none", "MISSING"),
 ];
 
 /// The word at a place of what a definition gives for each shape: `headOf (refused r) = 0 ∷ ..`.
-fn by_shape(
-    text: &str,
-    definition: &str,
-    at: usize,
-    shapes: &[(&str, &str)],
-    prefix: &str,
-) -> Vec<String> {
+fn by_shape(text: &str, at: usize, shapes: &[(&str, &str)], prefix: &str) -> Vec<String> {
     let word = |shape: &str| {
-        let start = format!("{definition} ({shape}) = ");
+        let start = format!("{shape} = ");
         let line = text.lines().find_map(|line| line.strip_prefix(&start));
         let word = line.and_then(|line| line.split(' ').nth(at));
         word.unwrap_or_else(|| panic!("{start}is not found"))
@@ -199,13 +198,10 @@ pub fn declared(sources: &Sources) -> Declared {
         ("lmr5_field", fields(sources.table)),
         ("lmr5_contents", contents(&text)),
         ("lmr5_script", kinds(sources.script)),
-        (
-            "lmr5_log",
-            by_shape(sources.script, "headOf", 0, &SHAPES, "LMR5_LOG"),
-        ),
+        ("lmr5_log", by_shape(sources.script, 0, &LOGGED, "LMR5_LOG")),
         (
             "lmr5_given",
-            by_shape(sources.numbered, "numbered", 2, &SHAPES[1..], "LMR5_GIVEN"),
+            by_shape(sources.numbered, 2, &NUMBERED, "LMR5_GIVEN"),
         ),
         ("lmr5_longest", longest(sources.sizes)),
     ];

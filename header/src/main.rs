@@ -106,9 +106,9 @@ mod tests {
     const TABLE: &str = "    field 648 (pos 0) 10 ∷  -- 1 BOX10\n    []\n";
     const SCRIPT: &str = "entryOf (setField k v) = 2 ∷ (bytes8 k)\nentryOf (remove i) = 9 ∷ bytes8 i\n\
         headOf (refused r) = 0 ∷ r .number\nheadOf (accepted []) = 1 ∷ 0\n\
-        headOf (accepted (some z ∷ more)) = 2 ∷ 0\nheadOf (accepted (none ∷ more)) = 3 ∷ 0\n";
+        numberHead (some z) = 2 ∷ 0\nnumberHead none = 3 ∷ 0\n";
     const NUMBERED: &str = "numbered (refused r) = numbers (r .number) 0 (r .place)\nnumbered (accepted []) = numbers 0 0 0\n\
-        numbered (accepted (some z ∷ more)) = numbers 0 1 0\nnumbered (accepted (none ∷ more)) = numbers 0 2 0\n";
+        numberGiven (some z) = numbers 0 1 0\nnumberGiven none = numbers 0 2 0\n";
     const SIZES: &str = "  within : (38 ≤ n) × (n ≤ 1853)\n";
     const HEADER: &str = "#include <stdint.h>\nextern \"C\" {\ntypedef struct lmr5_answer {\n    uint32_t refusal; /* a; b */\n} lmr5_answer;\n\
         enum lmr5_field { LMR5_BOX10 = 1 };\nenum lmr5_contents { LMR5_CONTENTS_WORD = 0 };\n\
