@@ -195,7 +195,7 @@ lmr5_answer lmr5_unpack(const uint8_t *report, size_t report_length, int64_t *va
 /*
  * Writes the report of the values whose bits are set in `word`, of RPTIN and of such a tail, to the front of `out`. The
  * checksum and AC are worked out. Of `values` the first 46 count, and those of missing fields are ignored. `rptin` has 16
- * bits: of a wider number C hands on the low 16, before the library sees it, and no refusal tells.
+ * bits: of a wider number C hands on the low 16 before the library sees it, and no refusal tells of it.
  * Gives the report's size in bytes. Refusals: 13 where `values` is under 46; 8; fields ascending, 10 or 9; 14 for a byte of
  * the tail over 15; 1, 5, 6 for the tail's attachments, as in a report; 13 where `out` is shorter than the report.
  * The rest of `out` stays.

@@ -15,7 +15,7 @@ use Rattle.format.specs.Flags.{weights, weight, totalWeight, allMissing,
 use Rattle.format.specs.ShipText.{charCode, short, pairByte, codeNibbles, classify, byteOf, escapable, isSpace, symbolNibbles, fulls, rest, spaceRun, writeFrom, writeText, spaces, textStep, stateAfter, symbolsOf, readFrom, endFrom, atEnd, textValid, readText}
 use Rattle.format.specs.Observation.{Observation, widths, checksum, cardNumbers, cardNibbles, packing}
 use Rattle.format.specs.Report.{observationOf, codesOf, checksumOf, fieldChecks, bodyValid, attachmentChecks, reportChecks, Verdict, refused, accepted, judge}
-use Rattle.format.specs.Calls.{Call, readField, setField, clearField, readFlag, setFlag, clearFlag, put, fetch, remove, putText, fetchText, stands, contentOf, putIn, removeFrom, withAttachments, edited, Given, gives, outputOf, writes, allNibbles, callChecks, checks, Answer, step}
+use Rattle.format.specs.Calls.{Call, readField, setField, clearField, readFlag, setFlag, clearFlag, put, fetch, remove, putText, fetchText, stands, contentOf, putIn, removeFrom, withAttachments, edited, Quantity, Given, gives, outputOf, writes, allNibbles, callChecks, checks, Answer, step}
 use Rattle.format.specs.Buffer.{layout, effect, Shown, calls, run, claim}
 use Rattle.format.specs.Whole.{freshObservation, freshChecks, Wrote, fresh, presenceFrom, countPresent, Unpacked, unpackGives, unpack, packChecks, entriesGiven, countFrom, packObservation, packOrder, pack}
 use Rattle.format.specs.Lister.{digitsFrom, fieldLines, listing}
@@ -35,6 +35,22 @@ optional (some z) = 1 ∷ signed z
 given : List Given → List ℕ
 given [] = []
 given (g ∷ more) = optional (g .number) ++ given more
+
+-- what the numbers of an answer are, in the order of `Quantity`
+quantityNumber : Quantity → ℕ
+quantityNumber Quantity.value = 1
+quantityNumber Quantity.flag = 2
+quantityNumber Quantity.count = 3
+quantityNumber Quantity.word = 4
+quantityNumber Quantity.present = 5
+quantityNumber Quantity.rptin = 6
+quantityNumber Quantity.attachments = 7
+quantityNumber Quantity.bytes = 8
+quantityNumber Quantity.nibbles = 9
+
+quantities : Answer → List ℕ
+quantities (Answer.refused r) = []
+quantities (Answer.accepted gs) = map (λ (g : Given). quantityNumber (g .quantity)) gs
 
 valueNumbers : List (Option Scaled) → List ℕ
 valueNumbers [] = []
@@ -288,6 +304,13 @@ orders =
     ∷ example (packed wholeValues requiredBits (0 ∷ 1 ∷ 5 ∷ 9 ∷ 0 ∷ 1 ∷ 5 ∷ []) []) (refuses 5 2)
     ∷ example (packed wholeValues requiredBits (0 ∷ 1 ∷ 1 ∷ 9 ∷ []) []) (refuses 6 1)
     ∷ example (packed wholeValues requiredBits (0 ∷ 1 ∷ 5 ∷ 9 ∷ []) (replicate 39 7)) (refuses 13 0 ++ replicate 39 7)
+    -- what each number is
+    ∷ example (quantities (effect textBytes (readField 1) .answer) ++ quantities (effect textBytes (readField 4) .answer)) (1 ∷ 1 ∷ [])
+    ∷ example (quantities (effect (effect roomy put1 .buffer) (readFlag 1) .answer)) (2 ∷ [])
+    ∷ example (quantities (effect textBytes (fetch 4 (replicate 9 7)) .answer) ++ quantities (effect textBytes (fetchText (replicate 9 7)) .answer)) (3 ∷ 3 ∷ [])
+    ∷ example (quantities (effect textBytes (clearField 4) .answer) ++ quantities (effect textBytes (remove 4) .answer)) []
+    ∷ example (quantities (unpack textBytes (replicate 46 (pos 5)) (replicate 7 5) .answer)) (4 ∷ 5 ∷ 6 ∷ 7 ∷ 8 ∷ 9 ∷ [])
+    ∷ example (quantities (pack wholeValues requiredBits 0 [] (replicate 39 7) .answer)) (8 ∷ [])
     -- all 14 bits of CK are compared; a checksum of 0 by a sum of 255 is stored as 0
     ∷ example (judged (judge (reportWith freshCodes 496 0 []))) (refuses 4 0)
     ∷ example (take 1 (judged (judge (reportWith (codesWith 10 15) 0 0 []))) ++ judged (judge (reportWith (codesWith 10 15) 255 0 []))) (1 ∷ refuses 4 0)
@@ -328,5 +351,5 @@ orders =
     ∷ []
 
 pub orders-hold : T (every orders)
-unfolding manyAttachments longTail longReport codesWith codesWithout spoilt one wholeValues numbers packed requiredBits unpackedNumbers orders presenceFrom countPresent unpackGives unpack packChecks entriesGiven countFrom packObservation packOrder pack signed optional given valueNumbers observationNumbers refusal judged answer answers yes refuses example freshExample freshBytes freshObservationExample sBytes textBytes reportWith reportOf highestCodes freshCodes badText flagless put1 flagCalls answersOf roomy wide same every first table fieldAt required scaledOf codedOf inRange entryOf codeOf entries codes bits number bitsOf bitField total readFields writeFields nibbles bytes padded attachmentNibbles tailNibbles attachmentsOf among weights weight totalWeight allMissing qualityCode flagsFit flagBody withFlag flagsValid charCode short pairByte codeNibbles classify byteOf escapable isSpace symbolNibbles fulls rest spaceRun writeFrom writeText spaces textStep stateAfter symbolsOf readFrom endFrom atEnd textValid readText widths checksum cardNumbers cardNibbles packing observationOf fieldChecks bodyValid attachmentChecks reportChecks judge stands contentOf putIn removeFrom edited gives outputOf writes allNibbles callChecks checks step layout effect calls run claim freshObservation freshChecks fresh digitsFrom fieldLines listing
+unfolding manyAttachments longTail longReport codesWith codesWithout spoilt one wholeValues numbers packed requiredBits unpackedNumbers orders presenceFrom countPresent unpackGives unpack packChecks entriesGiven countFrom packObservation packOrder pack quantityNumber quantities signed optional given valueNumbers observationNumbers refusal judged answer answers yes refuses example freshExample freshBytes freshObservationExample sBytes textBytes reportWith reportOf highestCodes freshCodes badText flagless put1 flagCalls answersOf roomy wide same every first table fieldAt required scaledOf codedOf inRange entryOf codeOf entries codes bits number bitsOf bitField total readFields writeFields nibbles bytes padded attachmentNibbles tailNibbles attachmentsOf among weights weight totalWeight allMissing qualityCode flagsFit flagBody withFlag flagsValid charCode short pairByte codeNibbles classify byteOf escapable isSpace symbolNibbles fulls rest spaceRun writeFrom writeText spaces textStep stateAfter symbolsOf readFrom endFrom atEnd textValid readText widths checksum cardNumbers cardNibbles packing observationOf fieldChecks bodyValid attachmentChecks reportChecks judge stands contentOf putIn removeFrom edited gives outputOf writes allNibbles callChecks checks step layout effect calls run claim freshObservation freshChecks fresh digitsFrom fieldLines listing
 orders-hold = tt

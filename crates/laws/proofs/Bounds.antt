@@ -224,26 +224,26 @@ effect-fits b c h = go (judge b) refl
     go (Verdict.accepted s) q = step-fits (length b) s c (judged b s h q .good)
 
 -- every answer of a list
-abbrev pub AllFit : List Shown → Type 0
-AllFit [] = Unit {0}
-AllFit (a ∷ more) = AnswerFits (a .answer) × AllFit more
+abbrev pub AnswersFit : List Shown → Type 0
+AnswersFit [] = Unit {0}
+AnswersFit (a ∷ more) = AnswerFits (a .answer) × AnswersFit more
 
-refusals-fit : (r : Refusal) (cs : List Call) → r .place < 2 ^ 64 → AllFit (refusals r cs)
+refusals-fit : (r : Refusal) (cs : List Call) → r .place < 2 ^ 64 → AnswersFit (refusals r cs)
 refusals-fit r [] h = tt
 refusals-fit r (c ∷ cs) h = (h, refusals-fit r cs h)
 
-run-fits : (n : ℕ) (s : Observation) (e : ℕ) (cs : List Call) → Kept n s → AllFit (run n s e cs .answers)
+run-fits : (n : ℕ) (s : Observation) (e : ℕ) (cs : List Call) → Kept n s → AnswersFit (run n s e cs .answers)
 unfolding run
 run-fits n s e [] k = tt
 run-fits n s e (c ∷ cs) k =
     let t = step n s c .observation in
     (step-fits n s c (k .good), run-fits n t (max e (size t)) cs (step-kept n s c k))
 
-pub claim-fits : (b : List ℕ) (cs : List Call) → Bytes b → AllFit (claim b cs .answers)
+pub claim-fits : (b : List ℕ) (cs : List Call) → Bytes b → AnswersFit (claim b cs .answers)
 unfolding claim
 claim-fits b cs h = go (judge b) refl
   where
-    go : (v : Verdict) → judge b ≡ v → AllFit (claimOn v b cs .answers)
+    go : (v : Verdict) → judge b ≡ v → AnswersFit (claimOn v b cs .answers)
     go (Verdict.refused r) q = refusals-fit r cs (judge-fits b r q)
     go (Verdict.accepted s) q =
         run-fits (length b) s (size s) cs (record { good = judged b s h q .good; fits = size-within b s h q })

@@ -20,8 +20,8 @@ abbrev pub numberGiven : Option ℤ → Answer
 numberGiven (some z) = numbers 0 1 0 z
 numberGiven none = numbers 0 2 0 (pos 0)
 
--- the refusal's number and place, 0 where it is accepted; then 0 where nothing is given, or the number that is. What the
--- number is, the call tells
+-- the refusal's number and place, 0 where it is accepted; then 0 where nothing is given, else as above. What the number is,
+-- the call tells
 abbrev pub numbered : call.Answer → Answer
 numbered (refused r) = numbers (r .number) 0 (r .place) (pos 0)
 numbered (accepted []) = numbers 0 0 0 (pos 0)

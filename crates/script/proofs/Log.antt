@@ -21,10 +21,9 @@ use Rattle.format.specs.Buffer.{Shown, effectOn, effect, run, refusals, claimOn
 use Rattle.format.specs.Reply.{refusal}
 use Rattle.laws.proofs.Lists.{or-false}
 use Rattle.laws.proofs.Order.{first-none, first-append-none}
-use Rattle.laws.proofs.Bounds.{GivenFit, AnswerFits, claim-fits}
-use Rattle.laws.proofs.Bounds as bounds
+use Rattle.laws.proofs.Bounds.{NumberFits, GivenFit, AnswerFits, AnswersFit, claim-fits}
 use Rattle.words.specs.Words.{unsigned}
-use Rattle.script.specs.Script.{bytes8, numberAt, recordSize, numberHead, headOf, recordOf, records, quantityOf, givenAt, answerAt, answersIn}
+use Rattle.script.specs.Script.{bytes8, numberAt, recordSize, numberHead, headOf, recordOf, records, quantities, numbersAt, labelled, answerAt, answersIn}
 use Rattle.script.proofs.Numbers.{length-bytes8, number-at, signed-unsigned, unsigned-lt}
 
 -- ---- lengths
@@ -66,47 +65,49 @@ effect-out b c = go (judge b)
 
 -- ---- an answer read back
 
--- what a call gives is one number of its quantity, or nothing
-abbrev OfQuantity : Option Quantity → List Given → Type 0
-OfQuantity none gs = gs ≡ []
-OfQuantity (some q) gs = (n : Option ℤ) × (gs ≡ given q n ∷ [])
+-- what is given has these quantities, of which a record has room for one
+abbrev OfQuantities : List Quantity → List Given → Type 0
+OfQuantities [] gs = gs ≡ []
+OfQuantities (q ∷ []) gs = (n : Option ℤ) × (gs ≡ given q n ∷ [])
+OfQuantities (q ∷ p ∷ more) gs = ⊥
 
-gives-quantity : (s : Observation) (c : Call) → OfQuantity (quantityOf c) (gives s c)
-unfolding quantityOf gives
-gives-quantity s (readField k) = (_, refl)
-gives-quantity s (setField k v) = refl
-gives-quantity s (clearField k) = refl
-gives-quantity s (readFlag j) = (_, refl)
-gives-quantity s (setFlag j v) = refl
-gives-quantity s (clearFlag j) = refl
-gives-quantity s (put i ns) = refl
-gives-quantity s (fetch i out) = (_, refl)
-gives-quantity s (remove i) = refl
-gives-quantity s (putText t) = refl
-gives-quantity s (fetchText out) = (_, refl)
+gives-quantities : (s : Observation) (c : Call) → OfQuantities (quantities c) (gives s c)
+unfolding quantities gives
+gives-quantities s (readField k) = (_, refl)
+gives-quantities s (setField k v) = refl
+gives-quantities s (clearField k) = refl
+gives-quantities s (readFlag j) = (_, refl)
+gives-quantities s (setFlag j v) = refl
+gives-quantities s (clearFlag j) = refl
+gives-quantities s (put i ns) = refl
+gives-quantities s (fetch i out) = (_, refl)
+gives-quantities s (remove i) = refl
+gives-quantities s (putText t) = refl
+gives-quantities s (fetchText out) = (_, refl)
 
--- the answer that a record of this quantity tells
-abbrev told : Option Quantity → List ℕ → Answer
-told q s = cond (eqb (getD s 0 0) 0) (refusal (getD s 1 0) (numberAt s 2)) (accepted (givenAt q s))
+-- the answer that a record tells, with numbers of these quantities
+abbrev answerTold : List Quantity → List ℕ → Answer
+answerTold qs s = cond (eqb (getD s 0 0) 0) (refusal (getD s 1 0) (numberAt s 2)) (accepted (labelled qs (numbersAt s)))
 
-number-back : (q : Quantity) (n : Option ℤ) (rest : List ℕ) → bounds.NumberFits n → told (some q) (numberHead n ++ rest) ≡ accepted (given q n ∷ [])
+number-back : (q : Quantity) (n : Option ℤ) (rest : List ℕ) → NumberFits n → answerTold (q ∷ []) (numberHead n ++ rest) ≡ accepted (given q n ∷ [])
 number-back q none rest h = refl
 number-back q (some z) rest h = rw (number-at (2 ∷ 0 ∷ []) 2 refl (unsigned z) rest (unsigned-lt z h), signed-unsigned z h)
 
-given-back : (q : Option Quantity) (gs : List Given) (rest : List ℕ) → OfQuantity q gs → GivenFit gs → told q (headOf (accepted gs) ++ rest) ≡ accepted gs
+given-back : (qs : List Quantity) (gs : List Given) (rest : List ℕ) → OfQuantities qs gs → GivenFit gs → answerTold qs (headOf (accepted gs) ++ rest) ≡ accepted gs
 unfolding headOf
-given-back none gs rest e h = rw e
-given-back (some q) gs rest e h = rw (e .1) (number-back q (e .0) rest (subst GivenFit (e .1) h .0))
+given-back [] gs rest e h = rw e
+given-back (q ∷ []) gs rest e h = rw (e .1) (number-back q (e .0) rest (subst GivenFit (e .1) h .0))
+given-back (q ∷ p ∷ more) gs rest e h = absurd e
 
 -- a call's answer: a refusal, or what such a call gives
 abbrev Answers : Call → Answer → Type 0
 Answers c (refused r) = Unit {0}
-Answers c (accepted gs) = OfQuantity (quantityOf c) gs
+Answers c (accepted gs) = OfQuantities (quantities c) gs
 
 answer-back : (c : Call) (a : Answer) (rest : List ℕ) → Answers c a → AnswerFits a → answerAt c (headOf a ++ rest) ≡ a
 unfolding answerAt
 answer-back c (refused r) rest t h = unfold headOf in rw (number-at (0 ∷ r .number ∷ []) 2 refl (r .place) rest h)
-answer-back c (accepted gs) rest t h = given-back (quantityOf c) gs rest t h
+answer-back c (accepted gs) rest t h = given-back (quantities c) gs rest t h
 
 -- ---- the answers of a list read back
 
@@ -117,7 +118,7 @@ Shapes [] (a ∷ more) = ⊥
 Shapes (c ∷ cs) [] = ⊥
 Shapes (c ∷ cs) (a ∷ more) = Answers c (a .answer) × (length (a .out) ≡ length (outputOf c)) × Shapes cs more
 
-answers-back : (cs : List Call) (more : List Shown) (rest : List ℕ) → Shapes cs more → bounds.AllFit more → answersIn cs (records more ++ rest) ≡ more
+answers-back : (cs : List Call) (more : List Shown) (rest : List ℕ) → Shapes cs more → AnswersFit more → answersIn cs (records more ++ rest) ≡ more
 unfolding answersIn records recordOf recordSize
 answers-back [] [] rest s f = refl
 answers-back [] (a ∷ more) rest s f = absurd s
@@ -140,7 +141,7 @@ step-shape n s c = go (first (checks n s c))
   where
     go : (o : Option Refusal) → Answers c (steppedBy o s c .answer)
     go (some r) = tt
-    go none = gives-quantity s c
+    go none = gives-quantities s c
 
 run-shapes : (n : ℕ) (s : Observation) (e : ℕ) (cs : List Call) → Shapes cs (run n s e cs .answers)
 unfolding run

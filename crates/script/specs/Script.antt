@@ -164,28 +164,35 @@ records (a ∷ more) = recordOf a ++ records more
 
 -- ---- the log read back
 
--- what the number is that a call gives
-unfoldable pub quantityOf : Call → Option Quantity
-quantityOf (readField k) = some value
-quantityOf (setField k v) = none
-quantityOf (clearField k) = none
-quantityOf (readFlag j) = some flag
-quantityOf (setFlag j v) = none
-quantityOf (clearFlag j) = none
-quantityOf (put i ns) = none
-quantityOf (fetch i out) = some count
-quantityOf (remove i) = none
-quantityOf (putText t) = none
-quantityOf (fetchText out) = some count
+-- what the numbers are that a call gives
+unfoldable pub quantities : Call → List Quantity
+quantities (readField k) = value ∷ []
+quantities (setField k v) = []
+quantities (clearField k) = []
+quantities (readFlag j) = flag ∷ []
+quantities (setFlag j v) = []
+quantities (clearFlag j) = []
+quantities (put i ns) = []
+quantities (fetch i out) = count ∷ []
+quantities (remove i) = []
+quantities (putText t) = []
+quantities (fetchText out) = count ∷ []
 
--- the number of this quantity that a record tells, or that it is missing
-abbrev pub givenAt : Option Quantity → List ℕ → List Given
-givenAt none s = []
-givenAt (some q) s = given q (cond (eqb (getD s 0 0) 2) (some (signed (numberAt s 2))) none) ∷ []
+-- the numbers that a record tells, and what they are
+abbrev pub numbersAt : List ℕ → List (Option ℤ)
+numbersAt s =
+    cond (eqb (getD s 0 0) 1) []
+    (cond (eqb (getD s 0 0) 2) (some (signed (numberAt s 2)) ∷ []) (none ∷ []))
+
+abbrev pub labelled : List Quantity → List (Option ℤ) → List Given
+labelled [] ns = []
+labelled (q ∷ qs) [] = []
+labelled (q ∷ qs) (n ∷ ns) = given q n ∷ labelled qs ns
 
 -- the answer that a call's record tells
 unfoldable pub answerAt : Call → List ℕ → Answer
-answerAt c s = cond (eqb (getD s 0 0) 0) (refusal (getD s 1 0) (numberAt s 2)) (accepted (givenAt (quantityOf c) s))
+answerAt c s =
+    cond (eqb (getD s 0 0) 0) (refusal (getD s 1 0) (numberAt s 2)) (accepted (labelled (quantities c) (numbersAt s)))
 
 -- the answers to a list of calls and their outputs, as its records tell them
 unfoldable pub answersIn : List Call → List ℕ → List Shown

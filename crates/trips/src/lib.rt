@@ -40,8 +40,8 @@ pub fn restore(s: &[u8], values: &mut [i64], tail: &mut [u8], out: &mut [u8]) ->
     }
 }
 
-// How much of an output pack is lent: nothing where the outputs of unpack are too short, so that pack refuses, by a refusal of
-// its own that comes before or by 13.
+// How much of an output pack is lent: nothing where the outputs of unpack are too short, so that pack refuses, by one of its
+// refusals before 13, or by 13.
 fn room(values: usize, tail_out: usize, tail: usize, out: usize) -> usize
     ensures { λ r. ⌜ r ≡ cond (ltb values 46 || ltb «tail_out» tail) 0 out ⌝ }
 {
