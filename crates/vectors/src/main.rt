@@ -7,8 +7,7 @@ use report::Judged;
 use unpack::Unpacked;
 use vector_io::Kind;
 
-fn judge_in(s: &mut [u8]) {
-    vector_io::get_bytes(s);
+fn judge_in(s: &[u8]) {
     let j = report::judge(s);
     match j {
         Judged::Refused(number, place) => vector_io::put_refused(number, place),
@@ -16,49 +15,26 @@ fn judge_in(s: &mut [u8]) {
     }
 }
 
-fn judge_one() {
-    let mut s = [0u8; 2000];
-    let n = vector_io::get_length(2000);
-    judge_in(&mut s[..n]);
+fn list_in(s: &[u8]) {
+    let mut lines = [0u8; 512];
+    let n = listing::list(s, &mut lines);
+    vector_io::put_bytes(&lines[..n]);
 }
 
-fn put_compared(r: Compared) {
-    match r {
+fn same_second(a: &[u8], b: &mut [u8]) {
+    vector_io::get_bytes(b);
+    let c = report::same(a, b);
+    match c {
         Compared::Refused(number, place) => vector_io::put_refused(number, place),
         Compared::Same => vector_io::put_head(2, 0, 1),
         Compared::Different => vector_io::put_head(2, 0, 0),
     }
 }
 
-fn same_second(a: &[u8], b: &mut [u8]) {
-    vector_io::get_bytes(b);
-    put_compared(report::same(a, b));
-}
-
-fn same_first(a: &mut [u8]) {
-    vector_io::get_bytes(a);
+fn same_in(a: &[u8]) {
     let mut b = [0u8; 2000];
     let n = vector_io::get_length(2000);
     same_second(a, &mut b[..n]);
-}
-
-fn same_one() {
-    let mut a = [0u8; 2000];
-    let n = vector_io::get_length(2000);
-    same_first(&mut a[..n]);
-}
-
-fn list_in(s: &mut [u8]) {
-    vector_io::get_bytes(s);
-    let mut lines = [0u8; 512];
-    let n = listing::list(s, &mut lines);
-    vector_io::put_bytes(&lines[..n]);
-}
-
-fn list_one() {
-    let mut s = [0u8; 2000];
-    let n = vector_io::get_length(2000);
-    list_in(&mut s[..n]);
 }
 
 fn put_started(r: Started) {
@@ -159,18 +135,28 @@ fn unpack_values(s: &[u8], values: &mut [i64], trip: bool) {
     unpack_tail(s, values, &mut tail[..n], trip);
 }
 
-fn unpack_in(s: &mut [u8], trip: bool) {
-    vector_io::get_bytes(s);
+// A report unpacked; with trip, packed again.
+fn unpack_in(s: &[u8], trip: bool) {
     let mut values = [0i64; 60];
     let n = vector_io::get_length(60);
     unpack_values(s, &mut values[..n], trip);
 }
 
-// A report unpacked; with trip, packed again.
-fn unpack_one(trip: bool) {
+fn report_in(kind: u8, s: &mut [u8]) {
+    vector_io::get_bytes(s);
+    match kind {
+        1 => judge_in(s),
+        2 => list_in(s),
+        6 => same_in(s),
+        _ => unpack_in(s, kind == 7),
+    }
+}
+
+// A vector that begins with a report.
+fn report_one(kind: u8) {
     let mut s = [0u8; 2000];
     let n = vector_io::get_length(2000);
-    unpack_in(&mut s[..n], trip);
+    report_in(kind, &mut s[..n]);
 }
 
 fn recover_tail(
@@ -255,14 +241,9 @@ fn one() -> bool {
         return false;
     };
     match kind {
-        1 => judge_one(),
-        2 => list_one(),
+        1 | 2 | 4 | 6 | 7 => report_one(kind),
         3 => fresh_one(),
-        4 => unpack_one(false),
-        5 => pack_one(false),
-        6 => same_one(),
-        7 => unpack_one(true),
-        8 => pack_one(true),
+        5 | 8 => pack_one(kind == 8),
         _ => return false,
     }
     true

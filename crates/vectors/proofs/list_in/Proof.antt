@@ -4,9 +4,6 @@ use Rattle.listing.proofs.Lines.{listed-within, listed-taken}
 use Rattle.vectors.proofs.list_in.Statement.{statement}
 use Rattle.vectors.proofs.list_in.Tie as tie
 
-get-bytes-requires : tie.Need-get-bytes-requires
-get-bytes-requires c κs = search needs
-
 list-requires : tie.Need-list-requires
 list-requires c κs = search needs
 
@@ -19,12 +16,15 @@ slice-aggregate-put-bytes c = listed-taken _ _ _ _ (c .before .list .ensures .0)
 put-bytes-requires : tie.Need-put-bytes-requires
 put-bytes-requires c κs = search needs
 
-same-length : tie.Need-same-length
-same-length c = search needs
-
 returns : tie.Need-returns
 returns c = search needs
 
 pub list-in-spec : {M : Type 1} → statement M
 list-in-spec =
-    tie.close (tie.spec get-bytes-requires list-requires array-share-prefix-lines slice-aggregate-put-bytes put-bytes-requires same-length returns)
+    tie.close
+    (tie.spec
+    list-requires
+    array-share-prefix-lines
+    slice-aggregate-put-bytes
+    put-bytes-requires
+    returns)

@@ -5,9 +5,6 @@ use borrow.Author.Needs.{needs}
 use Rattle.vectors.proofs.unpack_in.Statement.{statement}
 use Rattle.vectors.proofs.unpack_in.Tie as tie
 
-get-bytes-requires : tie.Need-get-bytes-requires
-get-bytes-requires c κs = search needs
-
 get-length-requires : tie.Need-get-length-requires
 get-length-requires c κs = search needs
 
@@ -15,13 +12,10 @@ array-borrow-prefix-values : tie.Need-array-borrow-prefix-values
 array-borrow-prefix-values c = search needs
 
 slice-aggregate-unpack-values : tie.Need-slice-aggregate-unpack-values
-slice-aggregate-unpack-values c = sym (length-take-le _ _ (c .before .before .get-length .ensures))
+slice-aggregate-unpack-values c = sym (length-take-le _ _ (c .before .get-length .ensures))
 
 unpack-values-requires : tie.Need-unpack-values-requires
 unpack-values-requires c κs = search needs
-
-same-length : tie.Need-same-length
-same-length c = search needs
 
 returns : tie.Need-returns
 returns c = search needs
@@ -30,10 +24,8 @@ pub unpack-in-spec : {M : Type 1} → statement M
 unpack-in-spec =
     tie.close
     (tie.spec
-    get-bytes-requires
     get-length-requires
     array-borrow-prefix-values
     slice-aggregate-unpack-values
     unpack-values-requires
-    same-length
     returns)
