@@ -83,7 +83,7 @@ count-from (a ∷ more) k r =
     rw (e, behind-at a more r, count-from more k r) (omega arith)
 
 -- nothing is counted from no nibbles, and from no others
-count-nil : (k : ℕ) → countFrom k [] ≡ 0
+pub count-nil : (k : ℕ) → countFrom k [] ≡ 0
 unfolding countFrom
 count-nil zero = refl
 count-nil (suc k) = refl

@@ -109,7 +109,7 @@ report-near b =
     (λ p. near-append (attachmentChecks (countOf b) 1 [] (tailOf b)) _ (attachments-near (countOf b) 1 [] (tailOf b) (omega (arith, count-low b)))
     (near-one _ (omega arith)))))
 
-pub judge-fits : (b : List ℕ) (r : Refusal) → judge b ≡ Verdict.refused r → r .place < 2 ^ 64
+judge-fits : (b : List ℕ) (r : Refusal) → judge b ≡ Verdict.refused r → r .place < 2 ^ 64
 unfolding judge Near
 judge-fits b r = go (first (reportChecks b)) refl
   where

@@ -105,7 +105,7 @@ pub record Packs (n : ℕ) (values : List ℤ) (word rptin : ℕ) (ns : List ℕ
   pub attachments : first (attachmentChecks (countIn ns) 1 [] ns) ≡ none
   pub room : size (packObservation values word rptin ns) ≤ n
 
-pub packs : (n : ℕ) (values : List ℤ) (word rptin : ℕ) (ns : List ℕ) → first (packOrder n values word rptin ns) ≡ none → Packs n values word rptin ns
+packs : (n : ℕ) (values : List ℤ) (word rptin : ℕ) (ns : List ℕ) → first (packOrder n values word rptin ns) ≡ none → Packs n values word rptin ns
 unfolding packOrder
 packs n values word rptin ns e =
     let c1 = first-none _ _ e in
@@ -210,7 +210,7 @@ module _ (n : ℕ) (values : List ℤ) (word rptin : ℕ) (ns : List ℕ) (e : f
   unfolding packObservation
   pack-count = walked .count
 
-  pub pack-tail : tail (packObservation values word rptin ns) ≡ ns
+  pack-tail : tail (packObservation values word rptin ns) ≡ ns
   unfolding packObservation
   pack-tail = sym (count-all ns (all-nibbles ns (passed .nibbles)) (passed .attachments))
 

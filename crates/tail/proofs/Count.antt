@@ -12,6 +12,7 @@ use Rattle.format.specs.Order.{Refusal, first}
 use Rattle.format.specs.Nibbles.{behind, Nibbles}
 use Rattle.format.specs.Report.{attachmentChecks}
 use Rattle.format.specs.Whole.{countFrom, countIn}
+use Rattle.laws.proofs.Attachments.{count-nil}
 use Rattle.nibble.specs.View.{from}
 use Rattle.nibble.specs.declared.Cursor.{Cursor}
 use Rattle.tail.specs.Look.{lookedAt, passedBy}
@@ -29,11 +30,6 @@ count-step : (n : ℕ) (ns : List ℕ) → 0 < length ns → countFrom (suc n) n
 unfolding countFrom
 count-step n [] h = absurd (omega arith)
 count-step n (x ∷ ns) h = refl
-
-count-nil : (n : ℕ) → countFrom n [] ≡ 0
-unfolding countFrom
-count-nil zero = refl
-count-nil (suc n) = refl
 
 -- the cursor at a tail, one nibble a byte
 abbrev atTail : Cursor
