@@ -39,8 +39,8 @@ example: lib/liblmr5.a
 # Makes the test vectors of the gate anew, byte for byte, from the unrelated implementation.
 vectors:
 	@command -v cargo >/dev/null || { echo 'make vectors: cargo is not on the PATH' >&2; exit 1; }
-	cd reference && cargo run --release --quiet --bin gate-whole -- ../crates/vectors
-	cd reference && cargo run --release --quiet --bin gate-lists -- ../crates/lists
+	cd reference && cargo run --release --quiet --bin gate-reports -- ../crates/test_reports
+	cd reference && cargo run --release --quiet --bin gate-scripts -- ../crates/test_scripts
 
 # The tests of the unrelated implementation.
 reference-test:

@@ -58,10 +58,10 @@ static void print_report(const uint8_t *report, size_t length)
     for (k = LMR5_BOX10; k <= LMR5_A6; k++) {
         lmr5_answer a = lmr5_read_field(report, length, k);
         if (a.given == LMR5_GIVEN_VALUE)
-            printf("  %s %ld", field_names[k], (long)a.value);
+            printf("  %s %ld", field_names[k], (long)a.first);
     }
-    if (flag.given == LMR5_GIVEN_VALUE)
-        printf("; flag of S %c\n", letters[flag.value - 1]);
+    if (flag.given == LMR5_GIVEN_FLAG)
+        printf("; flag of S %c\n", letters[flag.first - 1]);
     else
         printf("; flag of S missing\n");
 }
@@ -135,8 +135,8 @@ int main(int argc, char **argv)
     printf("after: ");
     print_report(buffer, sizeof buffer);
     a = lmr5_judge(buffer, sizeof buffer);
-    if (is_refused("report", a) || !write_report(argv[2], buffer, (size_t)a.value))
+    if (is_refused("report", a) || !write_report(argv[2], buffer, (size_t)a.first))
         return 1;
-    printf("%s: %ld bytes\n", argv[2], (long)a.value);
+    printf("%s: %ld bytes\n", argv[2], (long)a.first);
     return 0;
 }

@@ -19,8 +19,8 @@
  * report takes 38 to LMR5_LONGEST_REPORT bytes, and a longer buffer leaves room for attachments.
  *
  * WHAT A CALL ANSWERS
- * An lmr5_answer. Accepted: `refusal` and `place` are 0, and `given` says whether there is a value. Refused: `refusal` is
- * one of enum lmr5_refusal, `place` says where, `given` and `value` are 0, and no byte of any buffer has changed.
+ * An lmr5_answer. Accepted: `refusal` and `place` are 0, and `given` says what numbers there are. Refused: `refusal` is one
+ * of enum lmr5_refusal, `place` says where, all else is 0, and no byte of any buffer has changed.
  *
  * THE REPORT IS CHECKED FIRST by every call that takes one, whatever its arguments are. The first of these that fits is the
  * refusal, "the report's refusals" below:
@@ -44,15 +44,31 @@ extern "C" {
 /* What a call answers. */
 typedef struct lmr5_answer {
     uint32_t refusal; /* 0: accepted; else enum lmr5_refusal */
-    uint32_t given;   /* enum lmr5_given */
+    uint32_t given;   /* the labels of the numbers below; 0: there is none */
     uint64_t place;   /* of the refusal: a field, a flag or an attachment's position from 1; else 0 */
-    int64_t value;    /* where `given` is LMR5_GIVEN_VALUE; else 0 */
+    int64_t first;    /* the numbers; 0 where one is missing or not given */
+    int64_t second;
+    int64_t third;
 } lmr5_answer;
 
+/*
+ * A label is a byte that says what a number is. The lowest byte of `given` is the label of `first`, the next that of `second`,
+ * the one after that of `third`; the highest is 0. A call that gives one number has its label alone in `given`. Where the
+ * number is missing, its label has LMR5_GIVEN_MISSING added: a missing field is LMR5_GIVEN_VALUE + LMR5_GIVEN_MISSING.
+ * No answer has labels 4 to 7 or 9 yet: lmr5_unpack stores those numbers in `contents`.
+ */
 enum lmr5_given {
-    LMR5_GIVEN_NOTHING = 0, /* refused, or accepted and there is nothing to give */
-    LMR5_GIVEN_VALUE = 1,   /* `value` has it */
-    LMR5_GIVEN_MISSING = 2  /* the field or the flag is missing; that is not 0 */
+    LMR5_GIVEN_NOTHING = 0,     /* no number */
+    LMR5_GIVEN_VALUE = 1,       /* a field's value */
+    LMR5_GIVEN_FLAG = 2,        /* a flag's value */
+    LMR5_GIVEN_COUNT = 3,       /* how many bytes a fetch wrote */
+    LMR5_GIVEN_WORD = 4,        /* a presence word */
+    LMR5_GIVEN_PRESENT = 5,     /* how many fields are present */
+    LMR5_GIVEN_RPTIN = 6,
+    LMR5_GIVEN_ATTACHMENTS = 7, /* AC, how many attachments */
+    LMR5_GIVEN_BYTES = 8,       /* a report's size in bytes */
+    LMR5_GIVEN_NIBBLES = 9,     /* so many nibbles */
+    LMR5_GIVEN_MISSING = 128    /* added to a label: the number is missing, which is not 0 */
 };
 
 enum lmr5_refusal {
@@ -175,12 +191,12 @@ lmr5_answer lmr5_fresh(int64_t box10, int64_t year, int64_t month, int64_t x, in
 
 /* The places of what lmr5_unpack gives in `contents`. */
 enum lmr5_contents {
-    LMR5_CONTENTS_WORD = 0,    /* the presence word: bit k (the lowest is 0) says that field k is present */
-    LMR5_CONTENTS_PRESENT = 1, /* how many fields are present */
+    LMR5_CONTENTS_WORD = 0,        /* the presence word: bit k (the lowest is 0) says that field k is present */
+    LMR5_CONTENTS_PRESENT = 1,     /* how many fields are present */
     LMR5_CONTENTS_RPTIN = 2,
-    LMR5_CONTENTS_COUNT = 3,   /* AC, how many attachments */
-    LMR5_CONTENTS_SIZE = 4,    /* the report's size in bytes */
-    LMR5_CONTENTS_TAIL = 5     /* the tail's length in nibbles */
+    LMR5_CONTENTS_ATTACHMENTS = 3, /* AC, how many attachments */
+    LMR5_CONTENTS_BYTES = 4,       /* the report's size in bytes */
+    LMR5_CONTENTS_NIBBLES = 5      /* the tail's length in nibbles */
 };
 
 /*
@@ -275,14 +291,19 @@ lmr5_answer lmr5_fetch_text(const uint8_t *report, size_t report_length, uint8_t
  *   LMR5_SCRIPT_SET_FLAG     5      flag, value                        17
  *   LMR5_SCRIPT_CLEAR_FLAG   6      flag                               9
  *   LMR5_SCRIPT_PUT          7      id, n, n bytes of content          17 + n
- *   LMR5_SCRIPT_FETCH        8      id, n, n bytes of output          17 + n
+ *   LMR5_SCRIPT_FETCH        8      id, n, n bytes of output           17 + n
  *   LMR5_SCRIPT_DROP         9      id                                 9
  *   LMR5_SCRIPT_PUT_TEXT     10     n, n bytes of text                 9 + n
- *   LMR5_SCRIPT_FETCH_TEXT   11     n, n bytes of output              9 + n
+ *   LMR5_SCRIPT_FETCH_TEXT   11     n, n bytes of output               9 + n
  *
- * The log holds a record of each call: a byte, the tag; a byte, the refusal's number or 0; and 8 bytes, the refusal's place,
- * the value that was given (in two's complement) or 0, the highest first. A fetch's record has the n bytes of its output
- * after the call behind these 10.
+ * The log holds a record of each call, 37 bytes and then its outputs:
+ *   - 10 bytes: enum lmr5_log; the refusal's number; its place in 8 bytes, the highest first. Number and place are 0 where
+ *     the call is accepted.
+ *   - A row of three numbers, 9 bytes each: a label, and the number in 8 bytes, the highest first, in two's complement. The
+ *     number is 0 where it is missing. All 9 are 0 where there is no such number, and so all 27 where the call is refused.
+ *     READ_FIELD, READ_FLAG, FETCH and FETCH_TEXT give one number, the others none.
+ *   - The outputs after the call, whole and in their order. A fetch has one, of n bytes; the others have none.
+ * So a record takes 37 bytes, for a fetch n more, whether the call is accepted or not.
  */
 enum lmr5_script {
     LMR5_SCRIPT_READ_FIELD = 1,
@@ -298,11 +319,10 @@ enum lmr5_script {
     LMR5_SCRIPT_FETCH_TEXT = 11
 };
 
+/* The first byte of a record. */
 enum lmr5_log {
     LMR5_LOG_REFUSED = 0,
-    LMR5_LOG_NOTHING = 1, /* accepted, and nothing is given */
-    LMR5_LOG_VALUE = 2,
-    LMR5_LOG_MISSING = 3
+    LMR5_LOG_ACCEPTED = 1
 };
 
 /* How many calls of a script were performed, and how many bytes of script and log they took. */

@@ -1,11 +1,12 @@
 //! Both sides' answers and bytes against each other and against the unrelated
 //! implementation.
 
-use reference::call::{Call, Given};
+use reference::call::Call;
 use reference::cases::random::random_call;
 use reference::cases::{Case, Outcome, fixed, random};
 use reference::gate::script;
 use reference::judge::judge;
+use reference::number::Number;
 use reference::outside::Unpacked;
 use reference::prng::Prng;
 use reference::refusal::Refusal;
@@ -31,38 +32,29 @@ fn refusal(number: u8, place: u64) -> Answer {
     }
 }
 
-fn given(value: i64) -> Answer {
-    Answer {
-        given: 1,
-        value,
-        ..Answer::default()
-    }
-}
-
-fn missing() -> Answer {
-    Answer {
-        given: 2,
-        ..Answer::default()
-    }
-}
-
 fn of_fast(answer: fast::Answer) -> Answer {
     match answer {
         Err(r) => refusal(r.number, r.place.into()),
-        Ok(fast::Given::Nothing) => Answer::default(),
-        Ok(fast::Given::Value(v)) => given(v),
-        Ok(fast::Given::Missing) => missing(),
+        Ok(given) => Answer {
+            given: given.label as u32,
+            first: given.number,
+            ..Answer::default()
+        },
     }
 }
 
-fn of_reference(answer: Result<Given, Refusal>) -> Answer {
-    match answer {
-        Err(r) => refusal(r.number, r.place as u64),
-        Ok(Given::Nothing) => Answer::default(),
-        Ok(Given::Value(Some(v))) => given(v),
-        Ok(Given::Value(None)) => missing(),
-        Ok(Given::Count(n)) => given(n as i64),
+fn of_reference(answer: Result<Vec<Number>, Refusal>) -> Answer {
+    let numbers = match answer {
+        Err(r) => return refusal(r.number, r.place as u64),
+        Ok(numbers) => numbers,
+    };
+    let mut answer = Answer::default();
+    let places = [&mut answer.first, &mut answer.second, &mut answer.third];
+    for (index, (number, place)) in numbers.iter().zip(places).enumerate() {
+        answer.given |= u32::from(number.label()) << (8 * index);
+        *place = number.value.unwrap_or(0);
     }
+    answer
 }
 
 impl Side {
@@ -98,7 +90,7 @@ impl Side {
                     c.size.into(),
                     c.tail.into(),
                 ];
-                (of_fast(answer.map(|()| fast::Given::Nothing)), contents)
+                (of_fast(answer.map(|()| fast::Given::NOTHING)), contents)
             }
         }
     }
@@ -180,11 +172,8 @@ pub fn agrees(side: Side, case: &Case) -> bool {
     let outcome = case.run();
     match (case, outcome) {
         (Case::Judge { report }, Outcome::Judge(judged)) => {
-            let due = match *judged {
-                Err(r) => refusal(r.number, r.place as u64),
-                Ok(r) => given(r.bytes as i64),
-            };
-            side.judge(report) == due
+            let due = judged.map(|report| vec![Number::bytes(report.bytes)]);
+            side.judge(report) == of_reference(due)
         }
         (
             Case::Fresh { required, output },
@@ -195,7 +184,7 @@ pub fn agrees(side: Side, case: &Case) -> bool {
         ) => {
             let mut output = output.clone();
             let answer = side.fresh(*required, &mut output);
-            answer == of_reference(result.map(|()| Given::Nothing)) && output == due
+            answer == of_reference(result.map(|()| Vec::new())) && output == due
         }
         (
             Case::Unpack {
@@ -228,7 +217,8 @@ pub fn agrees(side: Side, case: &Case) -> bool {
         ) => {
             let mut output = output.clone();
             let answer = side.pack(values, *word, *rptin, tail, &mut output);
-            answer == of_reference(result.map(Given::Count)) && output == due
+            let result = result.map(|bytes| vec![Number::bytes(bytes)]);
+            answer == of_reference(result) && output == due
         }
         (Case::Calls { buffer, calls }, _) => list_agrees(side, buffer, calls),
         _ => true,
@@ -251,7 +241,10 @@ fn list_agrees(side: Side, start: &[u8], calls: &[Call]) -> bool {
         }
     }
     let entries = script::script(calls);
-    script_agrees(side, start, &entries, 4096) && script_agrees(side, start, &entries, 64)
+    let rooms = [4096, 100, 73, 40, 36, 19];
+    rooms
+        .iter()
+        .all(|&room| script_agrees(side, start, &entries, room))
 }
 
 fn script_agrees(side: Side, start: &[u8], entries: &[u8], room: usize) -> bool {

@@ -1,14 +1,17 @@
 //! The archive's calls.
 
 /// What a call answers: the refusal's number and place, both 0 where it is
-/// accepted; then 0, or 1 and a value, or 2 where a field or a flag is missing.
+/// accepted; the labels of the numbers that are given, the first one's in the lowest
+/// byte; the numbers.
 #[repr(C)]
 #[derive(Clone, Copy, Debug, Default, PartialEq, Eq)]
 pub struct Answer {
     pub refusal: u32,
     pub given: u32,
     pub place: u64,
-    pub value: i64,
+    pub first: i64,
+    pub second: i64,
+    pub third: i64,
 }
 
 #[repr(C)]

@@ -41,17 +41,17 @@ fn examples_of_the_specification() {
     let mut buffer = [0xA5; 45];
     assert_eq!(
         whole::fresh([1, 1900, 1, 0, 0], &mut buffer),
-        Ok(Given::Nothing)
+        Ok(Given::NOTHING)
     );
     let mut due = [0; 38];
     due[..9].copy_from_slice(&[0, 0, 0, 0x59, 0x44, 0, 0, 0x17, 0x0A]);
     due[36] = 0xF0;
     assert_eq!(buffer[..38], due);
     assert_eq!(buffer[38..], [0xA5; 7]);
-    assert_eq!(calls::set_field(&mut buffer, 31, 286), Ok(Given::Nothing));
+    assert_eq!(calls::set_field(&mut buffer, 31, 286), Ok(Given::NOTHING));
     assert_eq!(buffer[25..27], [0x14, 0x18]);
     assert_eq!(buffer[36], 251);
-    assert_eq!(calls::put_text(&mut buffer, b"A1"), Ok(Given::Nothing));
+    assert_eq!(calls::put_text(&mut buffer, b"A1"), Ok(Given::NOTHING));
     assert_eq!(buffer[37..41], [0x10, 0x34, 0xC1, 0x10]);
     assert_eq!(buffer[36], 251);
 }

@@ -1,10 +1,11 @@
 //! What the unrelated implementation expects of a call.
 
-use reference::call::{Call, Given};
+use reference::call::Call;
 use reference::cases::Case;
 use reference::gate::script;
 use reference::judge::judge;
 use reference::line::hex;
+use reference::number::Number;
 use reference::outside::{fresh, pack, unpack};
 use reference::refusal::Refusal;
 
@@ -27,29 +28,30 @@ pub struct Outcome {
 /// What unpack's numbers hold before the call.
 pub const NUMBERS: [u64; 6] = [0xC5C5_C5C5_C5C5_C5C5; 6];
 
-fn answer_of(result: Result<Given, Refusal>) -> Answer {
-    let given = |value| Answer {
-        given: 1,
-        value,
-        ..Answer::default()
+fn answer_of(result: Result<Vec<Number>, Refusal>) -> Answer {
+    let numbers = match result {
+        Err(refusal) => {
+            return Answer {
+                refusal: refusal.number.into(),
+                place: refusal.place as u64,
+                ..Answer::default()
+            };
+        }
+        Ok(numbers) => numbers,
     };
-    match result {
-        Err(refusal) => Answer {
-            refusal: refusal.number.into(),
-            place: refusal.place as u64,
-            ..Answer::default()
-        },
-        Ok(Given::Nothing) => Answer::default(),
-        Ok(Given::Value(Some(value))) => given(value),
-        Ok(Given::Value(None)) => Answer {
-            given: 2,
-            ..Answer::default()
-        },
-        Ok(Given::Count(count)) => given(count as i64),
+    assert!(numbers.len() <= 3, "an answer has room for three numbers");
+    let label = |index: usize| numbers.get(index).map_or(0, |number| number.label());
+    let value = |index: usize| numbers.get(index).and_then(|number| number.value);
+    Answer {
+        given: u32::from_le_bytes([label(0), label(1), label(2), 0]),
+        first: value(0).unwrap_or(0),
+        second: value(1).unwrap_or(0),
+        third: value(2).unwrap_or(0),
+        ..Answer::default()
     }
 }
 
-fn outcome(result: Result<Given, Refusal>, buffers: &[(&'static str, &[u8])]) -> Outcome {
+fn outcome(result: Result<Vec<Number>, Refusal>, buffers: &[(&'static str, &[u8])]) -> Outcome {
     Outcome {
         said: Said::Answer(answer_of(result)),
         buffers: states(buffers),
@@ -65,12 +67,12 @@ fn states(buffers: &[(&'static str, &[u8])]) -> Vec<(&'static str, Vec<u8>)> {
 pub fn whole(case: &Case) -> Outcome {
     match case {
         Case::Judge { report } => outcome(
-            judge(report).map(|report| Given::Count(report.bytes)),
+            judge(report).map(|report| vec![Number::bytes(report.bytes)]),
             &[("report", report)],
         ),
         Case::Fresh { required, output } => {
             let mut output = output.clone();
-            let result = fresh(*required, &mut output).map(|()| Given::Nothing);
+            let result = fresh(*required, &mut output).map(|()| Vec::new());
             outcome(result, &[("output", &output)])
         }
         Case::Unpack {
@@ -86,7 +88,8 @@ pub fn whole(case: &Case) -> Outcome {
             output,
         } => {
             let mut output = output.clone();
-            let result = pack(values, *word, *rptin, tail, &mut output).map(Given::Count);
+            let result = pack(values, *word, *rptin, tail, &mut output);
+            let result = result.map(|bytes| vec![Number::bytes(bytes)]);
             let values = bytes_of_values(values);
             let buffers: [(_, &[u8]); 3] =
                 [("values", &values), ("tail", tail), ("output", &output)];
@@ -119,7 +122,7 @@ fn unpacked(report: &[u8], mut values: Vec<i64>, mut tail: Vec<u8>) -> Outcome {
         ("tail", &tail),
         ("numbers", &numbers),
     ];
-    outcome(result.map(|_| Given::Nothing), &buffers)
+    outcome(result.map(|_| Vec::new()), &buffers)
 }
 
 /// One of the eleven calls; the buffer is changed as it should be.

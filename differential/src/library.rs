@@ -1,12 +1,16 @@
 //! The sixteen calls as C sees them.
 
+/// The refusal and its place; the labels of the numbers that are given, the first
+/// one's in the lowest byte; the numbers.
 #[repr(C)]
 #[derive(Clone, Copy, Debug, Default, PartialEq, Eq)]
 pub struct Answer {
     pub refusal: u32,
     pub given: u32,
     pub place: u64,
-    pub value: i64,
+    pub first: i64,
+    pub second: i64,
+    pub third: i64,
 }
 
 #[repr(C)]

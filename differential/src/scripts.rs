@@ -1,7 +1,8 @@
 //! Lists as scripts: whole, cut off, broken, or with too short a log.
 
 use reference::call::Call;
-use reference::gate::script::{entry, record_size, script};
+use reference::gate::log::{FRONT, HEAD, record_size};
+use reference::gate::script::{entry, script};
 use reference::prng::Prng;
 
 use crate::calls::widened;
@@ -22,14 +23,24 @@ pub fn trial(prng: &mut Prng, buffer: &[u8], calls: &[Call]) -> Trial {
         4 => script = random_script(prng),
         5 => room = room.saturating_sub(1),
         6 => room = prng.below(room + 1),
+        7 => room = cut_room(prng, calls),
         _ => {}
     }
-    room += prng.pick(&[0, 0, 0, 1, 9, 10, 200]);
+    room += prng.pick(&[0, 0, 0, 1, 10, 19, 36, 37, 200]);
     Trial::Script {
         buffer: buffer.to_vec(),
         script,
         log: prng.bytes(room),
     }
+}
+
+/// The room of a log that ends in a record: in its head, its row or its output.
+fn cut_room(prng: &mut Prng, calls: &[Call]) -> usize {
+    let last = prng.below(calls.len());
+    let before: usize = calls[..last].iter().map(record_size).sum();
+    let size = record_size(&calls[last]);
+    let part = prng.pick(&[0..HEAD, HEAD..FRONT, FRONT..size, size - 1..size]);
+    before + part.start + prng.below(part.len().max(1))
 }
 
 /// An entry without its last bytes.

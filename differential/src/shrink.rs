@@ -2,7 +2,8 @@
 
 use reference::call::Call;
 use reference::cases::Case;
-use reference::gate::script::{first_call, record_size};
+use reference::gate::log::record_size;
+use reference::gate::script::first_call;
 use reference::judge::judge;
 
 use crate::compare::{Difference, compare};

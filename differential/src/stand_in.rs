@@ -2,9 +2,10 @@
 
 use std::slice::{from_raw_parts, from_raw_parts_mut};
 
-use reference::call::{Call, Given};
+use reference::call::Call;
 use reference::gate::script;
 use reference::judge;
+use reference::number::Number;
 use reference::outside;
 use reference::refusal::Refusal;
 
@@ -43,30 +44,27 @@ unsafe fn output<'a, T>(at: *mut T, n: usize) -> &'a mut [T] {
     unsafe { from_raw_parts_mut(at, n) }
 }
 
-fn answer(result: Result<Given, Refusal>) -> Answer {
-    let (given, value) = match result {
+fn answer(result: Result<Vec<Number>, Refusal>) -> Answer {
+    let mut answer = Answer::default();
+    match result {
         Err(refusal) => {
-            return Answer {
-                refusal: refusal.number.into(),
-                place: refusal.place as u64,
-                ..Answer::default()
-            };
+            answer.refusal = refusal.number.into();
+            answer.place = refusal.place as u64;
         }
-        Ok(Given::Nothing) => (0, 0),
-        Ok(Given::Value(None)) => (2, 0),
-        Ok(Given::Value(Some(value))) => (1, value),
-        Ok(Given::Count(count)) => (1, count as i64),
-    };
-    Answer {
-        given,
-        value,
-        ..Answer::default()
+        Ok(numbers) => {
+            let places = [&mut answer.first, &mut answer.second, &mut answer.third];
+            for ((number, place), shift) in numbers.iter().zip(places).zip([0, 8, 16]) {
+                answer.given |= u32::from(number.label()) << shift;
+                *place = number.value.unwrap_or(0);
+            }
+        }
     }
+    answer
 }
 
 pub unsafe extern "C" fn judge(report: *const u8, n: usize) -> Answer {
     let judged = judge::judge(unsafe { input(report, n) });
-    answer(judged.map(|report| Given::Count(report.bytes)))
+    answer(judged.map(|report| vec![Number::bytes(report.bytes)]))
 }
 
 pub unsafe extern "C" fn fresh(
@@ -79,7 +77,7 @@ pub unsafe extern "C" fn fresh(
     n: usize,
 ) -> Answer {
     let written = outside::fresh([box10, year, month, x, y], unsafe { output(out, n) });
-    answer(written.map(|()| Given::Nothing))
+    answer(written.map(|()| Vec::new()))
 }
 
 pub unsafe extern "C" fn unpack(
@@ -105,7 +103,7 @@ pub unsafe extern "C" fn unpack(
         numbers[0] = given.word;
         numbers[1..].copy_from_slice(&counts.map(|count| count as u64));
     }
-    answer(unpacked.map(|_| Given::Nothing))
+    answer(unpacked.map(|_| Vec::new()))
 }
 
 pub unsafe extern "C" fn pack(
@@ -120,7 +118,7 @@ pub unsafe extern "C" fn pack(
 ) -> Answer {
     let (values, tail) = unsafe { (input(values, values_n), input(tail, tail_n)) };
     let packed = outside::pack(values, word, rptin, tail, unsafe { output(out, n) });
-    answer(packed.map(Given::Count))
+    answer(packed.map(|bytes| vec![Number::bytes(bytes)]))
 }
 
 /// A call on a report that may be read-only: what does not change is not stored.

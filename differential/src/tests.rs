@@ -2,8 +2,16 @@
 
 use std::process::{Command, Output};
 
+use reference::call::Call;
+use reference::cases::Case;
+use reference::cases::material::{observation_with, values_and_word};
+use reference::flags;
+use reference::gate::log::{FRONT, HEAD};
+use reference::gate::script::first_call;
+
 use crate::compare::{Difference, compare};
 use crate::draw::trials;
+use crate::expected::{self, Said};
 use crate::fault;
 use crate::fence::{Fenced, state_of};
 use crate::harness::Harness;
@@ -56,6 +64,230 @@ fn a_case_is_the_same_each_time() {
     assert_ne!(trials(SEED, 1), trials(SEED + 1, 1));
 }
 
+/// Labels and numbers worked out by hand.
+#[test]
+fn answers_have_the_header_s_form() {
+    let flags = flags::body_of(&[0, 10, 0, 0, 0, 0, 0, 0, 0, 0, 0, 0, 0, 0]);
+    let observation = observation_with(&[(1, &flags), (4, &[1, 1])]);
+    let report = observation.packing();
+    let (values, word) = values_and_word(&observation, 0);
+    let size = report.len() as i64;
+    let answer = |given, first| Answer {
+        given,
+        first,
+        ..Answer::default()
+    };
+    let refused = |refusal, place| Answer {
+        refusal,
+        place,
+        ..Answer::default()
+    };
+    let mut harness = Harness::new(STAND_IN);
+    for (case, answer) in [
+        (
+            Case::Judge {
+                report: report.clone(),
+            },
+            answer(8, size),
+        ),
+        (
+            Case::Fresh {
+                required: [1, 1900, 1, 0, 0],
+                output: vec![0; 38],
+            },
+            answer(0, 0),
+        ),
+        (
+            Case::Unpack {
+                report: report.clone(),
+                values: vec![0; 46],
+                tail: vec![0; 40],
+            },
+            answer(0, 0),
+        ),
+        (
+            Case::Pack {
+                values,
+                word,
+                rptin: 0,
+                tail: Vec::new(),
+                output: vec![0; 40],
+            },
+            answer(8, 38),
+        ),
+        (Case::Judge { report: Vec::new() }, refused(1, 0)),
+    ] {
+        assert_eq!(expected::whole(&case).said, Said::Answer(answer));
+        assert_eq!(harness.whole(&case).said, Said::Answer(answer));
+    }
+    let output = || vec![0; 16];
+    for (call, answer) in [
+        (Call::ReadField { field: 2 }, answer(1, 1900)),
+        (Call::ReadField { field: 4 }, answer(129, 0)),
+        (Call::ReadFlag { flag: 2 }, answer(2, 10)),
+        (Call::ReadFlag { flag: 3 }, answer(130, 0)),
+        (
+            Call::Fetch {
+                id: 1,
+                output: output(),
+            },
+            answer(3, 16),
+        ),
+        (Call::FetchText { output: output() }, answer(3, 2)),
+        (Call::SetFlag { flag: 3, value: 1 }, answer(0, 0)),
+        (Call::Drop { id: 4 }, answer(0, 0)),
+        (Call::ReadField { field: 47 }, refused(8, 0)),
+        (Call::ClearField { field: 3 }, refused(10, 3)),
+    ] {
+        let due = expected::call(&call, &mut report.clone()).said;
+        assert_eq!(due, Said::Answer(answer), "{call:?}");
+        let got = harness.call(&call, &report).said;
+        assert_eq!(got, Said::Answer(answer), "{call:?}");
+    }
+}
+
+#[test]
+fn a_wrong_label_is_found() {
+    unsafe extern "C" fn wrong(report: *const u8, n: usize, flag: usize) -> Answer {
+        let mut answer = unsafe { stand_in::read_flag(report, n, flag) };
+        if answer.given == 130 {
+            answer.given = 129;
+        }
+        answer
+    }
+    let found = found(Library {
+        read_flag: wrong,
+        ..STAND_IN
+    });
+    assert_ne!(found.expected.said, found.got.said);
+    assert_eq!(differing(&found), [""; 0]);
+}
+
+#[test]
+fn a_number_that_is_not_given_is_found() {
+    unsafe extern "C" fn wrong(report: *const u8, n: usize) -> Answer {
+        let mut answer = unsafe { stand_in::judge(report, n) };
+        if answer.refusal == 0 {
+            answer.third = 1;
+        }
+        answer
+    }
+    let found = found(Library {
+        judge: wrong,
+        ..STAND_IN
+    });
+    assert_ne!(found.expected.said, found.got.said);
+}
+
+#[test]
+fn a_wrong_label_in_the_log_is_found() {
+    unsafe extern "C" fn wrong(
+        report: *mut u8,
+        n: usize,
+        script: *const u8,
+        script_n: usize,
+        log: *mut u8,
+        log_n: usize,
+    ) -> Performed {
+        let performed = unsafe { stand_in::replay(report, n, script, script_n, log, log_n) };
+        if performed.calls > 0 {
+            let label = unsafe { &mut *log.add(HEAD) };
+            if unsafe { *script } == 4 && *label == 2 {
+                *label = 1;
+            }
+        }
+        performed
+    }
+    let found = found(Library {
+        replay: wrong,
+        ..STAND_IN
+    });
+    assert_eq!(differing(&found), ["log"]);
+    let Trial::Script { script, log, .. } = found.trial else {
+        panic!("no script: {}", found.trial);
+    };
+    let (call, rest) = first_call(&script).expect("a call");
+    assert!(matches!(call, Call::ReadFlag { .. }));
+    assert_eq!((rest.len(), log.len()), (0, 37));
+}
+
+/// The row's bytes are 0 where there is no number.
+#[test]
+fn a_byte_of_a_number_that_is_not_in_the_log_is_found() {
+    unsafe extern "C" fn wrong(
+        report: *mut u8,
+        n: usize,
+        script: *const u8,
+        script_n: usize,
+        log: *mut u8,
+        log_n: usize,
+    ) -> Performed {
+        let performed = unsafe { stand_in::replay(report, n, script, script_n, log, log_n) };
+        if performed.calls > 0 {
+            unsafe { *log.add(FRONT - 1) ^= 1 };
+        }
+        performed
+    }
+    let found = found(Library {
+        replay: wrong,
+        ..STAND_IN
+    });
+    assert_eq!(differing(&found), ["log"]);
+    assert!(matches!(found.trial, Trial::Script { log, .. } if log.len() == 37));
+}
+
+/// A record is not begun where only its head and a part of its row fit.
+#[test]
+fn a_log_that_ends_in_a_row_is_tried() {
+    unsafe extern "C" fn wrong(
+        report: *mut u8,
+        n: usize,
+        script: *const u8,
+        script_n: usize,
+        log: *mut u8,
+        log_n: usize,
+    ) -> Performed {
+        let performed = unsafe { stand_in::replay(report, n, script, script_n, log, log_n) };
+        let (taken, left) = (performed.taken as usize, log_n - performed.written as usize);
+        let field_read = taken < script_n && unsafe { *script.add(taken) } == 1;
+        if field_read && (HEAD + 1..FRONT).contains(&left) {
+            unsafe { *log.add(log_n - 1) ^= 1 };
+        }
+        performed
+    }
+    let found = found(Library {
+        replay: wrong,
+        ..STAND_IN
+    });
+    assert_eq!(differing(&found), ["log"]);
+}
+
+/// Nor where only a part of its output fits.
+#[test]
+fn a_log_that_ends_in_an_output_is_tried() {
+    unsafe extern "C" fn wrong(
+        report: *mut u8,
+        n: usize,
+        script: *const u8,
+        script_n: usize,
+        log: *mut u8,
+        log_n: usize,
+    ) -> Performed {
+        let performed = unsafe { stand_in::replay(report, n, script, script_n, log, log_n) };
+        let (taken, left) = (performed.taken as usize, log_n - performed.written as usize);
+        let text_fetched = taken < script_n && unsafe { *script.add(taken) } == 11;
+        if text_fetched && left > FRONT {
+            unsafe { *log.add(log_n - 1) ^= 1 };
+        }
+        performed
+    }
+    let found = found(Library {
+        replay: wrong,
+        ..STAND_IN
+    });
+    assert_eq!(differing(&found), ["log"]);
+}
+
 #[test]
 fn a_wrong_answer_is_found() {
     unsafe extern "C" fn wrong(report: *mut u8, n: usize, flag: usize, value: usize) -> Answer {
@@ -100,7 +332,7 @@ fn a_refused_call_that_writes_is_found_and_made_one_call() {
 #[test]
 fn a_byte_behind_the_report_is_found() {
     unsafe extern "C" fn wrong(report: *mut u8, n: usize, id: usize) -> Answer {
-        let size = unsafe { stand_in::judge(report, n) }.value as usize;
+        let size = unsafe { stand_in::judge(report, n) }.first as usize;
         let answer = unsafe { stand_in::drop(report, n, id) };
         if answer.refusal == 0 && size < n {
             unsafe { *report.add(size) = 0 };

@@ -116,11 +116,8 @@ fn contents(text: &str) -> Vec<String> {
         .collect()
 }
 
-/// `setField` as `SET_FIELD`, and `remove` as the header's `DROP`.
-fn call_name(name: &str) -> String {
-    if name == "remove" {
-        return "DROP".to_string();
-    }
+/// `setField` as `SET_FIELD`.
+fn upper(name: &str) -> String {
     let mut said = String::new();
     for c in name.chars() {
         if c.is_uppercase() {
@@ -131,46 +128,71 @@ fn call_name(name: &str) -> String {
     said
 }
 
-/// The kinds of a script's entries: `entryOf (setField k v) = 2 ∷ ..`.
-fn kinds(script: &str) -> Vec<String> {
+/// A header's name and its number.
+type Named = (String, u64);
+
+/// The number that a definition begins with: `2 ∷ ..`.
+fn first_number(text: &str) -> u64 {
+    let word = text.split_whitespace().next().unwrap_or("");
+    word.parse()
+        .unwrap_or_else(|_| panic!("a number, not {text}"))
+}
+
+/// By ascending numbers, in C's words; the definitions may stand in another order.
+fn ascending(mut all: Vec<Named>) -> Vec<String> {
+    all.sort_by_key(|(_, number)| *number);
+    all.iter()
+        .map(|(name, number)| format!("{name} = {number}"))
+        .collect()
+}
+
+/// The kinds of a script's entries: `scriptEntry (edits (setField k v)) = 2 ∷ ..`. The header has `DROP` for `remove`.
+fn kinds(script: &str) -> Vec<Named> {
     let lines = script
         .lines()
-        .filter_map(|line| line.strip_prefix("entryOf ("));
+        .filter_map(|line| line.strip_prefix("scriptEntry ("));
     lines
         .map(|line| {
-            let (call, bytes) = line.split_once(") = ").expect("an entry's bytes");
-            let name = call.split(' ').next().expect("a call");
-            let kind = bytes.split(' ').next().expect("a kind");
-            format!("LMR5_SCRIPT_{} = {kind}", call_name(name))
+            let (entry, bytes) = line.split_once(" = ").expect("an entry's bytes");
+            let (_, call) = entry.split_once('(').expect("a call in parentheses");
+            let name = match call.split([' ', ')']).next().expect("a call") {
+                "remove" => "DROP".to_string(),
+                name => upper(name),
+            };
+            (format!("LMR5_SCRIPT_{name}"), first_number(bytes))
         })
         .collect()
 }
 
-/// The shapes of an answer, in the log and as numbers.
-const LOGGED: [(&str, &str); 4] = [
-    ("headOf (refused r)", "REFUSED"),
-    ("headOf (accepted [])", "NOTHING"),
-    ("numberHead (some z)", "VALUE"),
-    ("numberHead none", "MISSING"),
-];
-const NUMBERED: [(&str, &str); 3] = [
-    ("numbered (accepted [])", "NOTHING"),
-    ("numberGiven (some z)", "VALUE"),
-    ("numberGiven none", "MISSING"),
-];
+/// The number that a definition gives for a shape: `headOf (refused r) = 0 ∷ ..`.
+fn by_shape(text: &str, shape: &str, name: &str) -> Named {
+    let start = format!("{shape} = ");
+    let found = text.lines().find_map(|line| line.strip_prefix(&start));
+    let found = found.unwrap_or_else(|| panic!("{start}is not found"));
+    (name.to_string(), first_number(found))
+}
 
-/// The word at a place of what a definition gives for each shape: `headOf (refused r) = 0 ∷ ..`.
-fn by_shape(text: &str, at: usize, shapes: &[(&str, &str)], prefix: &str) -> Vec<String> {
-    let word = |shape: &str| {
-        let start = format!("{shape} = ");
-        let line = text.lines().find_map(|line| line.strip_prefix(&start));
-        let word = line.and_then(|line| line.split(' ').nth(at));
-        word.unwrap_or_else(|| panic!("{start}is not found"))
-    };
-    shapes
-        .iter()
-        .map(|(shape, name)| format!("{prefix}_{name} = {}", word(shape)))
-        .collect()
+/// The first byte of a record.
+fn logged(script: &str) -> Vec<Named> {
+    vec![
+        by_shape(script, "headOf (refused r)", "LMR5_LOG_REFUSED"),
+        by_shape(script, "headOf (accepted gs)", "LMR5_LOG_ACCEPTED"),
+    ]
+}
+
+/// The labels of numbers, each `quantityLabel count = 3`; of no number, and of one that is missing.
+fn labels(text: &str) -> Vec<Named> {
+    let mut all = vec![
+        by_shape(text, "labels []", "LMR5_GIVEN_NOTHING"),
+        by_shape(text, "missingLabel", "LMR5_GIVEN_MISSING"),
+    ];
+    let lines = text
+        .lines()
+        .filter_map(|line| line.strip_prefix("quantityLabel "));
+    for (name, label) in lines.filter_map(|line| line.split_once(" = ")) {
+        all.push((format!("LMR5_GIVEN_{}", upper(name)), first_number(label)));
+    }
+    all
 }
 
 /// The bound of a report's size: `(n ≤ 1853)`.
@@ -185,7 +207,7 @@ pub struct Sources<'a> {
     pub exports: &'a str,
     pub table: &'a str,
     pub script: &'a str,
-    pub numbered: &'a str,
+    pub labels: &'a str,
     pub sizes: &'a str,
 }
 
@@ -197,12 +219,9 @@ pub fn declared(sources: &Sources) -> Declared {
     let enums = [
         ("lmr5_field", fields(sources.table)),
         ("lmr5_contents", contents(&text)),
-        ("lmr5_script", kinds(sources.script)),
-        ("lmr5_log", by_shape(sources.script, 0, &LOGGED, "LMR5_LOG")),
-        (
-            "lmr5_given",
-            by_shape(sources.numbered, 2, &NUMBERED, "LMR5_GIVEN"),
-        ),
+        ("lmr5_script", ascending(kinds(sources.script))),
+        ("lmr5_log", ascending(logged(sources.script))),
+        ("lmr5_given", ascending(labels(sources.labels))),
         ("lmr5_longest", longest(sources.sizes)),
     ];
     for (name, numbers) in enums {

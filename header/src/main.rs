@@ -1,6 +1,6 @@
 //! Compares include/lmr5.h with the functions and structs that crates/lmr5 exports, and its numbers with the definitions:
-//! fields, contents, kinds and tags of scripts and logs, what is given, the longest report. Says each difference, and fails if
-//! there is one. Its argument is the repository's folder. refusals.c tries the numbers of refusals and flags.
+//! fields, contents, kinds of a script's entries, the log's first bytes, labels, the longest report. Says each difference, and
+//! fails if there is one. Its argument is the repository's folder. refusals.c tries the numbers of refusals and flags.
 mod code;
 mod header;
 
@@ -76,7 +76,7 @@ fn main() -> ExitCode {
         exports: &read(&root, "crates/lmr5/src/lib.rt"),
         table: &read(&root, "crates/format/specs/Field.antt"),
         script: &read(&root, "crates/script/specs/Script.antt"),
-        numbered: &read(&root, "crates/lmr5/specs/Numbered.antt"),
+        labels: &read(&root, "crates/script/specs/Labels.antt"),
         sizes: &read(&root, "crates/report/specs/Answers.antt"),
     });
     let header = header::declared(&read(&root, "include/lmr5.h"));
@@ -104,29 +104,38 @@ mod tests {
         fn store() {\n    contents[0] = c.word;\n}\n\
         #[no_mangle]\npub extern \"C\" fn lmr5_f(\n    report: &[u8], // read\n    n: usize,\n    to: &mut [u64; 6],\n) -> Answer\n{}\n";
     const TABLE: &str = "    field 648 (pos 0) 10 ∷  -- 1 BOX10\n    []\n";
-    const SCRIPT: &str = "entryOf (setField k v) = 2 ∷ (bytes8 k)\nentryOf (remove i) = 9 ∷ bytes8 i\n\
-        headOf (refused r) = 0 ∷ r .number\nheadOf (accepted []) = 1 ∷ 0\n\
-        numberHead (some z) = 2 ∷ 0\nnumberHead none = 3 ∷ 0\n";
-    const NUMBERED: &str = "numbered (refused r) = numbers (r .number) 0 (r .place)\nnumbered (accepted []) = numbers 0 0 0\n\
-        numberGiven (some z) = numbers 0 1 0\nnumberGiven none = numbers 0 2 0\n";
+    const SCRIPT: &str = "unfoldable pub scriptEntry : Entry → List ℕ\n\
+        scriptEntry (edits (setField k v)) = 2 ∷ (bytes8 k)\nscriptEntry (edits (remove i)) = 9 ∷ bytes8 i\n\
+        scriptEntry (reads (readField k)) = 1 ∷ bytes8 k\nscriptEntry (fetches (fetchText out)) = 11 ∷ (bytes8 (length out))\n\
+        headOf (refused r) = 0 ∷ r .number ∷ bytes8 (r .place)\nheadOf (accepted gs) = 1 ∷ 0 ∷ bytes8 0\n";
+    const LABELS: &str = "abbrev pub quantityLabel : Quantity → ℕ\nquantityLabel value = 1\nquantityLabel count = 3\n\
+        missingLabel : ℕ\nmissingLabel = 128\nlabels [] = 0\nlabels (g ∷ gs) = label g + 256 * labels gs\n";
     const SIZES: &str = "  within : (38 ≤ n) × (n ≤ 1853)\n";
     const HEADER: &str = "#include <stdint.h>\nextern \"C\" {\ntypedef struct lmr5_answer {\n    uint32_t refusal; /* a; b */\n} lmr5_answer;\n\
         enum lmr5_field { LMR5_BOX10 = 1 };\nenum lmr5_contents { LMR5_CONTENTS_WORD = 0 };\n\
-        enum lmr5_script { LMR5_SCRIPT_SET_FIELD = 2, LMR5_SCRIPT_DROP = 9 };\nenum lmr5_refusal { LMR5_REFUSED_SHORT = 1 };\n\
-        enum lmr5_log { LMR5_LOG_REFUSED = 0, LMR5_LOG_NOTHING = 1, LMR5_LOG_VALUE = 2, LMR5_LOG_MISSING = 3 };\n\
-        enum lmr5_given { LMR5_GIVEN_NOTHING = 0, LMR5_GIVEN_VALUE = 1, LMR5_GIVEN_MISSING = 2 };\n\
+        enum lmr5_script { LMR5_SCRIPT_READ_FIELD = 1, LMR5_SCRIPT_SET_FIELD = 2, LMR5_SCRIPT_DROP = 9, LMR5_SCRIPT_FETCH_TEXT = 11 };\n\
+        enum lmr5_refusal { LMR5_REFUSED_SHORT = 1 };\n\
+        enum lmr5_log { LMR5_LOG_REFUSED = 0, LMR5_LOG_ACCEPTED = 1 };\n\
+        enum lmr5_given { LMR5_GIVEN_NOTHING = 0, LMR5_GIVEN_VALUE = 1, LMR5_GIVEN_COUNT = 3, LMR5_GIVEN_MISSING = 128 };\n\
         enum lmr5_longest { LMR5_LONGEST_REPORT = 1853 };\n\
         lmr5_answer lmr5_f(const uint8_t *report, size_t report_length, size_t n, uint64_t to[6]);\n}\n";
 
-    fn said(header: &str) -> usize {
-        let sources = Sources {
+    fn sources() -> Sources<'static> {
+        Sources {
             exports: CODE,
             table: TABLE,
             script: SCRIPT,
-            numbered: NUMBERED,
+            labels: LABELS,
             sizes: SIZES,
-        };
-        differences(&code::declared(&sources), &header::declared(header)).len()
+        }
+    }
+
+    fn said_of(sources: &Sources, header: &str) -> Vec<String> {
+        differences(&code::declared(sources), &header::declared(header))
+    }
+
+    fn said(header: &str) -> usize {
+        said_of(&sources(), header).len()
     }
 
     #[test]
@@ -147,13 +156,44 @@ mod tests {
             ("CONTENTS_WORD = 0", "CONTENTS_WORD = 1"),
             ("SCRIPT_DROP = 9", "SCRIPT_DROP = 8"),
             ("SCRIPT_SET_FIELD", "SCRIPT_SET"),
-            ("LOG_VALUE = 2", "LOG_VALUE = 4"),
-            ("GIVEN_MISSING = 2", "GIVEN_MISSING = 3"),
+            ("SCRIPT_FETCH_TEXT = 11", "SCRIPT_FETCH_TEXT = 10"),
+            (", LMR5_SCRIPT_DROP = 9", ""),
+            ("LOG_REFUSED = 0", "LOG_REFUSED = 2"),
+            ("LOG_ACCEPTED = 1", "LOG_ACCEPTED = 2"),
+            ("LOG_ACCEPTED", "LOG_NOTHING"),
+            ("GIVEN_NOTHING = 0", "GIVEN_NOTHING = 4"),
+            ("GIVEN_VALUE = 1", "GIVEN_VALUE = 2"),
+            ("GIVEN_COUNT", "GIVEN_BYTES"),
+            ("LMR5_GIVEN_COUNT = 3, ", ""),
+            ("GIVEN_MISSING = 128", "GIVEN_MISSING = 129"),
             ("= 1853", "= 1852"),
         ];
         for (old, new) in changes {
             assert_eq!(HEADER.matches(old).count(), 1, "{old}");
             assert_eq!(said(&HEADER.replace(old, new)), 1, "{old}");
+        }
+    }
+
+    /// A definition that is new or changed is said without a change here.
+    #[test]
+    fn each_change_of_a_definition_is_said() {
+        let quantity = format!("{LABELS}quantityLabel shipLength = 10\n");
+        let sources_of = |labels| Sources { labels, ..sources() };
+        let text = said_of(&sources_of(&quantity), HEADER);
+        assert_eq!(
+            text,
+            ["enum lmr5_given: the code has (LMR5_GIVEN_SHIP_LENGTH = 10), the header ()"]
+        );
+        let missing = LABELS.replace("missingLabel = 128", "missingLabel = 64");
+        assert_eq!(said_of(&sources_of(&missing), HEADER).len(), 1);
+        let kind = format!("{SCRIPT}scriptEntry (edits (putText t)) = 10 ∷ bytes8 t\n");
+        let head = SCRIPT.replace("headOf (accepted gs) = 1", "headOf (accepted gs) = 3");
+        for script in [&kind, &head] {
+            let sources = Sources {
+                script,
+                ..sources()
+            };
+            assert_eq!(said_of(&sources, HEADER).len(), 1);
         }
     }
 

@@ -1,6 +1,7 @@
 //! The eleven calls of a list as data, with contents and outputs as given.
 
 use crate::edit;
+use crate::number::Number;
 use crate::refusal::Refusal;
 use crate::table::Scaled;
 
@@ -19,17 +20,10 @@ pub enum Call {
     FetchText { output: Vec<u8> },
 }
 
-/// What an accepted call gives.
-#[derive(Clone, Copy, Debug, PartialEq, Eq)]
-pub enum Given {
-    Nothing,
-    Value(Option<i64>),
-    Count(usize),
-}
-
 #[derive(Clone, Debug, PartialEq, Eq)]
 pub struct Answer {
-    pub result: Result<Given, Refusal>,
+    /// The numbers that are given, or the refusal.
+    pub result: Result<Vec<Number>, Refusal>,
     /// The output after the call, if the call has one.
     pub output: Option<Vec<u8>>,
 }
@@ -45,26 +39,27 @@ impl Call {
 
     /// Runs the call on a buffer.
     pub fn run(&self, buffer: &mut [u8]) -> Answer {
-        let nothing = |()| Given::Nothing;
+        let nothing = |()| Vec::new();
+        let count = |count| vec![Number::count(count)];
         let mut output = self.output();
         let out = output.as_deref_mut().unwrap_or_default();
         let result = match self {
             Call::ReadField { field } => edit::read_field(buffer, *field)
-                .map(|value| Given::Value(value.map(|value| value.0))),
+                .map(|value| vec![Number::value(value.map(|value| value.0))]),
             Call::SetField { field, value } => {
                 edit::set_field(buffer, *field, Scaled(*value)).map(nothing)
             }
             Call::ClearField { field } => edit::clear_field(buffer, *field).map(nothing),
             Call::ReadFlag { flag } => {
-                edit::read_flag(buffer, *flag).map(|value| Given::Value(value.map(i64::from)))
+                edit::read_flag(buffer, *flag).map(|value| vec![Number::flag(value.map(i64::from))])
             }
             Call::SetFlag { flag, value } => edit::set_flag(buffer, *flag, *value).map(nothing),
             Call::ClearFlag { flag } => edit::clear_flag(buffer, *flag).map(nothing),
             Call::Put { id, content } => edit::put(buffer, *id, content).map(nothing),
-            Call::Fetch { id, .. } => edit::fetch(buffer, *id, out).map(Given::Count),
+            Call::Fetch { id, .. } => edit::fetch(buffer, *id, out).map(count),
             Call::Drop { id } => edit::drop_attachment(buffer, *id).map(nothing),
             Call::PutText { text } => edit::put_text(buffer, text).map(nothing),
-            Call::FetchText { .. } => edit::fetch_text(buffer, out).map(Given::Count),
+            Call::FetchText { .. } => edit::fetch_text(buffer, out).map(count),
         };
         Answer { result, output }
     }

@@ -11,6 +11,7 @@ pub mod gate;
 pub mod judge;
 pub mod line;
 pub mod lister;
+pub mod number;
 pub mod observation;
 pub mod outside;
 pub mod prng;

@@ -1,6 +1,6 @@
 //! A case and its outcome as one line of text.
 
-use crate::call::{Answer, Call, Given};
+use crate::call::{Answer, Call};
 use crate::cases::{Case, Outcome};
 use crate::judge::Report;
 use crate::outside::Unpacked;
@@ -173,11 +173,12 @@ fn unpacked(given: &Unpacked) -> String {
 }
 
 fn call_answer(answer: &Answer, buffer: &[u8]) -> String {
-    let given = accepted(&answer.result, |given| match given {
-        Given::Nothing => "ok".into(),
-        Given::Value(None) => "ok missing".into(),
-        Given::Value(Some(value)) => format!("ok {value}"),
-        Given::Count(count) => format!("ok {count}"),
+    let given = accepted(&answer.result, |given| {
+        let mut words = vec!["ok".to_string()];
+        for number in given {
+            words.push(number.value.map_or("missing".into(), |n| n.to_string()));
+        }
+        words.join(" ")
     });
     match &answer.output {
         Some(output) => format!("{given} {} {}", hex(buffer), hex(output)),

@@ -1,8 +1,9 @@
 //! The calls of a list over an observation and a buffer length: the plain machine.
 
 use crate::attachment::{Attachment, is_valid_body};
-use crate::call::{Answer, Call, Given};
+use crate::call::{Answer, Call};
 use crate::flags::{self, FLAGS};
+use crate::number::Number;
 use crate::observation::Observation;
 use crate::refusal::Refusal;
 use crate::table::{FIELDS, REQUIRED, ROWS, Scaled};
@@ -161,27 +162,29 @@ fn place_content(observation: &mut Observation, new: Attachment) {
     }
 }
 
-/// What an accepted call gives and what it writes to its output.
-fn gives(observation: &Observation, call: &Call) -> (Given, Vec<u8>) {
+/// The numbers that an accepted call gives, and what it writes to its output.
+fn gives(observation: &Observation, call: &Call) -> (Vec<Number>, Vec<u8>) {
     match call {
         Call::ReadField { field } => {
             let value = observation.values[*field as usize - 1];
-            (Given::Value(value.map(|value| value.0)), Vec::new())
+            let value = value.map(|value| value.0);
+            (vec![Number::value(value)], Vec::new())
         }
         Call::ReadFlag { flag } => {
             let content = observation.content(FLAGS_ID).expect("id 1 stands");
             let value = i64::from(content[*flag as usize - 1]);
-            (Given::Value((value != 0).then_some(value)), Vec::new())
+            let value = (value != 0).then_some(value);
+            (vec![Number::flag(value)], Vec::new())
         }
         Call::Fetch { id, .. } => {
             let nibbles = observation.content(*id).expect("the id stands").to_vec();
-            (Given::Count(nibbles.len()), nibbles)
+            (vec![Number::count(nibbles.len())], nibbles)
         }
         Call::FetchText { .. } => {
             let nibbles = observation.content(TEXT_ID).expect("id 4 stands");
             let text = text::read(nibbles).expect("id 4 holds a text");
-            (Given::Count(text.len()), text)
+            (vec![Number::count(text.len())], text)
         }
-        _ => (Given::Nothing, Vec::new()),
+        _ => (Vec::new(), Vec::new()),
     }
 }

@@ -8,14 +8,15 @@ use std::path::Path;
 use std::process::Command;
 
 use common::fresh_buffer;
-use reference::call::Call;
+use reference::call::{Answer, Call};
 use reference::cases::{Case, Outcome};
-use reference::gate::head::HEAD;
 use reference::gate::list::List;
 use reference::gate::list_cases::CALLS;
-use reference::gate::script::{entry, first_call, record_size, run, script};
+use reference::gate::log::{self, FRONT, HEAD, record_size};
+use reference::gate::script::{entry, first_call, run, script};
 use reference::gate::{self, SEED, list_cases, record, sizes, whole_cases};
 use reference::judge::judge;
+use reference::number::{Number, Quantity};
 use reference::prng::Prng;
 
 /// Bytes from hex digits; spaces are for the eye.
@@ -31,6 +32,16 @@ fn hex(digits: &str) -> Vec<u8> {
         .collect()
 }
 
+/// A record of the log. Zeros fill it up to 37 bytes; an output stands behind a
+/// bar.
+fn logged(written: &str) -> Vec<u8> {
+    let (front, output) = written.split_once('|').unwrap_or((written, ""));
+    let mut record = hex(front);
+    record.extend(vec![0; 37 - record.len()]);
+    record.extend(hex(output));
+    record
+}
+
 /// A list of calls on the fresh report in 60 bytes: the call, its entry in the
 /// script and its record in the log.
 fn by_hand() -> Vec<(Call, &'static str, &'static str)> {
@@ -41,12 +52,12 @@ fn by_hand() -> Vec<(Call, &'static str, &'static str)> {
         (
             Call::ReadField { field: 2 },
             "01 0000000000000002",
-            "02 00 000000000000076C",
+            "01 00 0000000000000000 01 000000000000076C",
         ),
         (
             Call::ReadField { field: 4 },
             "01 0000000000000004",
-            "03 00 0000000000000000",
+            "01 00 0000000000000000 81 0000000000000000",
         ),
         (
             Call::SetField {
@@ -59,7 +70,7 @@ fn by_hand() -> Vec<(Call, &'static str, &'static str)> {
         (
             Call::ReadField { field: 31 },
             "01 000000000000001F",
-            "02 00 FFFFFFFFFFFFFFFB",
+            "01 00 0000000000000000 01 FFFFFFFFFFFFFFFB",
         ),
         (
             Call::SetField {
@@ -106,7 +117,7 @@ fn by_hand() -> Vec<(Call, &'static str, &'static str)> {
         (
             Call::ReadFlag { flag: 6 },
             "04 0000000000000006",
-            "02 00 0000000000000006",
+            "01 00 0000000000000000 02 0000000000000006",
         ),
         (
             Call::Fetch {
@@ -115,8 +126,8 @@ fn by_hand() -> Vec<(Call, &'static str, &'static str)> {
             },
             "08 0000000000000001 0000000000000011
              EEEEEEEEEEEEEEEEEEEEEEEEEEEEEEEEEE",
-            "02 00 0000000000000010
-             01000000000600000000000000000003EE",
+            "01 00 0000000000000000 03 0000000000000010
+             | 01000000000600000000000000000003EE",
         ),
         (
             Call::ClearFlag { flag: 6 },
@@ -126,7 +137,7 @@ fn by_hand() -> Vec<(Call, &'static str, &'static str)> {
         (
             Call::ReadFlag { flag: 6 },
             "04 0000000000000006",
-            "03 00 0000000000000000",
+            "01 00 0000000000000000 82 0000000000000000",
         ),
         (
             Call::ClearFlag { flag: u64::MAX },
@@ -148,14 +159,14 @@ fn by_hand() -> Vec<(Call, &'static str, &'static str)> {
         (
             Call::FetchText { output: vec![7] },
             "0B 0000000000000001 07",
-            "00 0D 0000000000000000 07",
+            "00 0D 0000000000000000 | 07",
         ),
         (
             Call::FetchText {
                 output: vec![7, 8, 9],
             },
             "0B 0000000000000003 070809",
-            "02 00 0000000000000002 413109",
+            "01 00 0000000000000000 03 0000000000000002 | 413109",
         ),
     ]
 }
@@ -200,7 +211,7 @@ fn counts_are_whole_numbers() {
 #[test]
 fn a_list_by_hand() {
     let script: Vec<u8> = by_hand().iter().flat_map(|line| hex(line.1)).collect();
-    let log: Vec<u8> = by_hand().iter().flat_map(|line| hex(line.2)).collect();
+    let log: Vec<u8> = by_hand().iter().flat_map(|line| logged(line.2)).collect();
     let mut buffer = fresh_buffer(60);
     let ran = run(&mut buffer, &script, 5000);
     assert_eq!(ran.calls.len(), 20);
@@ -214,14 +225,21 @@ fn a_log_ends_a_list_before_the_entry_that_does_not_fit() {
     let calls: Vec<Call> = by_hand().into_iter().map(|line| line.0).collect();
     let script = script(&calls);
     let whole = List::of(fresh_buffer(60), &calls).room;
-    let (last, before) = (1 + 8 + 3, 10 + 3);
+    let (last, before) = (1 + 8 + 3, 37 + 3);
     for (room, taken, log) in [
         (whole, script.len(), whole),
         (whole - 1, script.len() - last, whole - before),
-        (9, 0, 0),
-        (10, 9, 10),
-        (19, 9, 10),
+        (whole - 3, script.len() - last, whole - before),
+        (whole - 4, script.len() - last, whole - before),
         (0, 0, 0),
+        (10, 0, 0),
+        (19, 0, 0),
+        (36, 0, 0),
+        (37, 9, 37),
+        (73, 9, 37),
+        (74, 18, 74),
+        (110, 18, 74),
+        (111, 35, 111),
     ] {
         let ran = run(&mut fresh_buffer(60), &script, room);
         assert_eq!((ran.taken, ran.log.len()), (taken, log), "{room}");
@@ -234,10 +252,96 @@ fn a_log_ends_a_list_before_the_entry_that_does_not_fit() {
         },
         Call::Drop { id: 4 },
     ];
-    let mut buffer = buffer_after();
-    let ran = run(&mut buffer, &reference::gate::script::script(&calls), 11);
-    assert_eq!((ran.calls.len(), ran.taken, ran.log.len()), (0, 0, 0));
-    assert_eq!(buffer, buffer_after());
+    for room in [10, 19, 36, 37, 38] {
+        let mut buffer = buffer_after();
+        let ran = run(&mut buffer, &reference::gate::script::script(&calls), room);
+        assert_eq!((ran.calls.len(), ran.taken, ran.log.len()), (0, 0, 0));
+        assert_eq!(buffer, buffer_after());
+    }
+}
+
+#[test]
+fn labels_by_hand() {
+    for (quantity, label) in [
+        (Quantity::Value, 1),
+        (Quantity::Flag, 2),
+        (Quantity::Count, 3),
+        (Quantity::Word, 4),
+        (Quantity::Present, 5),
+        (Quantity::Rptin, 6),
+        (Quantity::Attachments, 7),
+        (Quantity::Bytes, 8),
+        (Quantity::Nibbles, 9),
+    ] {
+        let number = |value| Number { quantity, value };
+        assert_eq!(number(Some(-1)).label(), label);
+        assert_eq!(number(Some(0)).label(), label);
+        assert_eq!(number(None).label(), 128 + label);
+    }
+}
+
+#[test]
+fn rows_by_hand() {
+    let head = "01 00 0000000000000000";
+    let three = [
+        Number::bytes(38),
+        Number::flag(None),
+        Number::value(Some(-2)),
+    ];
+    for (count, row) in [
+        "00 0000000000000000 00 0000000000000000 00 0000000000000000",
+        "08 0000000000000026 00 0000000000000000 00 0000000000000000",
+        "08 0000000000000026 82 0000000000000000 00 0000000000000000",
+        "08 0000000000000026 82 0000000000000000 01 FFFFFFFFFFFFFFFE",
+    ]
+    .iter()
+    .enumerate()
+    {
+        for output in [None, Some(vec![]), Some(vec![5, 6])] {
+            let answer = Answer {
+                result: Ok(three[..count].to_vec()),
+                output: output.clone(),
+            };
+            let record = [hex(&format!("{head} {row}")), output.unwrap_or_default()];
+            assert_eq!(log::record(&answer), record.concat());
+        }
+    }
+}
+
+/// A record has 37 bytes and the output, refused or not. No call gives more than
+/// one number.
+#[test]
+fn records_of_every_list() {
+    for list in list_cases::lists(SEED) {
+        let (_, ran) = list.run();
+        let mut rest = &ran.log[..];
+        for (call, answer) in &ran.calls {
+            let output = answer.output.clone().unwrap_or_default();
+            assert_eq!(record_size(call), 37 + output.len());
+            let (record, behind) = rest.split_at(37 + output.len());
+            let number = match &answer.result {
+                Err(refusal) => {
+                    assert_eq!(record[..2], [0, refusal.number], "{call:?}");
+                    let place = refusal.place as u64;
+                    assert_eq!(record[2..10], place.to_be_bytes(), "{call:?}");
+                    vec![0; 9]
+                }
+                Ok(numbers) => {
+                    assert_eq!(record[..10], [1, 0, 0, 0, 0, 0, 0, 0, 0, 0], "{call:?}");
+                    let number = numbers.first().map(|number| {
+                        let value = number.value.unwrap_or(0).to_be_bytes();
+                        [&[number.label()][..], &value].concat()
+                    });
+                    number.unwrap_or(vec![0; 9])
+                }
+            };
+            assert_eq!(record[10..19], number, "{call:?}");
+            assert_eq!(record[19..37], [0; 18], "{call:?}");
+            assert_eq!(record[37..], output, "{call:?}");
+            rest = behind;
+        }
+        assert_eq!(rest, []);
+    }
 }
 
 #[test]
@@ -248,8 +352,8 @@ fn a_refused_report_refuses_every_call() {
     ];
     let mut buffer = vec![0; 37];
     let ran = run(&mut buffer, &script(&calls), 100);
-    let log = hex("00 01 0000000000000000  00 01 0000000000000000 0506");
-    assert_eq!(ran.log, log);
+    let refused = logged("00 01 0000000000000000");
+    assert_eq!(ran.log, [&refused[..], &refused, &[5, 6]].concat());
 }
 
 #[test]
@@ -257,21 +361,22 @@ fn a_list_and_its_answer_by_hand() {
     let list = List {
         buffer: fresh_buffer(38),
         script: hex("01 0000000000000007 0C"),
-        room: 33,
+        room: 51,
     };
     let report = fresh_buffer(38);
     let input = [
         &hex("0026")[..],
         &report,
-        &hex("0000000A 010000000000000007 0C 00000021"),
+        &hex("0000000A 010000000000000007 0C 00000033"),
     ];
     assert_eq!(list.input(), input.concat());
     let (after, ran) = list.run();
     let answer = [
-        &hex("00000001 00000009 0000000A")[..],
+        &hex("00000001 00000009 00000025")[..],
         &report,
-        &hex("02 00 0000000000000000"),
-        &[165; 23],
+        &hex("01 00 0000000000000000 01 0000000000000000"),
+        &hex("00 0000000000000000 00 0000000000000000"),
+        &[165; 14],
     ];
     assert_eq!(list.answer(&after, &ran), answer.concat());
 }
@@ -582,17 +687,35 @@ fn same_and_trips_are_met_on_every_side() {
 #[test]
 fn many_logs_are_longer_than_what_is_written() {
     let mut a_little_longer = 0;
-    let mut head_alone_fits = 0;
+    // What is left of a log, and the size of the record that does not fit.
+    let mut ends = Vec::new();
     for list in list_cases::lists(SEED) {
         let (_, ran) = list.run();
         let left = list.room - ran.log.len();
         a_little_longer += usize::from((1..=40).contains(&left));
         if let Some((call, _)) = first_call(&list.script[ran.taken..]) {
-            head_alone_fits += usize::from(left >= HEAD && left < record_size(&call));
+            ends.push((left, record_size(&call)));
         }
     }
     assert!(a_little_longer > 100, "{a_little_longer}");
-    assert!(head_alone_fits >= 10, "{head_alone_fits}");
+    let count = |is_there: fn(usize, usize) -> bool| {
+        let there = ends.iter().filter(|&&(left, size)| is_there(left, size));
+        there.count()
+    };
+    let in_head = count(|left, _| left > 0 && left < HEAD);
+    let behind_head = count(|left, _| left == HEAD);
+    let in_row = count(|left, _| left > HEAD && left < FRONT);
+    let behind_row = count(|left, _| left == FRONT);
+    let in_output = count(|left, _| left > FRONT);
+    let before_last = count(|left, size| left == size - 1);
+    let before_output_s_last = count(|left, size| left > FRONT && left == size - 1);
+    assert!(in_head >= 20, "{in_head}");
+    assert!(behind_head >= 20, "{behind_head}");
+    assert!(in_row >= 100, "{in_row}");
+    assert!(behind_row >= 5, "{behind_row}");
+    assert!(in_output >= 10, "{in_output}");
+    assert!(before_last >= 20, "{before_last}");
+    assert!(before_output_s_last >= 5, "{before_output_s_last}");
 }
 
 #[test]
@@ -600,7 +723,7 @@ fn list_files_meet_every_refusal_and_keep_their_limits() {
     let lists = list_cases::lists(SEED);
     assert!(lists.iter().all(List::fits));
     let files = gate::lists(&lists);
-    assert!(files.stdin.len() + files.stdout.len() < 800_000);
+    assert!(files.stdin.len() + files.stdout.len() < 1_200_000);
     let whole = lists.iter().filter(|list| {
         let (_, ran) = list.run();
         ran.calls.len() == CALLS && judge(&list.buffer).is_ok()
@@ -641,11 +764,11 @@ fn the_same_seed_gives_the_same_files() {
 fn the_programs_write_the_files() {
     let programs = [
         (
-            env!("CARGO_BIN_EXE_gate-whole"),
+            env!("CARGO_BIN_EXE_gate-reports"),
             gate::whole(&whole_cases::cases(SEED)),
         ),
         (
-            env!("CARGO_BIN_EXE_gate-lists"),
+            env!("CARGO_BIN_EXE_gate-scripts"),
             gate::lists(&list_cases::lists(SEED)),
         ),
     ];

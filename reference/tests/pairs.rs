@@ -14,7 +14,7 @@ fn refusal_of(case: &Case) -> Option<Refusal> {
         Outcome::Same(result) => result.err(),
         Outcome::Restore { result, .. } => result.err(),
         Outcome::Recover { result, .. } => result.err(),
-        Outcome::Calls(answers) => answers[0].0.result.err(),
+        Outcome::Calls(answers) => answers[0].0.result.clone().err(),
     }
 }
 

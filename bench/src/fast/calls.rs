@@ -2,7 +2,7 @@
 
 use super::card::{CARD, REQUIRED, ROWS, code, replace};
 use super::report::{Report, card_of, content_valid, inspect, quality, sixteen};
-use super::{Answer, Given, nibbles, refused, text};
+use super::{Answer, Given, Label, given, nibbles, refused, text};
 
 #[inline(always)]
 fn card_mut(s: &mut [u8]) -> &mut [u8; CARD] {
@@ -12,7 +12,7 @@ fn card_mut(s: &mut [u8]) -> &mut [u8; CARD] {
 #[inline(never)]
 pub fn judge(s: &[u8]) -> Answer {
     let r = inspect(s, 0)?;
-    Ok(Given::Value(r.size() as i64))
+    Ok(given(Label::Bytes, r.size() as i64))
 }
 
 #[inline(never)]
@@ -23,9 +23,9 @@ pub fn read_field(s: &[u8], k: usize) -> Answer {
     }
     let c = code(card_of(s), k);
     if c == 0 {
-        return Ok(Given::Missing);
+        return Ok(given(Label::MissingValue, 0));
     }
-    Ok(Given::Value(i64::from(c as i32 + ROWS[k].base)))
+    Ok(given(Label::Value, i64::from(c as i32 + ROWS[k].base)))
 }
 
 #[inline(never)]
@@ -40,7 +40,7 @@ pub fn set_field(s: &mut [u8], k: usize, v: i64) -> Answer {
         return refused(9, k);
     }
     replace(card_mut(s), k, c as u32, r.ck);
-    Ok(Given::Nothing)
+    Ok(Given::NOTHING)
 }
 
 #[inline(never)]
@@ -53,7 +53,7 @@ pub fn clear_field(s: &mut [u8], k: usize) -> Answer {
         return refused(10, k);
     }
     replace(card_mut(s), k, 0, r.ck);
-    Ok(Given::Nothing)
+    Ok(Given::NOTHING)
 }
 
 #[inline(never)]
@@ -67,9 +67,9 @@ pub fn read_flag(s: &[u8], j: usize) -> Answer {
     }
     let v = nibbles::nibble(s, r.place + 2 + j);
     if v == 0 {
-        return Ok(Given::Missing);
+        return Ok(given(Label::MissingFlag, 0));
     }
-    Ok(Given::Value(i64::from(v)))
+    Ok(given(Label::Flag, i64::from(v)))
 }
 
 /// Stores a flag of the body at a place, and the quality code.
@@ -96,7 +96,7 @@ pub fn set_flag(s: &mut [u8], j: usize, v: usize) -> Answer {
         return refused(11, 0);
     }
     store_flag(s, r.place + 3, j, v as u8);
-    Ok(Given::Nothing)
+    Ok(Given::NOTHING)
 }
 
 #[inline(never)]
@@ -109,7 +109,7 @@ pub fn clear_flag(s: &mut [u8], j: usize) -> Answer {
         return refused(11, 0);
     }
     store_flag(s, r.place + 3, j, 0);
-    Ok(Given::Nothing)
+    Ok(Given::NOTHING)
 }
 
 /// Makes room for new nibbles in place of old ones, and clears behind the end.
@@ -147,7 +147,7 @@ fn put_nibbles(s: &mut [u8], r: &Report, id: usize, content: &[u8]) -> Answer {
     nibbles::put(s, at + 2, id as u8);
     nibbles::lay(s, at + 3, content);
     set_count(s, count);
-    Ok(Given::Nothing)
+    Ok(Given::NOTHING)
 }
 
 #[inline(never)]
@@ -178,7 +178,7 @@ pub fn fetch(s: &[u8], id: usize, out: &mut [u8]) -> Answer {
         return refused(13, 0);
     };
     nibbles::fetch(s, r.place + 3, out);
-    Ok(Given::Value(r.al as i64))
+    Ok(given(Label::Count, r.al as i64))
 }
 
 #[inline(never)]
@@ -192,7 +192,7 @@ pub fn remove(s: &mut [u8], id: usize) -> Answer {
     }
     resize(s, r.place, 3 + r.al, 0, r.end);
     set_count(s, r.count - 1);
-    Ok(Given::Nothing)
+    Ok(Given::NOTHING)
 }
 
 #[inline(never)]
@@ -218,5 +218,5 @@ pub fn fetch_text(s: &[u8], out: &mut [u8]) -> Answer {
     if out.len() < 9 * ns.len() && out.len() < text::length(ns) {
         return refused(13, 0);
     }
-    Ok(Given::Value(text::read(ns, out) as i64))
+    Ok(given(Label::Count, text::read(ns, out) as i64))
 }

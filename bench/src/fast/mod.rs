@@ -17,13 +17,35 @@ pub struct Refusal {
     pub place: u8,
 }
 
-/// What an accepted call gives: nothing, a value or a count, or that a field or
-/// a flag is missing.
+/// The byte that says what a number is.
 #[derive(Clone, Copy, Debug, PartialEq, Eq)]
-pub enum Given {
-    Nothing,
-    Value(i64),
-    Missing,
+#[repr(u8)]
+pub enum Label {
+    /// There is no number.
+    Nothing = 0,
+    Value = 1,
+    Flag = 2,
+    Count = 3,
+    Bytes = 8,
+    MissingValue = 129,
+    MissingFlag = 130,
+}
+
+/// What an accepted call gives: a number and its label. It is 0 where it is missing
+/// or there is none.
+#[derive(Clone, Copy, Debug, PartialEq, Eq)]
+pub struct Given {
+    pub label: Label,
+    pub number: i64,
+}
+
+impl Given {
+    pub const NOTHING: Given = given(Label::Nothing, 0);
+}
+
+#[inline(always)]
+const fn given(label: Label, number: i64) -> Given {
+    Given { label, number }
 }
 
 pub type Answer = Result<Given, Refusal>;

@@ -1,6 +1,6 @@
 //! A script of calls performed on one buffer, and the log of their answers.
 
-use super::{Answer, Given, calls};
+use super::{Answer, calls};
 
 #[derive(Clone, Copy, Debug, Default, PartialEq, Eq)]
 pub struct Performed {
@@ -22,63 +22,68 @@ fn counted(s: &[u8]) -> Option<(&[u8], &[u8])> {
     rest.split_at_checked(n as usize)
 }
 
+/// A record without its output: ten bytes, and three numbers with their labels.
+const FRONT: usize = 37;
+
+/// Writes a record up to its output. Calls give one number at most.
 #[inline(always)]
-fn record(log: &mut [u8; 10], answer: Answer) {
-    let (tag, code, n) = match answer {
-        Err(r) => (0, r.number, i64::from(r.place)),
-        Ok(Given::Nothing) => (1, 0, 0),
-        Ok(Given::Value(v)) => (2, 0, v),
-        Ok(Given::Missing) => (3, 0, 0),
+fn record(front: &mut [u8; FRONT], answer: Answer) {
+    let (accepted, refusal, place, label, number) = match answer {
+        Err(r) => (0, r.number, r.place, 0, 0),
+        Ok(g) => (1, 0, 0, g.label as u8, g.number),
     };
-    log[0] = tag;
-    log[1] = code;
-    log[2..].copy_from_slice(&n.to_be_bytes());
+    *front = [0; FRONT];
+    front[0] = accepted;
+    front[1] = refusal;
+    front[9] = place;
+    front[10] = label;
+    front[11..19].copy_from_slice(&number.to_be_bytes());
 }
 
 /// Performs the entry at the head of a script; what is left of it, and how much was written.
 #[inline(always)]
 fn perform<'a>(b: &mut [u8], script: &'a [u8], log: &mut [u8]) -> Option<(&'a [u8], usize)> {
     let (&kind, rest) = script.split_first()?;
-    let (head, out) = log.split_first_chunk_mut::<10>()?;
+    let (front, behind) = log.split_first_chunk_mut::<FRONT>()?;
     let (k, after) = number(rest)?;
     let k = k as usize;
     let (answer, rest, written) = match kind {
-        1 => (calls::read_field(b, k), after, 10),
+        1 => (calls::read_field(b, k), after, FRONT),
         2 => {
             let (v, after) = number(after)?;
-            (calls::set_field(b, k, v as i64), after, 10)
+            (calls::set_field(b, k, v as i64), after, FRONT)
         }
-        3 => (calls::clear_field(b, k), after, 10),
-        4 => (calls::read_flag(b, k), after, 10),
+        3 => (calls::clear_field(b, k), after, FRONT),
+        4 => (calls::read_flag(b, k), after, FRONT),
         5 => {
             let (v, after) = number(after)?;
-            (calls::set_flag(b, k, v as usize), after, 10)
+            (calls::set_flag(b, k, v as usize), after, FRONT)
         }
-        6 => (calls::clear_flag(b, k), after, 10),
+        6 => (calls::clear_flag(b, k), after, FRONT),
         7 => {
             let (content, after) = counted(after)?;
-            (calls::put(b, k, content), after, 10)
+            (calls::put(b, k, content), after, FRONT)
         }
         8 => {
             let (output, after) = counted(after)?;
-            let out = out.get_mut(..output.len())?;
+            let out = behind.get_mut(..output.len())?;
             out.copy_from_slice(output);
-            (calls::fetch(b, k, out), after, 10 + output.len())
+            (calls::fetch(b, k, out), after, FRONT + output.len())
         }
-        9 => (calls::remove(b, k), after, 10),
+        9 => (calls::remove(b, k), after, FRONT),
         10 => {
             let (text, after) = counted(rest)?;
-            (calls::put_text(b, text), after, 10)
+            (calls::put_text(b, text), after, FRONT)
         }
         11 => {
             let (output, after) = counted(rest)?;
-            let out = out.get_mut(..output.len())?;
+            let out = behind.get_mut(..output.len())?;
             out.copy_from_slice(output);
-            (calls::fetch_text(b, out), after, 10 + output.len())
+            (calls::fetch_text(b, out), after, FRONT + output.len())
         }
         _ => return None,
     };
-    record(head, answer);
+    record(front, answer);
     Some((rest, written))
 }
 

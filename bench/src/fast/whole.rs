@@ -4,7 +4,7 @@ use super::card::{
     CARD, REQUIRED, base_of, each_field, highest_of, is_required, mask_of, shift_of, word_of,
 };
 use super::report::{inspect, walk_nibbles};
-use super::{Answer, Given, Refusal, nibbles, refused};
+use super::{Answer, Given, Label, Refusal, given, nibbles, refused};
 
 /// What unpack gives beside the values and the tail.
 #[derive(Clone, Copy, Debug, Default, PartialEq, Eq)]
@@ -192,7 +192,7 @@ pub fn pack(values: &[i64], word: u64, rptin: u16, tail: &[u8], out: &mut [u8]) 
     nibbles::lay(out, 75, tail);
     let last = out[37] & 15;
     w.store(out.first_chunk_mut().unwrap(), last);
-    Ok(Given::Value(size as i64))
+    Ok(given(Label::Bytes, size as i64))
 }
 
 #[inline(never)]
@@ -219,5 +219,5 @@ pub fn fresh(required: [i64; 5], out: &mut [u8]) -> Answer {
     };
     w.add::<282, 14>(sum % 255);
     w.store(card, 0);
-    Ok(Given::Nothing)
+    Ok(Given::NOTHING)
 }

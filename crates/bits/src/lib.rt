@@ -5,19 +5,12 @@ ghost use lib.ListN.{length, set};
 ghost use Rattle.format.specs.Bits.{bits, bitsOf, bitField, splice};
 ghost use Rattle.bits.specs.Window.{TwoBytes, FieldWritten, pair, patched};
 
-// A byte as a number.
-pub fn wide(x: u8) -> u64
-    ensures { λ r. ⌜ (r ≡ x) × (r < 256) ⌝ }
-{
-    x as u64
-}
-
 // Two bytes as one number.
 fn load(s: &[u8], i: usize) -> u64
     requires { ⌜ i + 2 ≤ length (now s) ⌝ }
     ensures { λ r. ⌜ (r ≡ pair (now (s .entry)) i) × (r < 65536) ⌝ }
 {
-    wide(s[i]) * 256 + wide(s[i + 1])
+    numbers::wide(s[i]) * 256 + numbers::wide(s[i + 1])
 }
 
 // A number of 16 bits to two bytes.
@@ -57,7 +50,8 @@ pub fn read(s: &[u8], at: usize, width: usize) -> u64
 pub fn write(s: &mut [u8], at: usize, width: usize, v: u64)
     requires { ⌜ TwoBytes (length (now s)) at width ⌝ }
     requires { ⌜ v < 2 ^ width ⌝ }
-    ensures { λ _. ⌜ (bitsOf (now (s .exit)) ≡ splice (bitsOf (now (s .entry))) at (bits width v)) × (length (now (s .exit)) ≡ length (now (s .entry))) × FieldWritten (now (s .entry)) (now (s .exit)) at width v ⌝ }
+    ensures { λ _. ⌜ (bitsOf (now (s .exit)) ≡ splice (bitsOf (now (s .entry))) at (bits width v)) × (length (now (s .exit)) ≡ length (now (s .entry)))
+        × FieldWritten (now (s .entry)) (now (s .exit)) at width v ⌝ }
 {
     let i = at / 8;
     let n = patch(load(s, i), 16 - at % 8 - width, width, v);

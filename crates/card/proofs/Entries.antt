@@ -12,7 +12,7 @@ use Rattle.format.specs.Report.{codesOf}
 use Rattle.format.specs.declared.Coded.{Coded}
 use Rattle.laws.proofs.Fields.{noField, field-at, table-length, length-entries, entries-at}
 use Rattle.card.specs.Answers.{entriesOf}
-use Rattle.card.proofs.Walk.{codes-length}
+use Rattle.card.proofs.Numbers.{codes-length}
 
 -- ---- a field's entry
 

@@ -2,6 +2,5 @@ pub mod Rows
 pub mod Runs
 pub mod Scale
 pub mod Numbers
-pub mod Walk
 pub mod Entries
-pub mod Given
+pub mod Laid

@@ -14,7 +14,7 @@ use Rattle.format.specs.Observation.{widths}
 use Rattle.format.specs.Report.{numbersOf, rptinOf, codesOf, checksumOf, countOf, tailOf}
 use Rattle.laws.proofs.Bits.{drop-below, bitField-at, length-bitsOf, uniform, uniform-append, uniform-back, total-replicate, length-writeFields, readFields-splice, behind-splice}
 use Rattle.laws.proofs.Nibbles.{length-nibbles, nibbles-lt, bitsOf-nibbles}
-use Rattle.laws.proofs.Card.{total-widths, length-widths}
+use Rattle.laws.proofs.Card.{total-widths, length-widths, numbers-length}
 use Rattle.laws.proofs.Fields.{noField, field-at, table-fits, width-at}
 use Rattle.bits.specs.Window.{patched}
 use Rattle.bits.proofs.Window.{field-byte, splice-byte}
@@ -34,7 +34,10 @@ code-at b k l h =
     getD-take 46 (drop 1 (numbersOf b)) (k - 1) 0 (omega arith) ∙ getD-drop 1 (numbersOf b) (k - 1) 0
     ∙ ap (λ (n : ℕ). getD (numbersOf b) n 0) e
 
--- and stands where the row says
+pub codes-length : (b : List ℕ) → length (codesOf b) ≡ 46
+codes-length b = length-take-le 46 (drop 1 (numbersOf b)) (simp (length-drop, numbers-length) (omega arith))
+
+-- a field's coded number stands where its row says
 pub row-at : (b : List ℕ) (k r : ℕ) → Row k r → 1 ≤ k → k ≤ 46 → bitField b (r / 4294967296) (r / 268435456 % 16) ≡ getD (codesOf b) (k - 1) 0
 row-at b k r w l h = ap₂ (bitField b) (w .place) (w .bits) ∙ number-at b k (omega arith) ∙ sym (code-at b k l h)
 

@@ -17,15 +17,6 @@ use Rattle.laws.proofs.Fields.{width-at}
 use Rattle.bits.specs.Window.{TwoBytes}
 use Rattle.card.specs.Rows.{rows, baseOf, fieldIn, Row, RowAt}
 
--- k is none of the numbers 1 to n, as a `match` on k hands it to its last arm
-abbrev None : ℕ → ℕ → Type 0
-None zero k = Unit {0}
-None (suc n) k = None n k × (k ≡ suc n → ⊥)
-
-pub none-lt : (n k : ℕ) → 1 ≤ k → None n k → n < k
-none-lt zero k l r = l
-none-lt (suc n) k l r = let m = none-lt n k l (r .0) in let e : k ≡ suc n → ⊥ = r .1 in omega arith
-
 eqZ-eq : (a b : ℤ) → T (eqZ a b) → a ≡ b
 unfolding eqZ
 eqZ-eq (pos a) (pos b) t = ap pos (eqb→eq a b t)

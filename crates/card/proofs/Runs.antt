@@ -8,7 +8,7 @@ use mathlib.Core.Path.{_≡_, sym, ap, ap₂, _∙_}
 use mathlib.Core.List.{List}
 use lib.ListN.{length, getD, set, length-set}
 use lib.Seq.{paste, paste-zero, paste-suc}
-use Rattle.card.specs.Runs.{setRun, sumRun, Summed, Ran}
+use Rattle.card.specs.Runs.{setRun, sumRun, Summed, SetAndSummed}
 
 -- ---- the sum
 
@@ -86,12 +86,12 @@ module _ {A : Type 0} (xs ys : List A) (d : A) (o : ℕ) where
 -- ---- both
 
 module _ {A : Type 0} {f : ℕ → A} {g : ℕ → ℕ} {o most : ℕ} where
-  pub ran-one : (i : ℕ) (x y : List A) (w r : ℕ) → y ≡ set x (o + i) (f i) → r ≡ w + g i → g i ≤ most → Ran f g o most i 1 x y w r
+  pub both-one : (i : ℕ) (x y : List A) (w r : ℕ) → y ≡ set x (o + i) (f i) → r ≡ w + g i → g i ≤ most → SetAndSummed f g o most i 1 x y w r
   unfolding setRun
-  ran-one i x y w r e t m = record { list = e; long = ap length e ∙ length-set x (o + i) (f i); sums = sum-one i w r t m }
+  both-one i x y w r e t m = record { list = e; long = ap length e ∙ length-set x (o + i) (f i); sums = sum-one i w r t m }
 
-  pub ran-then : {i m n : ℕ} {x y z : List A} {w u v : ℕ} → Ran f g o most i m x y w u → Ran f g o most (i + m) n y z u v → Ran f g o most i (m + n) x z w v
-  ran-then {i = i} {m = m} {n = n} {x = x} a b =
+  pub both-then : {i m n : ℕ} {x y z : List A} {w u v : ℕ} → SetAndSummed f g o most i m x y w u → SetAndSummed f g o most (i + m) n y z u v → SetAndSummed f g o most i (m + n) x z w v
+  both-then {i = i} {m = m} {n = n} {x = x} a b =
       record {
         list = b .list ∙ ap (setRun f o (i + m) n) (a .list) ∙ sym (set-add f o m n i x);
         long = b .long ∙ a .long;

@@ -3,29 +3,17 @@ use Prim.Native.Nat.{ℕ}
 use mathlib.Core.Path.{_≡_}
 use mathlib.Core.Bool.{cond}
 use mathlib.Core.List.{List}
-use mathlib.Core.Option.{Option, none, some}
+use mathlib.Core.Option.{Option}
 use lib.ListN.{length}
-use Rattle.format.specs.Order.{Refusal, first}
 use Rattle.format.specs.Field.{Field, table, entries, inRange, codedOf}
-use Rattle.format.specs.Bits.{total}
-use Rattle.format.specs.Report.{numbersOf, codesOf, tailOf, fieldChecks}
+use Rattle.format.specs.Report.{numbersOf, codesOf, tailOf}
 use Rattle.format.specs.declared.Scaled.{Scaled}
-use Rattle.card.specs.declared.FieldsCheck.{FieldsCheck}
-use Rattle.card.specs.declared.FieldsCheck.the-variants.{Refused, Sum}
 use Rattle.card.specs.declared.Coding.{Coding}
 use Rattle.card.specs.declared.Coding.the-variants.{Outside, Code}
 
 -- the entries that a card shows
 abbrev pub entriesOf : List ℕ → List (Option Scaled)
 entriesOf b = entries table (codesOf b)
-
--- the first refusal of a field, 2 or 3, or the sum of the coded fields
-abbrev pub fieldsCheckOf : Option Refusal → ℕ → FieldsCheck
-fieldsCheckOf (some r) sum = Refused (r .number) (r .place)
-fieldsCheckOf none sum = Sum sum
-
-unfoldable pub fieldsCheck : List ℕ → FieldsCheck
-fieldsCheck b = fieldsCheckOf (first (fieldChecks 1 table (codesOf b))) (total (codesOf b))
 
 -- the coded number of a value, or that it is out of range
 unfoldable pub codingOf : Field → Scaled → Coding

@@ -20,7 +20,7 @@ pub record Summed (g : ℕ → ℕ) (most i n sum r : ℕ) : Type 0 where
   pub small : r ≤ sum + n * most
 
 -- a run of n fields from place i on: the list before and after, and the sum
-pub record Ran {A : Type 0} (f : ℕ → A) (g : ℕ → ℕ) (o most i n : ℕ) (before after : List A) (sum r : ℕ) : Type 0 where
+pub record SetAndSummed {A : Type 0} (f : ℕ → A) (g : ℕ → ℕ) (o most i n : ℕ) (before after : List A) (sum r : ℕ) : Type 0 where
   pub list : after ≡ setRun f o i n before
   pub long : length after ≡ length before
   pub sums : Summed g most i n sum r

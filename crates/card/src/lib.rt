@@ -1,4 +1,4 @@
-// The card field by field: read, written, and walked for the first fault; a field's coded number and its scaled value.
+// The card field by field: read and written; a field's coded number and its scaled value.
 ghost use mathlib.Core.Path.{_≡_};
 ghost use mathlib.Core.Bool.{true, false};
 ghost use Prim.Native.Nat.{_+_, _-_, _*_, _/_, _%_, _≤_, _<_, _^_};
@@ -8,17 +8,10 @@ ghost use Rattle.format.specs.Bits.{bits, bitsOf, bitField, splice};
 ghost use Rattle.format.specs.Field.{fieldAt, required, scaledOf};
 ghost use Rattle.format.specs.Report.{numbersOf, rptinOf, codesOf, checksumOf, countOf};
 ghost use Rattle.bits.specs.Window.{TwoBytes};
-ghost use Rattle.card.specs.Answers.{fieldsCheck, codingOf, Carded};
+ghost use Rattle.card.specs.Answers.{codingOf, Carded};
 ghost use Rattle.card.specs.Rows.{rows, baseOf, fieldIn, Row};
-ghost use Rattle.card.specs.Walk.{refusalOf};
 use format::Coded;
 use format::Scaled;
-
-// What checking the fields answers: the first refusal's number and field, or the sum of the coded fields.
-pub enum FieldsCheck {
-    Refused(u8, usize),
-    Sum(u64),
-}
 
 // The coded number of a scaled value, or that the value is out of range.
 pub enum Coding {
@@ -228,7 +221,7 @@ pub fn count(s: &[u8]) -> usize
     requires { ⌜ 38 ≤ length (now s) ⌝ }
     ensures { λ r. ⌜ (r ≡ countOf (now (s .entry))) × (r < 16) ⌝ }
 {
-    (bits::wide(s[37]) / 16) as usize
+    (numbers::wide(s[37]) / 16) as usize
 }
 
 pub fn is_required(k: usize) -> bool
@@ -315,14 +308,14 @@ pub fn set_checksum(s: &mut [u8], sum: u64)
     requires { ⌜ 38 ≤ length (now s) ⌝ }
     ensures { λ _. ⌜ Carded (now (s .entry)) (now (s .exit)) (set (numbersOf (now (s .entry))) 47 (sum % 255)) ⌝ }
 {
-    bits::write(s, 282, 14, sum % 255);
+    bits::write(s, 282, 14, numbers::remainder(sum));
 }
 
 pub fn set_count(s: &mut [u8], n: usize)
     requires { ⌜ (38 ≤ length (now s)) × (n < 16) ⌝ }
     ensures { λ _. ⌜ Carded (now (s .entry)) (now (s .exit)) (set (numbersOf (now (s .entry))) 48 n) ⌝ }
 {
-    s[37] = (n as u64 * 16 + bits::wide(s[37]) % 16) as u8;
+    s[37] = (n as u64 * 16 + numbers::wide(s[37]) % 16) as u8;
 }
 
 pub fn set_rptin(s: &mut [u8], v: u16)
@@ -330,43 +323,4 @@ pub fn set_rptin(s: &mut [u8], v: u16)
     ensures { λ _. ⌜ Carded (now (s .entry)) (now (s .exit)) (set (numbersOf (now (s .entry))) 0 v) ⌝ }
 {
     bits::write(s, 0, 16, v as u64);
-}
-
-// The refusal, 2 or 3, of a coded number of field k, or 0.
-fn refusal(k: usize, c: Coded) -> u8
-    requires { ⌜ (1 ≤ k) × (k ≤ 46) ⌝ }
-    ensures { λ r. ⌜ r ≡ refusalOf k (c .0) ⌝ }
-{
-    let x = c.0;
-    if row(k) / 65536 % 4096 < x as u64 {
-        return 2;
-    }
-    if x != 0 {
-        return 0;
-    }
-    if is_required(k) {
-        return 3;
-    }
-    0
-}
-
-// Checks field after field.
-pub fn check(s: &[u8]) -> FieldsCheck
-    requires { ⌜ 38 ≤ length (now s) ⌝ }
-    ensures { λ r. ⌜ r ≡ fieldsCheck (now (s .entry)) ⌝ }
-{
-    let mut sum = 0;
-    let mut i = 0;
-    while i < 46 {
-        let k = i + 1;
-        let c = code(s, k);
-        let n = refusal(k, c);
-        if n != 0 {
-            return FieldsCheck::Refused(n, k);
-        }
-        let x = c.0;
-        sum += x as u64;
-        i = k;
-    }
-    FieldsCheck::Sum(sum)
 }

@@ -6,38 +6,35 @@ use native.Mathlib.Omega.{arith}
 use mathlib.Core.Path.{_≡_, refl, sym, ap, ap₂, subst, _∙_}
 use mathlib.Core.Bool.{Bool, true, false, not, _&&_}
 use mathlib.Core.List.{List}
-use mathlib.Core.Option.{Option, none, some}
+use mathlib.Core.Option.{Option, none}
 use lib.Dec.{T, eqb, leb, leb→le}
 use lib.ListN.{length, getD}
 use borrow.Author.Tests.{ne-eqb}
-use Rattle.format.specs.Order.{Refusal, first}
+use Rattle.format.specs.Order.{Refusal}
 use Rattle.format.specs.Bits.{bitField, total, offset}
 use Rattle.format.specs.Nibbles.{odd}
 use Rattle.format.specs.Field.{table, fieldAt, required}
 use Rattle.format.specs.Observation.{widths, checksum}
-use Rattle.format.specs.Report.{codesOf, fieldChecks}
+use Rattle.format.specs.Report.{codesOf}
 use Rattle.format.proofs.Test.{left, right}
-use Rattle.laws.proofs.Lists.{test-case}
+use Rattle.laws.proofs.Sequences.{test-case}
 use Rattle.card.proofs.Numbers.{number-at, code-at}
-use Rattle.card.proofs.Walk as turns
-use Rattle.card.specs.Walk.{refusalOf}
-use Rattle.card.specs.Answers.{fieldsCheckOf, fieldsCheck}
-use Rattle.card.specs.declared.FieldsCheck.{FieldsCheck}
 use Rattle.checks.specs.Answers.{checkedOf, cardCheck}
-use Rattle.checks.specs.Parts.{Part, Run, runA, runB, runC, runD, runE, partAt, picked, laid, even, tops, needed, Passed, AllPassed, placed, kept, atPlace, summed}
-use Rattle.checks.specs.declared.CardCheck.{CardCheck}
-use Rattle.checks.specs.declared.CardCheck.the-variants.{Refused, Checksum}
+use Rattle.checks.specs.Parts.{Part, WordFields, fieldsA, fieldsB, fieldsC, fieldsD, fieldsE, partAt, picked, laid, even, tops, needed, Passed, AllPassed, placed, kept, atPlace, summed}
+use Rattle.checks.specs.declared.CardCheck.the-variants.{Checksum}
+use Rattle.checks.specs.Walk.{codeRefusal}
+use Rattle.checks.proofs.Turns as turns
 use Rattle.checks.proofs.Turned.{field-within}
 use Rattle.checks.proofs.Parts.{shown, lower, apart, none-above, all-above, picked-at, every, every-at}
 use Rattle.checks.proofs.Places.{Near, near-add, near-low, near-mod, near-placed, near-summed, summed-add, valued, allValued, placed-all}
 
--- ---- the runs against the field table, computed
+-- ---- the fields of each word against the field table, computed
 
 -- field k stands in the eight bytes from `start` on
 abbrev inside : ℕ → ℕ → Bool
 inside start k = leb (8 * start) (offset widths k) && leb (offset widths k + getD widths k 0) (8 * start + 64)
 
-unfoldable pub good : Run → Bool
+unfoldable pub good : WordFields → Bool
 good r =
     every (inside (r .start)) (r .first) (r .count)
     && (apart (tops odd r)
@@ -46,11 +43,11 @@ good r =
     && (apart (needed even r)
     && every (λ p. lower (placed p r)) 0 8))))
 
-all-good : T (good runA && (good runB && (good runC && (good runD && good runE))))
+all-good : T (good fieldsA && (good fieldsB && (good fieldsC && (good fieldsD && good fieldsE))))
 unfolding good every lower apart picked laid partAt total widths table fieldAt required
 all-good = tt
 
-pub record Good (r : Run) : Type 0 where
+pub record Good (r : WordFields) : Type 0 where
   pub within : T (every (inside (r .start)) (r .first) (r .count))
   pub odds : T (apart (tops odd r))
   pub evens : T (apart (tops even r))
@@ -58,7 +55,7 @@ pub record Good (r : Run) : Type 0 where
   pub evens-needed : T (apart (needed even r))
   pub lowers : T (every (λ p. lower (placed p r)) 0 8)
 
-good-is : (r : Run) → T (good r) → Good r
+good-is : (r : WordFields) → T (good r) → Good r
 unfolding good
 good-is r t =
     let t₁ = right (every (inside (r .start)) (r .first) (r .count)) _ t in
@@ -74,37 +71,37 @@ good-is r t =
       lowers = right (apart (needed even r)) _ t₄;
     }
 
-all₁ : T (good runB && (good runC && (good runD && good runE)))
-all₁ = right (good runA) _ all-good
+all₁ : T (good fieldsB && (good fieldsC && (good fieldsD && good fieldsE)))
+all₁ = right (good fieldsA) _ all-good
 
-all₂ : T (good runC && (good runD && good runE))
-all₂ = right (good runB) _ all₁
+all₂ : T (good fieldsC && (good fieldsD && good fieldsE))
+all₂ = right (good fieldsB) _ all₁
 
-all₃ : T (good runD && good runE)
-all₃ = right (good runC) _ all₂
+all₃ : T (good fieldsD && good fieldsE)
+all₃ = right (good fieldsC) _ all₂
 
-goodA : Good runA
-goodA = good-is runA (left (good runA) _ all-good)
+goodA : Good fieldsA
+goodA = good-is fieldsA (left (good fieldsA) _ all-good)
 
-goodB : Good runB
-goodB = good-is runB (left (good runB) _ all₁)
+goodB : Good fieldsB
+goodB = good-is fieldsB (left (good fieldsB) _ all₁)
 
-goodC : Good runC
-goodC = good-is runC (left (good runC) _ all₂)
+goodC : Good fieldsC
+goodC = good-is fieldsC (left (good fieldsC) _ all₂)
 
-goodD : Good runD
-goodD = good-is runD (left (good runD) _ all₃)
+goodD : Good fieldsD
+goodD = good-is fieldsD (left (good fieldsD) _ all₃)
 
-goodE : Good runE
-goodE = good-is runE (right (good runD) _ all₃)
+goodE : Good fieldsE
+goodE = good-is fieldsE (right (good fieldsD) _ all₃)
 
 -- ---- a field in a word
 
 abbrev code : List ℕ → ℕ → ℕ
 code b k = getD (codesOf b) (k - 1) 0
 
--- a word x of the bytes b that holds the fields of the run r
-module _ (b : List ℕ) (h : 38 ≤ length b) (x : ℕ) (r : Run) (g : Good r) (e : x ≡ bitField b (8 * r .start) 64)
+-- a word x of the bytes b that holds the fields r
+module _ (b : List ℕ) (h : 38 ≤ length b) (x : ℕ) (r : WordFields) (g : Good r) (e : x ≡ bitField b (8 * r .start) 64)
     (near : r .start + 8 ≤ 38) (low : 1 ≤ r .first) (high : r .first + r .count ≤ 47) where
   shown-code : (most : ℕ → ℕ) (k : ℕ) → r .first ≤ k → k < r .first + r .count → shown x (partAt most (r .start) k) ≡ code b k
   unfolding shown partAt
@@ -153,7 +150,8 @@ module _ (b : List ℕ) (h : 38 ≤ length b) (x : ℕ) (r : Run) (g : Good r) (
         let needs : required k ≡ true → 0 < shown x (part k) =
         λ n. test-case (odd k)
         (λ q. picked-at (λ p. p .most < shown x p) (λ j. required j && odd j) part (r .count) (r .first) k l u (ap₂ _&&_ n q) (all-above x (needed odd r) (g .odds-needed) (c .odds-present)))
-        (λ q. picked-at (λ p. p .most < shown x p) (λ j. required j && even j) part (r .count) (r .first) k l u (ap₂ _&&_ n (ap not q)) (all-above x (needed even r) (g .evens-needed) (c .evens-present))) in
+        (λ q. picked-at (λ p. p .most < shown x p) (λ j. required j && even j) part (r .count) (r .first) k l u (ap₂ _&&_ n (ap not q))
+        (all-above x (needed even r) (g .evens-needed) (c .evens-present))) in
         test-case (required k)
         (λ n. ap₂ _&&_ n (ne-eqb (code b k) 0 (λ z. omega (arith, needs n, shown-code (λ j. 0) k l u))))
         (λ n. ap (λ (t : Bool). t && eqb (code b k) 0) n)
@@ -163,17 +161,18 @@ module _ (b : List ℕ) (h : 38 ≤ length b) (x : ℕ) (r : Run) (g : Good r) (
     none-refused zero k l u = ap (turns.left b) (sym (add-zero (k - 1)))
     none-refused (suc n) k l u =
         let q : suc (k - 1) ≡ k = omega arith in
-        let fine : 0 ≡ refusalOf (suc (k - 1)) (code b k) =
-        turns.refusal-fine (suc (k - 1)) (code b k) (subst (λ (j : ℕ). code b k ≤ fieldAt j .highest) (sym q) (top k l (omega arith))) (subst (λ (j : ℕ). required j && eqb (code b k) 0 ≡ false) (sym q) (present k l (omega arith))) in
+        let fine : 0 ≡ codeRefusal (suc (k - 1)) (code b k) =
+        turns.refusal-fine (suc (k - 1)) (code b k) (subst (λ (j : ℕ). code b k ≤ fieldAt j .highest) (sym q) (top k l (omega arith)))
+        (subst (λ (j : ℕ). required j && eqb (code b k) 0 ≡ false) (sym q) (present k l (omega arith))) in
         let p : suc k - 1 + n ≡ k - 1 + suc n = omega arith in
         let s : suc (k - 1) ≡ suc k - 1 = omega arith in
         turns.walk-passed b (k - 1) 0 (omega arith) fine refl ∙ ap (turns.left b) s ∙ none-refused n (suc k) (omega arith) (omega arith) ∙ ap (turns.left b) p
 
-  pub run-sum : allValued x (partAt (λ j. 0) (r .start)) (r .count) (r .first) + turns.rest b (r .first - 1 + r .count) ≡ turns.rest b (r .first - 1)
-  run-sum = sum-code (r .count) (r .first) (omega arith) (omega arith)
+  pub word-sum : allValued x (partAt (λ j. 0) (r .start)) (r .count) (r .first) + turns.rest b (r .first - 1 + r .count) ≡ turns.rest b (r .first - 1)
+  word-sum = sum-code (r .count) (r .first) (omega arith) (omega arith)
 
-  pub run-left : Passed x r → turns.left b (r .first - 1) ≡ turns.left b (r .first - 1 + r .count)
-  run-left c = none-refused c (r .count) (r .first) (omega arith) (omega arith)
+  pub word-left : Passed x r → turns.left b (r .first - 1) ≡ turns.left b (r .first - 1 + r .count)
+  word-left c = none-refused c (r .count) (r .first) (omega arith) (omega arith)
 
 -- ---- the card
 
@@ -181,39 +180,40 @@ module _ (s : List ℕ) (h : 38 ≤ length s) (a b c d e : ℕ)
     (ea : a ≡ bitField s (8 * 1) 64) (eb : b ≡ bitField s (8 * 8) 64) (ec : c ≡ bitField s (8 * 15) 64) (ed : d ≡ bitField s (8 * 22) 64) (ee : e ≡ bitField s (8 * 29) 64) where
   passed-left : AllPassed a b c d e → turns.left s 0 ≡ none
   passed-left t =
-      run-left s h a runA goodA ea (omega arith) (omega arith) (omega arith) (t .first)
-      ∙ run-left s h b runB goodB eb (omega arith) (omega arith) (omega arith) (t .second)
-      ∙ run-left s h c runC goodC ec (omega arith) (omega arith) (omega arith) (t .third)
-      ∙ run-left s h d runD goodD ed (omega arith) (omega arith) (omega arith) (t .fourth)
-      ∙ run-left s h e runE goodE ee (omega arith) (omega arith) (omega arith) (t .fifth)
+      word-left s h a fieldsA goodA ea (omega arith) (omega arith) (omega arith) (t .first)
+      ∙ word-left s h b fieldsB goodB eb (omega arith) (omega arith) (omega arith) (t .second)
+      ∙ word-left s h c fieldsC goodC ec (omega arith) (omega arith) (omega arith) (t .third)
+      ∙ word-left s h d fieldsD goodD ed (omega arith) (omega arith) (omega arith) (t .fourth)
+      ∙ word-left s h e fieldsE goodE ee (omega arith) (omega arith) (omega arith) (t .fifth)
       ∙ turns.left-end s
 
   -- the numbers at place p
   valuedAt : ℕ → ℕ
   valuedAt p =
-      valued a (placed p runA) + valued b (placed p runB)
-      + (valued c (placed p runC) + (valued d (placed p runD) + valued e (placed p runE)))
+      valued a (placed p fieldsA) + valued b (placed p fieldsB)
+      + (valued c (placed p fieldsC) + (valued d (placed p fieldsD) + valued e (placed p fieldsE)))
 
   near-at : (p : ℕ) → p < 8 → Near 0 (atPlace a b c d e p) (valuedAt p)
   unfolding atPlace valuedAt
   near-at p l =
-      let one : (x : ℕ) (r : Run) → Good r → Near p (kept x p r) (valued x (placed p r)) =
+      let one : (x : ℕ) (r : WordFields) → Good r → Near p (kept x p r) (valued x (placed p r)) =
       λ x r g. near-placed x p r (every-at (λ q. lower (placed q r)) 8 0 p (g .lowers) (omega arith) (omega arith)) in
-      near-low p _ _ (near-add p _ _ _ _ (near-add p _ _ _ _ (one a runA goodA) (one b runB goodB)) (near-add p _ _ _ _ (one c runC goodC) (near-add p _ _ _ _ (one d runD goodD) (one e runE goodE))))
+      near-low p _ _ (near-add p _ _ _ _ (near-add p _ _ _ _ (one a fieldsA goodA) (one b fieldsB goodB))
+      (near-add p _ _ _ _ (one c fieldsC goodC) (near-add p _ _ _ _ (one d fieldsD goodD) (one e fieldsE goodE))))
 
   all-codes : summed 8 valuedAt ≡ total (codesOf s)
   unfolding valuedAt
   all-codes =
-      let at : ℕ → Run → ℕ → ℕ = λ x r p. valued x (placed p r) in
-      let sums : summed 8 valuedAt ≡ summed 8 (at a runA) + summed 8 (at b runB) + (summed 8 (at c runC) + (summed 8 (at d runD) + summed 8 (at e runE))) =
-      summed-add 8 (λ p. at a runA p + at b runB p) (λ p. at c runC p + (at d runD p + at e runE p))
-      ∙ ap₂ _+_ (summed-add 8 (at a runA) (at b runB))
-      (summed-add 8 (at c runC) (λ p. at d runD p + at e runE p) ∙ ap (λ (n : ℕ). summed 8 (at c runC) + n) (summed-add 8 (at d runD) (at e runE))) in
-      let ra : summed 8 (at a runA) + turns.rest s 7 ≡ turns.rest s 0 = rw (placed-all a runA) (run-sum s h a runA goodA ea (omega arith) (omega arith) (omega arith)) in
-      let rb : summed 8 (at b runB) + turns.rest s 19 ≡ turns.rest s 7 = rw (placed-all b runB) (run-sum s h b runB goodB eb (omega arith) (omega arith) (omega arith)) in
-      let rc : summed 8 (at c runC) + turns.rest s 28 ≡ turns.rest s 19 = rw (placed-all c runC) (run-sum s h c runC goodC ec (omega arith) (omega arith) (omega arith)) in
-      let rd : summed 8 (at d runD) + turns.rest s 38 ≡ turns.rest s 28 = rw (placed-all d runD) (run-sum s h d runD goodD ed (omega arith) (omega arith) (omega arith)) in
-      let re : summed 8 (at e runE) + turns.rest s 46 ≡ turns.rest s 38 = rw (placed-all e runE) (run-sum s h e runE goodE ee (omega arith) (omega arith) (omega arith)) in
+      let at : ℕ → WordFields → ℕ → ℕ = λ x r p. valued x (placed p r) in
+      let sums : summed 8 valuedAt ≡ summed 8 (at a fieldsA) + summed 8 (at b fieldsB) + (summed 8 (at c fieldsC) + (summed 8 (at d fieldsD) + summed 8 (at e fieldsE))) =
+      summed-add 8 (λ p. at a fieldsA p + at b fieldsB p) (λ p. at c fieldsC p + (at d fieldsD p + at e fieldsE p))
+      ∙ ap₂ _+_ (summed-add 8 (at a fieldsA) (at b fieldsB))
+      (summed-add 8 (at c fieldsC) (λ p. at d fieldsD p + at e fieldsE p) ∙ ap (λ (n : ℕ). summed 8 (at c fieldsC) + n) (summed-add 8 (at d fieldsD) (at e fieldsE))) in
+      let ra : summed 8 (at a fieldsA) + turns.rest s 7 ≡ turns.rest s 0 = rw (placed-all a fieldsA) (word-sum s h a fieldsA goodA ea (omega arith) (omega arith) (omega arith)) in
+      let rb : summed 8 (at b fieldsB) + turns.rest s 19 ≡ turns.rest s 7 = rw (placed-all b fieldsB) (word-sum s h b fieldsB goodB eb (omega arith) (omega arith) (omega arith)) in
+      let rc : summed 8 (at c fieldsC) + turns.rest s 28 ≡ turns.rest s 19 = rw (placed-all c fieldsC) (word-sum s h c fieldsC goodC ec (omega arith) (omega arith) (omega arith)) in
+      let rd : summed 8 (at d fieldsD) + turns.rest s 38 ≡ turns.rest s 28 = rw (placed-all d fieldsD) (word-sum s h d fieldsD goodD ed (omega arith) (omega arith) (omega arith)) in
+      let re : summed 8 (at e fieldsE) + turns.rest s 46 ≡ turns.rest s 38 = rw (placed-all e fieldsE) (word-sum s h e fieldsE goodE ee (omega arith) (omega arith) (omega arith)) in
       sums ∙ omega (arith, turns.rest-end s)
 
   pub sum-is : summed 8 (atPlace a b c d e) % 255 ≡ checksum (codesOf s)
@@ -223,17 +223,3 @@ module _ (s : List ℕ) (h : 38 ≤ length s) (a b c d e : ℕ)
   pub card-passed : AllPassed a b c d e → Checksum (summed 8 (atPlace a b c d e) % 255) ≡ cardCheck s
   unfolding cardCheck
   card-passed t = ap₂ (λ (n : ℕ) (r : Option Refusal). checkedOf r n) sum-is (sym (passed-left t))
-
--- ---- what the walk answers
-
-abbrev pub answered : FieldsCheck → CardCheck
-answered (FieldsCheck.Refused n k) = Refused n k
-answered (FieldsCheck.Sum n) = Checksum (n % 255)
-
-pub walk-answered : (s : List ℕ) (f : FieldsCheck) → f ≡ fieldsCheck s → answered f ≡ cardCheck s
-unfolding fieldsCheck cardCheck checksum
-walk-answered s f e = ap answered e ∙ go (first (fieldChecks 1 table (codesOf s)))
-  where
-    go : (r : Option Refusal) → answered (fieldsCheckOf r (total (codesOf s))) ≡ checkedOf r (total (codesOf s) % 255)
-    go (some r) = refl
-    go none = refl

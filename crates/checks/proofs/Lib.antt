@@ -1,3 +1,4 @@
+pub mod Turns
 pub mod Turned
 pub mod Parts
 pub mod Places

@@ -11,7 +11,7 @@ use lib.Dec.{T, leb, ltb, leb→le, ltb→lt}
 use lib.Pow.{pow-pos, pow-add, shr-lt, split, high, low}
 use lib.Bits.{bitAnd, bitOr, bitXor, and-block, and-mask, and-zero-r, and-le-l, and-le-r, or-add-and, xor-add-and}
 use Rattle.format.proofs.Test.{left, right}
-use Rattle.laws.proofs.Lists.{true-false, cond-case}
+use Rattle.laws.proofs.Sequences.{true-false, cond-case}
 use Rattle.checks.specs.Parts.{Part, picked, laid, ones, gap, carry, tested}
 
 -- ---- numbers
@@ -122,7 +122,9 @@ module _ (x : ℕ) (p : Part) (ps : List Part) (t : T (apart (p ∷ ps))) where
   tested-cons =
       let k : bitAnd x (laid ones (p ∷ ps)) ≡ shown x p * 2 ^ p .below + bitAnd x (laid ones ps) = kept-cons x p ps (omega (arith, room)) in
       let low : bitAnd x (laid ones ps) + laid gap ps < 2 ^ p .below = omega (arith, room, and-le-r x (laid ones ps)) in
-      let sum : shown x p * 2 ^ p .below + bitAnd x (laid ones ps) + (gap p * 2 ^ p .below + laid gap ps) ≡ (shown x p + gap p) * 2 ^ p .below + (bitAnd x (laid ones ps) + laid gap ps) = omega arith in
+      let sum : shown x p * 2 ^ p .below + bitAnd x (laid ones ps) + (gap p * 2 ^ p .below + laid gap ps)
+      ≡ (shown x p + gap p) * 2 ^ p .below + (bitAnd x (laid ones ps) + laid gap ps) =
+      omega arith in
       ap (λ (n : ℕ). bitAnd (n + (gap p * 2 ^ p .below + laid gap ps)) (2 ^ p .bits * 2 ^ p .below + laid carry ps)) k
       ∙ ap (λ (n : ℕ). bitAnd n (2 ^ p .bits * 2 ^ p .below + laid carry ps)) sum
       ∙ and-block (p .below) (shown x p + gap p) (2 ^ p .bits) (bitAnd x (laid ones ps) + laid gap ps) (laid carry ps) low over

@@ -12,7 +12,7 @@ use lib.Pow.{pow-add, shl-shr}
 use lib.Bits.{bitAnd, and-zero-r}
 use borrow.Author.Tests.{eqb-true, eq-eqb, ne-eqb}
 use Rattle.format.proofs.Test.{left, right}
-use Rattle.checks.specs.Parts.{Part, Run, picked, laid, ones, partAt, placed, kept, summed}
+use Rattle.checks.specs.Parts.{Part, WordFields, picked, laid, ones, partAt, placed, kept, summed}
 use Rattle.checks.proofs.Parts.{shown, Each, lower, kept-cons, picked-each}
 
 -- ---- numbers modulo 255
@@ -75,7 +75,7 @@ near-kept x p (q ∷ ps) t e =
     near-add p (shown x q * 2 ^ q .below) (bitAnd x (laid ones ps)) (shown x q) (valued x ps) a b in
     record { more = c .more; is = kept-cons x q ps l ∙ c .is }
 
-pub near-placed : (x p : ℕ) (r : Run) → T (lower (placed p r)) → Near p (kept x p r) (valued x (placed p r))
+pub near-placed : (x p : ℕ) (r : WordFields) → T (lower (placed p r)) → Near p (kept x p r) (valued x (placed p r))
 near-placed x p r t =
     near-kept x p (placed p r) t
     (picked-each (λ q. q .below % 8 ≡ p) (λ k. eqb (partAt (λ j. 0) (r .start) k .below % 8) p) (partAt (λ j. 0) (r .start)) (r .count) (r .first)
@@ -164,6 +164,6 @@ module _ (x : ℕ) (part : ℕ → Part) where
       ∙ summed-add 8 (at (part k .below % 8) (shown x (part k))) (λ p. valued x (chosen n (suc k) p))
       ∙ ap₂ _+_ (summed-one 8 (part k .below % 8) (shown x (part k)) (mod-lt (part k .below) (omega arith))) (all-places n (suc k))
 
-pub placed-all : (x : ℕ) (r : Run) → summed 8 (λ p. valued x (placed p r)) ≡ allValued x (partAt (λ j. 0) (r .start)) (r .count) (r .first)
+pub placed-all : (x : ℕ) (r : WordFields) → summed 8 (λ p. valued x (placed p r)) ≡ allValued x (partAt (λ j. 0) (r .start)) (r .count) (r .first)
 unfolding chosen
 placed-all x r = all-places x (partAt (λ j. 0) (r .start)) (r .count) (r .first)

@@ -1,3 +1,4 @@
 pub mod Answers
 pub mod Turned
 pub mod Parts
+pub mod Walk

@@ -17,29 +17,29 @@ pub record Part : Type 0 where
   pub bits : ℕ
   pub most : ℕ
 
--- a run of fields in the word that begins at a byte: the first, and how many
-pub record Run : Type 0 where
+-- the fields of the word that begins at a byte: the first, and how many
+pub record WordFields : Type 0 where
   pub start : ℕ
   pub first : ℕ
   pub count : ℕ
 
-abbrev pub run : ℕ → ℕ → ℕ → Run
-run start first count = record { start = start; first = first; count = count }
+abbrev pub wordFields : ℕ → ℕ → ℕ → WordFields
+wordFields start first count = record { start = start; first = first; count = count }
 
-abbrev pub runA : Run
-runA = run 1 1 7
+abbrev pub fieldsA : WordFields
+fieldsA = wordFields 1 1 7
 
-abbrev pub runB : Run
-runB = run 8 8 12
+abbrev pub fieldsB : WordFields
+fieldsB = wordFields 8 8 12
 
-abbrev pub runC : Run
-runC = run 15 20 9
+abbrev pub fieldsC : WordFields
+fieldsC = wordFields 15 20 9
 
-abbrev pub runD : Run
-runD = run 22 29 10
+abbrev pub fieldsD : WordFields
+fieldsD = wordFields 22 29 10
 
-abbrev pub runE : Run
-runE = run 29 39 8
+abbrev pub fieldsE : WordFields
+fieldsE = wordFields 29 39 8
 
 -- field k in the word that begins at byte `start`
 unfoldable pub partAt : (ℕ → ℕ) → ℕ → ℕ → Part
@@ -75,40 +75,40 @@ tested x ps = bitAnd (bitAnd x (laid ones ps) + laid gap ps) (laid carry ps)
 abbrev pub even : ℕ → Bool
 even k = not (odd k)
 
-abbrev pub tops : (ℕ → Bool) → Run → List Part
+abbrev pub tops : (ℕ → Bool) → WordFields → List Part
 tops keep r = picked keep (partAt (λ k. fieldAt k .highest) (r .start)) (r .first) (r .count)
 
-abbrev pub needed : (ℕ → Bool) → Run → List Part
+abbrev pub needed : (ℕ → Bool) → WordFields → List Part
 needed keep r = picked (λ k. required k && keep k) (partAt (λ k. 0) (r .start)) (r .first) (r .count)
 
--- no field of the run in the word x is above its highest, and each required one is above 0
-pub record Passed (x : ℕ) (r : Run) : Type 0 where
+-- no field of r in the word x is above its highest, and each required one is above 0
+pub record Passed (x : ℕ) (r : WordFields) : Type 0 where
   pub odds : tested x (tops odd r) ≡ 0
   pub evens : tested x (tops even r) ≡ 0
   pub odds-present : tested x (needed odd r) ≡ laid carry (needed odd r)
   pub evens-present : tested x (needed even r) ≡ laid carry (needed even r)
 
 pub record AllPassed (a b c d e : ℕ) : Type 0 where
-  pub first : Passed a runA
-  pub second : Passed b runB
-  pub third : Passed c runC
-  pub fourth : Passed d runD
-  pub fifth : Passed e runE
+  pub first : Passed a fieldsA
+  pub second : Passed b fieldsB
+  pub third : Passed c fieldsC
+  pub fourth : Passed d fieldsD
+  pub fifth : Passed e fieldsE
 
 -- ---- the sum of the words
 
--- the fields of the run that stand p bits above a byte's end
-abbrev pub placed : ℕ → Run → List Part
+-- the fields of r that stand p bits above a byte's end
+abbrev pub placed : ℕ → WordFields → List Part
 placed p r =
     picked (λ k. eqb (partAt (λ j. 0) (r .start) k .below % 8) p) (partAt (λ j. 0) (r .start)) (r .first) (r .count)
 
 -- their bits in the word x
-abbrev pub kept : ℕ → ℕ → Run → ℕ
+abbrev pub kept : ℕ → ℕ → WordFields → ℕ
 kept x p r = bitAnd x (laid ones (placed p r))
 
 -- the bits of all words at place p, moved to a byte's end
 unfoldable pub atPlace : ℕ → ℕ → ℕ → ℕ → ℕ → ℕ → ℕ
-atPlace a b c d e p = (kept a p runA + kept b p runB + (kept c p runC + (kept d p runD + kept e p runE))) / 2 ^ p
+atPlace a b c d e p = (kept a p fieldsA + kept b p fieldsB + (kept c p fieldsC + (kept d p fieldsD + kept e p fieldsE))) / 2 ^ p
 
 unfoldable pub summed : ℕ → (ℕ → ℕ) → ℕ
 summed zero f = 0

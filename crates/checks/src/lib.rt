@@ -7,6 +7,8 @@ ghost use Rattle.format.specs.Bits.{bitField};
 ghost use Rattle.checks.specs.Answers.{cardCheck};
 ghost use Rattle.checks.specs.Turned.{little2, little4, little8, turned2, turned4};
 ghost use Rattle.checks.specs.Parts.{AllPassed, summed, atPlace};
+ghost use Rattle.checks.specs.Walk.{codeRefusal};
+use format::Coded;
 
 // The first refusal's number and field, or the checksum of the fields.
 pub enum CardCheck {
@@ -21,7 +23,7 @@ fn load_two(s: &[u8], i: usize) -> u64
     requires { ⌜ i + 2 ≤ length (now s) ⌝ }
     ensures { λ r. ⌜ (r ≡ little2 (now (s .entry)) i) × (r < 65536) ⌝ }
 {
-    bits::wide(s[i + 1]) * 256 + bits::wide(s[i])
+    numbers::wide(s[i + 1]) * 256 + numbers::wide(s[i])
 }
 
 // Four bytes.
@@ -155,7 +157,48 @@ fn checksum(a: u64, b: u64, c: u64, d: u64, e: u64) -> u64
     let x = two(a, 0, b, 0);
     let y = three(c, 0, d, 0, e, 0xf800000);
     let t = t + (x + y) / 128;
-    t % 255
+    numbers::remainder(t)
+}
+
+// ---- the walk, field after field
+
+// The refusal, 2 or 3, of a coded number of field k, or 0.
+fn refusal(k: usize, c: Coded) -> u8
+    requires { ⌜ (1 ≤ k) × (k ≤ 46) ⌝ }
+    ensures { λ r. ⌜ r ≡ codeRefusal k (c .0) ⌝ }
+{
+    let x = c.0;
+    if card::row(k) / 65536 % 4096 < x as u64 {
+        return 2;
+    }
+    if x != 0 {
+        return 0;
+    }
+    if card::is_required(k) {
+        return 3;
+    }
+    0
+}
+
+// Checks field after field.
+fn walk(s: &[u8]) -> CardCheck
+    requires { ⌜ 38 ≤ length (now s) ⌝ }
+    ensures { λ r. ⌜ r ≡ cardCheck (now (s .entry)) ⌝ }
+{
+    let mut sum = 0;
+    let mut i = 0;
+    while i < 46 {
+        let k = i + 1;
+        let c = card::code(s, k);
+        let n = refusal(k, c);
+        if n != 0 {
+            return CardCheck::Refused(n, k);
+        }
+        let x = c.0;
+        sum += x as u64;
+        i = k;
+    }
+    CardCheck::Checksum(numbers::remainder(sum))
 }
 
 // Checks the fields. Where there is a fault, the walk finds the first.
@@ -172,9 +215,5 @@ pub fn check(s: &[u8]) -> CardCheck
     if faults(a, b, c, d, e) == 0 {
         return CardCheck::Checksum(checksum(a, b, c, d, e));
     }
-    let f = card::check(s);
-    match f {
-        card::FieldsCheck::Refused(n, k) => CardCheck::Refused(n, k),
-        card::FieldsCheck::Sum(sum) => CardCheck::Checksum(sum % 255),
-    }
+    walk(s)
 }

@@ -13,9 +13,9 @@ use lib.Dec.{eqb, leb}
 use borrow.Author.Tests.{le-leb, ne-eqb, eqb-true}
 use Rattle.format.specs.Flags.{weight, totalWeight, allMissing, qualityCode, flagsFit, flagsValid}
 use Rattle.laws.proofs.Characters.{allBelow, at-below}
-use Rattle.laws.proofs.Lists.{cond-case, test-case}
+use Rattle.laws.proofs.Sequences.{cond-case, test-case}
 use Rattle.laws.proofs.Flags.{flagFits, quality-le}
-use Rattle.flags.specs.Marks.{mark, marks, codeIn}
+use Rattle.flags.specs.Marks.{mark, markSum, codeIn}
 
 -- n values from one on that a computed test gives one mark
 pub same-mark : (low n m : ℕ) → allBelow n (λ k. eqb (mark (low + k)) m) ≡ true → (v : ℕ) → low ≤ v → v < low + n → m ≡ mark v
@@ -44,8 +44,8 @@ over : List ℕ → ℕ
 over [] = 0
 over (v ∷ l) = cond (leb v 10) 0 1 + over l
 
-marks-are : (l : List ℕ) → marks l ≡ totalWeight l + 256 * given l + 65536 * over l
-unfolding marks mark totalWeight given over
+marks-are : (l : List ℕ) → markSum l ≡ totalWeight l + 256 * given l + 65536 * over l
+unfolding markSum mark totalWeight given over
 marks-are [] = refl
 marks-are (v ∷ l) = omega (arith, marks-are l)
 
@@ -85,7 +85,7 @@ pub code-some : (t : ℕ) → (t / 256 % 256 ≡ 0 → ⊥) → 1 + t % 256 ≡ 
 unfolding codeIn
 code-some t n = rw (ne-eqb (t / 256 % 256) 0 n)
 
-module _ (l : List ℕ) (h : length l ≡ 14) (t : ℕ) (e : t ≡ marks l) where
+module _ (l : List ℕ) (h : length l ≡ 14) (t : ℕ) (e : t ≡ markSum l) where
   pub code-is : codeIn t ≡ qualityCode l
   unfolding codeIn qualityCode
   code-is =
@@ -109,30 +109,30 @@ module _ (l : List ℕ) (h : length l ≡ 14) (t : ℕ) (e : t ≡ marks l) wher
 -- after 2 i flags: the sum so far, and what is still to come
 pub record Summing (l : List ℕ) (i sum : ℕ) : Type 0 where
   pub passed : 2 * i ≤ length l
-  pub summed : sum + marks (drop (2 * i) l) ≡ marks l
+  pub summed : sum + markSum (drop (2 * i) l) ≡ markSum l
   pub small : sum ≤ 131590 * i
 
-marks-step : (l : List ℕ) (i : ℕ) → i < length l → marks (drop i l) ≡ mark (getD l i 0) + marks (drop (i + 1) l)
-unfolding marks
-marks-step l i h = rw (add-one i) (ap marks (drop-cons l i 0 h))
+marks-step : (l : List ℕ) (i : ℕ) → i < length l → markSum (drop i l) ≡ mark (getD l i 0) + markSum (drop (i + 1) l)
+unfolding markSum
+marks-step l i h = rw (add-one i) (ap markSum (drop-cons l i 0 h))
 
 pub sum-none : (l : List ℕ) → Summing l 0 0
-sum-none l = record { passed = omega arith; summed = zero-add (marks l); small = omega arith }
+sum-none l = record { passed = omega arith; summed = zero-add (markSum l); small = omega arith }
 
 pub sum-more : (l : List ℕ) (i sum u v : ℕ) → 2 * i + 1 < length l → Summing l i sum → (u ≡ mark (getD l (2 * i) 0)) × (u ≤ 65795)
     → (v ≡ mark (getD l (2 * i + 1) 0)) × (v ≤ 65795) → Summing l (i + 1) (sum + (u + v))
 sum-more l i sum u v h k p q =
     let j : 2 * i + 1 + 1 ≡ 2 * (i + 1) = omega arith in
-    let n : marks (drop (2 * i + 1 + 1) l) ≡ marks (drop (2 * (i + 1)) l) = ap (λ (x : ℕ). marks (drop x l)) j in
+    let n : markSum (drop (2 * i + 1 + 1) l) ≡ markSum (drop (2 * (i + 1)) l) = ap (λ (x : ℕ). markSum (drop x l)) j in
     record {
       passed = omega arith;
       summed = omega (arith, marks-step l (2 * i) (omega arith), marks-step l (2 * i + 1) h, k .summed);
       small = omega (arith, k .small);
     }
 
-pub sum-end : (l : List ℕ) (i sum : ℕ) → Summing l i sum → length l ≤ 2 * i → sum ≡ marks l
-unfolding marks
-sum-end l i sum k h = omega (arith, k .summed, ap marks (drop-of-length-le l h))
+pub sum-end : (l : List ℕ) (i sum : ℕ) → Summing l i sum → length l ≤ 2 * i → sum ≡ markSum l
+unfolding markSum
+sum-end l i sum k h = omega (arith, k .summed, ap markSum (drop-of-length-le l h))
 
 -- ---- a body of n nibbles
 

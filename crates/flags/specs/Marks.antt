@@ -9,9 +9,9 @@ use Rattle.format.specs.Flags.{weight}
 unfoldable pub mark : ℕ → ℕ
 mark v = weight v + 256 * cond (eqb v 0) 0 1 + 65536 * cond (leb v 10) 0 1
 
-unfoldable pub marks : List ℕ → ℕ
-marks [] = 0
-marks (v ∷ vs) = mark v + marks vs
+unfoldable pub markSum : List ℕ → ℕ
+markSum [] = 0
+markSum (v ∷ vs) = mark v + markSum vs
 
 -- the quality code that a sum of marks shows
 unfoldable pub codeIn : ℕ → ℕ

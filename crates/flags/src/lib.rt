@@ -4,7 +4,7 @@ ghost use Prim.Native.Nat.{_+_, _≤_, _<_, _^_};
 ghost use lib.ListN.{length};
 ghost use Rattle.format.specs.Flags.{flagsValid, qualityCode};
 ghost use Rattle.nibble.specs.View.{view, part};
-ghost use Rattle.flags.specs.Marks.{mark, marks, codeIn};
+ghost use Rattle.flags.specs.Marks.{mark, markSum, codeIn};
 use nibble::Cursor;
 
 // A flag's mark: its weight, 256 if it is given, and 65536 if it is over 10.
@@ -30,7 +30,7 @@ fn mark_of(v: u8) -> usize
 // The sum of the marks of the fourteen flags from a place on.
 fn sum_marks(s: &[u8], c: Cursor) -> usize
     requires { ⌜ (c .at + 14 ≤ length (view (c .packed) (now s))) × (c .at ≤ 2 ^ 32) ⌝ }
-    ensures { λ r. ⌜ r ≡ marks (part (now (s .entry)) c 14) ⌝ }
+    ensures { λ r. ⌜ r ≡ markSum (part (now (s .entry)) c 14) ⌝ }
 {
     let at = c.at;
     let packed = c.packed;
@@ -76,8 +76,8 @@ pub fn valid(s: &[u8], c: Cursor, len: usize) -> bool
     }
     let sum = sum_marks(s, c);
     if sum < 65536 {
-        let high = nibble::wide(nibble::nibble_at(s, at + 14, packed));
-        let low = nibble::wide(nibble::nibble_at(s, at + 15, packed));
+        let high = numbers::wide(nibble::nibble_at(s, at + 14, packed)) as usize;
+        let low = numbers::wide(nibble::nibble_at(s, at + 15, packed)) as usize;
         return high * 16 + low == code_in(sum);
     }
     false

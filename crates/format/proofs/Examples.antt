@@ -12,12 +12,17 @@ use Rattle.format.specs.Field.{Field, minus, table, fieldAt, required, s
 use Rattle.format.specs.Bits.{bits, number, bitsOf, bitField, total, offset, readFields, writeFields}
 use Rattle.format.specs.Nibbles.{attachment, nibbles, bytes, padded, attachmentNibbles, tailNibbles, attachmentsOf, among}
 use Rattle.format.specs.Flags.{weights, weight, totalWeight, allMissing, qualityCode, flagsFit, flagBody, withFlag, flagsValid}
-use Rattle.format.specs.ShipText.{charCode, short, pairByte, codeNibbles, classify, byteOf, escapable, isSpace, symbolNibbles, fulls, rest, spaceRun, writeFrom, writeText, spaces, textStep, stateAfter, symbolsOf, readFrom, endFrom, atEnd, textValid, readText}
+use Rattle.format.specs.ShipText.{charCode, short, pairByte, codeNibbles, classify, byteOf, escapable, isSpace, symbolNibbles, fulls, rest, spaceRun, writeFrom}
+use Rattle.format.specs.ShipText.{writeText, spaces, textStep, stateAfter, symbolsOf, readFrom, endFrom, atEnd, textValid, readText}
 use Rattle.format.specs.Observation.{Observation, widths, checksum, cardNumbers, cardNibbles, packing}
 use Rattle.format.specs.Report.{observationOf, codesOf, checksumOf, fieldChecks, bodyValid, attachmentChecks, reportChecks, Verdict, refused, accepted, judge}
-use Rattle.format.specs.Calls.{Call, readField, setField, clearField, readFlag, setFlag, clearFlag, put, fetch, remove, putText, fetchText, stands, contentOf, putIn, removeFrom, withAttachments, edited, Quantity, Given, gives, outputOf, writes, allNibbles, callChecks, checks, Answer, step}
+use Rattle.format.specs.Calls.{Call, reads, edits, fetches, readField, setField, clearField, readFlag, setFlag, clearFlag, put, fetch, remove, putText, fetchText}
+use Rattle.format.specs.Calls.{stands, contentOf, putIn, removeFrom, withAttachments, made, Quantity, Given, gives, outputsOf, writes, overfull, overEach}
+use Rattle.format.specs.Calls.{allNibbles, callChecks, checks, Answer, step}
+use Rattle.format.specs.Machine.{course}
 use Rattle.format.specs.Buffer.{layout, effect, Shown, calls, run, claim}
-use Rattle.format.specs.Whole.{freshObservation, freshChecks, Wrote, fresh, presenceFrom, countPresent, Unpacked, unpackGives, unpack, packChecks, entriesGiven, countFrom, packObservation, packOrder, pack}
+use Rattle.format.specs.Whole.{freshObservation, freshChecks, Wrote, fresh, presenceFrom, countPresent, Unpacked, unpackGives, unpack, packChecks, entriesGiven}
+use Rattle.format.specs.Whole.{countFrom, packObservation, packOrder, pack}
 use Rattle.format.specs.Lister.{digitsFrom, fieldLines, listing}
 use Rattle.format.specs.declared.Scaled.{Scaled}
 use Rattle.format.proofs.Test.{Example, same, every}
@@ -71,9 +76,13 @@ answer : Answer → List ℕ
 answer (Answer.refused r) = refusal r
 answer (Answer.accepted g) = 1 ∷ given g
 
+joined : List (List ℕ) → List ℕ
+joined [] = []
+joined (out ∷ more) = out ++ joined more
+
 answers : List Shown → List ℕ
 answers [] = []
-answers (a ∷ more) = answer (a .answer) ++ (a .out ++ answers more)
+answers (a ∷ more) = answer (a .answer) ++ (joined (a .outs) ++ answers more)
 
 yes : List ℕ
 yes = 1 ∷ []
@@ -99,11 +108,11 @@ freshObservationExample = freshObservation (scaled (pos 1)) (scaled (pos 1900)) 
 
 -- "then S set to 286"
 sBytes : List ℕ
-sBytes = effect freshBytes (setField 31 (scaled (pos 286))) .buffer
+sBytes = effect freshBytes (edits (setField 31 (scaled (pos 286)))) .buffer
 
 -- "then text A1", in a buffer with four bytes more
 textBytes : List ℕ
-textBytes = effect (sBytes ++ (7 ∷ 7 ∷ 7 ∷ 7 ∷ [])) (putText (65 ∷ 49 ∷ [])) .buffer
+textBytes = effect (sBytes ++ (7 ∷ 7 ∷ 7 ∷ 7 ∷ [])) (edits (putText (65 ∷ 49 ∷ []))) .buffer
 
 -- a report of these coded fields, this checksum, this count and this tail
 reportWith : List ℕ → ℕ → ℕ → List ℕ → List ℕ
@@ -127,11 +136,11 @@ flagless : List ℕ
 flagless = replicate 16 0
 
 put1 : Call
-put1 = put 1 flagless
+put1 = edits (put 1 flagless)
 
 -- the flags of the fresh report: flag 1 set to R, 1, and flag 6 to L, 6
 flagCalls : List Call
-flagCalls = put1 ∷ setFlag 1 1 ∷ setFlag 6 6 ∷ fetch 1 (replicate 17 9) ∷ []
+flagCalls = put1 ∷ edits (setFlag 1 1) ∷ edits (setFlag 6 6) ∷ fetches (fetch 1 (replicate 17 9)) ∷ []
 
 answersOf : List ℕ → List Call → List ℕ
 answersOf b cs = answers (claim b cs .answers)
@@ -160,18 +169,18 @@ examples =
     -- S set to 286: coded 1286 at bits 203 to 213, bytes 25 and 26, CK 251, and back
     ∷ example (codedOf (fieldAt 31) (scaled (pos 286)) .0 ∷ bitField sBytes 203 11 ∷ offset widths 31 ∷ []) (1286 ∷ 1286 ∷ 203 ∷ [])
     ∷ example (getD sBytes 25 0 ∷ getD sBytes 26 0 ∷ checksumOf sBytes ∷ length sBytes ∷ []) (0x14 ∷ 0x18 ∷ 251 ∷ 38 ∷ [])
-    ∷ example (answersOf sBytes (readField 31 ∷ [])) (1 ∷ 1 ∷ 0 ∷ 286 ∷ [])
+    ∷ example (answersOf sBytes (reads (readField 31) ∷ [])) (1 ∷ 1 ∷ 0 ∷ 286 ∷ [])
     -- text A1: bytes 37 to 40, CK still 251, and back
     ∷ example (drop 37 textBytes) (0x10 ∷ 0x34 ∷ 0xC1 ∷ 0x10 ∷ 7 ∷ [])
     ∷ example (checksumOf textBytes ∷ []) (251 ∷ [])
-    ∷ example (answersOf textBytes (fetchText (3 ∷ 3 ∷ 3 ∷ []) ∷ [])) (1 ∷ 1 ∷ 0 ∷ 2 ∷ 65 ∷ 49 ∷ 3 ∷ [])
+    ∷ example (answersOf textBytes (fetches (fetchText (3 ∷ 3 ∷ 3 ∷ [])) ∷ [])) (1 ∷ 1 ∷ 0 ∷ 2 ∷ 65 ∷ 49 ∷ 3 ∷ [])
     -- all fields highest: sum 19643, CK 8; all coded 1: CK 46
     ∷ example (total highestCodes ∷ checksum highestCodes ∷ []) (19643 ∷ 8 ∷ [])
     ∷ example (checksum (replicate 46 1) ∷ []) (46 ∷ [])
     ∷ example (checksumOf (reportOf highestCodes 0 []) ∷ checksumOf (reportOf (replicate 46 1) 0 []) ∷ []) (8 ∷ 46 ∷ [])
     ∷ example (codesOf (packing (observationOf (reportOf highestCodes 0 [])))) highestCodes
     -- S: -1000 is 9; -999 is coded 1
-    ∷ example (answersOf freshBytes (setField 31 (scaled (minus 1000)) ∷ [])) (refuses 9 31)
+    ∷ example (answersOf freshBytes (edits (setField 31 (scaled (minus 1000))) ∷ [])) (refuses 9 31)
     ∷ example (codedOf (fieldAt 31) (scaled (minus 999)) .0 ∷ signed (scaledOf (fieldAt 31) (coded 1) .0)) (1 ∷ 1 ∷ 998 ∷ [])
     -- 12, three spaces, 3; twenty spaces and B; a; and back
     ∷ example (writeText (49 ∷ 50 ∷ 32 ∷ 32 ∷ 32 ∷ 51 ∷ [])) (1 ∷ 2 ∷ 11 ∷ 0 ∷ 3 ∷ [])
@@ -181,21 +190,28 @@ examples =
     ∷ example (writeText (97 ∷ [])) (15 ∷ 6 ∷ 1 ∷ [])
     ∷ example (readText (15 ∷ 6 ∷ 1 ∷ [])) (97 ∷ [])
     -- 10 10 10 1 as id 4: 14 in put, 6 in a report
-    ∷ example (answersOf roomy (put 4 badText ∷ [])) (refuses 14 0)
+    ∷ example (answersOf roomy (edits (put 4 badText) ∷ [])) (refuses 14 0)
     ∷ example (judged (judge (reportOf freshCodes 1 (0 ∷ 4 ∷ 4 ∷ badText)))) (refuses 6 1)
     -- 85 times a fits, 86 is 12
-    ∷ example (answersOf wide (putText (replicate 85 97) ∷ putText (replicate 86 97) ∷ [])) (yes ++ refuses 12 0)
+    ∷ example (answersOf wide (edits (putText (replicate 85 97)) ∷ edits (putText (replicate 86 97)) ∷ [])) (yes ++ refuses 12 0)
     -- flag 1 R, flag 6 L: quality code 3
     ∷ example (qualityCode (1 ∷ 0 ∷ 0 ∷ 0 ∷ 0 ∷ 6 ∷ replicate 8 0) ∷ []) (3 ∷ [])
     ∷ example (answersOf roomy flagCalls)
     (1 ∷ 1 ∷ 1 ∷ 1 ∷ 1 ∷ 0 ∷ 16 ∷ 1 ∷ 0 ∷ 0 ∷ 0 ∷ 0 ∷ 6 ∷ 0 ∷ 0 ∷ 0 ∷ 0 ∷ 0 ∷ 0 ∷ 0 ∷ 0 ∷ 0 ∷ 3 ∷ 9 ∷ [])
     -- clearing DAY is accepted, MONTH is 10
-    ∷ example (answersOf freshBytes (clearField 4 ∷ clearField 3 ∷ [])) (yes ++ refuses 10 3)
+    ∷ example (answersOf freshBytes (edits (clearField 4) ∷ edits (clearField 3) ∷ [])) (yes ++ refuses 10 3)
     ∷ []
 
 -- every example holds: one computed fact, with all that it computes with unfolded
 pub examples-hold : T (every examples)
-unfolding signed optional given valueNumbers observationNumbers refusal judged answer answers yes refuses example freshExample freshBytes freshObservationExample sBytes textBytes reportWith reportOf highestCodes freshCodes badText flagless put1 flagCalls answersOf roomy wide examples same every first table fieldAt required scaledOf codedOf inRange entryOf codeOf entries codes bits number bitsOf bitField total readFields writeFields nibbles bytes padded attachmentNibbles tailNibbles attachmentsOf among weights weight totalWeight allMissing qualityCode flagsFit flagBody withFlag flagsValid charCode short pairByte codeNibbles classify byteOf escapable isSpace symbolNibbles fulls rest spaceRun writeFrom writeText spaces textStep stateAfter symbolsOf readFrom endFrom atEnd textValid readText widths checksum cardNumbers cardNibbles packing observationOf fieldChecks bodyValid attachmentChecks reportChecks judge stands contentOf putIn removeFrom edited gives outputOf writes allNibbles callChecks checks step layout effect calls run claim freshObservation freshChecks fresh digitsFrom fieldLines listing
+unfolding signed optional given valueNumbers observationNumbers refusal judged answer joined answers yes refuses example freshExample freshBytes
+    freshObservationExample sBytes textBytes reportWith reportOf highestCodes freshCodes badText flagless put1 flagCalls answersOf roomy wide examples
+    same every first table fieldAt required scaledOf codedOf inRange entryOf codeOf entries codes bits number bitsOf bitField total readFields
+    writeFields nibbles bytes padded attachmentNibbles tailNibbles attachmentsOf among weights weight totalWeight allMissing qualityCode flagsFit
+    flagBody withFlag flagsValid charCode short pairByte codeNibbles classify byteOf escapable isSpace symbolNibbles fulls rest spaceRun writeFrom
+    writeText spaces textStep stateAfter symbolsOf readFrom endFrom atEnd textValid readText widths checksum cardNumbers cardNibbles packing
+    observationOf fieldChecks bodyValid attachmentChecks reportChecks judge stands contentOf putIn removeFrom made gives outputsOf writes overfull
+    overEach allNibbles callChecks checks step layout effect course calls run claim freshObservation freshChecks fresh digitsFrom fieldLines listing
 examples-hold = tt
 
 -- ---- two refusals that fit at once, zeroed bytes, unpack and pack
@@ -266,22 +282,36 @@ orders =
     ∷ example (judged (judge (freshBytes ++ (255 ∷ [])))) (judged (accepted freshObservationExample))
     ∷ example (judged (judge (set freshBytes 37 3))) (refuses 7 0)
     -- 8, 9, 10, 11, 12, 14, 13, after the report
-    ∷ example (answersOf (spoilt freshBytes) (setField 47 (scaled (pos 0)) ∷ fetch 0 (3 ∷ []) ∷ [])) (refuses 4 0 ++ (refuses 4 0 ++ one 3))
-    ∷ example (answersOf freshBytes (setField 47 (scaled (minus 5)) ∷ setField 260 (scaled (pos 1)) ∷ clearField 0 ∷ readField 47 ∷ [])) (refuses 8 0 ++ (refuses 8 0 ++ (refuses 8 0 ++ refuses 8 0)))
-    ∷ example (answersOf freshBytes (setFlag 15 11 ∷ setFlag 14 11 ∷ setFlag 1 0 ∷ setFlag 1 1 ∷ readFlag 0 ∷ readFlag 14 ∷ clearFlag 15 ∷ clearFlag 1 ∷ []))
+    ∷ example (answersOf (spoilt freshBytes) (edits (setField 47 (scaled (pos 0))) ∷ fetches (fetch 0 (3 ∷ [])) ∷ [])) (refuses 4 0 ++ (refuses 4 0 ++ one 3))
+    ∷ example (answersOf freshBytes (edits (setField 47 (scaled (minus 5))) ∷ edits (setField 260 (scaled (pos 1))) ∷ edits (clearField 0) ∷ reads (readField 47) ∷ []))
+    (refuses 8 0 ++ (refuses 8 0 ++ (refuses 8 0 ++ refuses 8 0)))
+    ∷ example
+    (answersOf freshBytes
+    (edits (setFlag 15 11) ∷ edits (setFlag 14 11) ∷ edits (setFlag 1 0) ∷ edits (setFlag 1 1)
+    ∷ reads (readFlag 0) ∷ reads (readFlag 14) ∷ edits (clearFlag 15) ∷ edits (clearFlag 1) ∷ []))
     (refuses 8 0 ++ (refuses 9 14 ++ (refuses 9 1 ++ (refuses 11 0 ++ (refuses 8 0 ++ (refuses 11 0 ++ (refuses 8 0 ++ refuses 11 0)))))))
-    ∷ example (answersOf freshBytes (put 16 [] ∷ put 1 [] ∷ put 5 (replicate 256 16) ∷ put 5 (16 ∷ []) ∷ put 1 (0 ∷ []) ∷ put 5 (1 ∷ []) ∷ putText (32 ∷ []) ∷ putText (65 ∷ []) ∷ []))
+    ∷ example
+    (answersOf freshBytes
+    (edits (put 16 []) ∷ edits (put 1 []) ∷ edits (put 5 (replicate 256 16)) ∷ edits (put 5 (16 ∷ [])) ∷ edits (put 1 (0 ∷ [])) ∷ edits (put 5 (1 ∷ []))
+    ∷ edits (putText (32 ∷ [])) ∷ edits (putText (65 ∷ [])) ∷ []))
     (refuses 8 0 ++ (refuses 12 0 ++ (refuses 12 0 ++ (refuses 14 0 ++ (refuses 14 0 ++ (refuses 13 0 ++ (refuses 12 0 ++ refuses 13 0)))))))
-    ∷ example (answersOf (textBytes) (fetch 16 [] ∷ fetch 5 [] ∷ fetch 4 (7 ∷ 7 ∷ []) ∷ fetch 4 (7 ∷ 7 ∷ 7 ∷ 7 ∷ []) ∷ fetchText (7 ∷ []) ∷ remove 5 ∷ remove 0 ∷ []))
+    ∷ example
+    (answersOf (textBytes)
+    (fetches (fetch 16 []) ∷ fetches (fetch 5 []) ∷ fetches (fetch 4 (7 ∷ 7 ∷ [])) ∷ fetches (fetch 4 (7 ∷ 7 ∷ 7 ∷ 7 ∷ [])) ∷ fetches (fetchText (7 ∷ []))
+    ∷ edits (remove 5) ∷ edits (remove 0) ∷ []))
     (refuses 8 0 ++ (refuses 11 0 ++ (refuses 13 0 ++ (7 ∷ 7 ∷ 1 ∷ 1 ∷ 0 ∷ 3 ∷ 12 ∷ 1 ∷ 1 ∷ 7 ∷ (refuses 13 0 ++ (7 ∷ (refuses 11 0 ++ refuses 8 0)))))))
     -- bytes from the present end to the longest end reached are 0, and those past it keep their value
-    ∷ example (drop 37 (claim roomy (put 9 (1 ∷ 2 ∷ 3 ∷ []) ∷ put 8 (4 ∷ 5 ∷ []) ∷ remove 9 ∷ []) .buffer)) (16 ∷ 40 ∷ 69 ∷ 0 ∷ 0 ∷ 0 ∷ replicate 17 5)
-    ∷ example (drop 37 (claim roomy (put 9 (1 ∷ 2 ∷ 3 ∷ []) ∷ remove 9 ∷ []) .buffer)) (0 ∷ 0 ∷ 0 ∷ 0 ∷ replicate 19 5)
-    ∷ example (drop 37 (effect (effect roomy (put 9 (1 ∷ 2 ∷ 3 ∷ [])) .buffer) (remove 9) .buffer)) (0 ∷ 0 ∷ 0 ∷ 0 ∷ replicate 19 5)
+    ∷ example (drop 37 (claim roomy (edits (put 9 (1 ∷ 2 ∷ 3 ∷ [])) ∷ edits (put 8 (4 ∷ 5 ∷ [])) ∷ edits (remove 9) ∷ []) .state)) (16 ∷ 40 ∷ 69 ∷ 0 ∷ 0 ∷ 0 ∷ replicate 17 5)
+    ∷ example (drop 37 (claim roomy (edits (put 9 (1 ∷ 2 ∷ 3 ∷ [])) ∷ edits (remove 9) ∷ []) .state)) (0 ∷ 0 ∷ 0 ∷ 0 ∷ replicate 19 5)
+    ∷ example (drop 37 (effect (effect roomy (edits (put 9 (1 ∷ 2 ∷ 3 ∷ []))) .buffer) (edits (remove 9)) .buffer)) (0 ∷ 0 ∷ 0 ∷ 0 ∷ replicate 19 5)
     -- a put where the id stands keeps the order
-    ∷ example (tailNibbles (observationOf (claim roomy (put 9 (1 ∷ []) ∷ put 8 (2 ∷ []) ∷ put 9 (3 ∷ 3 ∷ []) ∷ []) .buffer) .attachments)) (0 ∷ 2 ∷ 9 ∷ 3 ∷ 3 ∷ 0 ∷ 1 ∷ 8 ∷ 2 ∷ [])
+    ∷ example (tailNibbles (observationOf (claim roomy (edits (put 9 (1 ∷ [])) ∷ edits (put 8 (2 ∷ [])) ∷ edits (put 9 (3 ∷ 3 ∷ [])) ∷ []) .state) .attachments))
+    (0 ∷ 2 ∷ 9 ∷ 3 ∷ 3 ∷ 0 ∷ 1 ∷ 8 ∷ 2 ∷ [])
     -- the last flag cleared: quality code 0; a missing flag reads as missing
-    ∷ example (answersOf roomy (put1 ∷ setFlag 14 10 ∷ readFlag 14 ∷ fetch 1 (replicate 16 9) ∷ clearFlag 14 ∷ readFlag 14 ∷ fetch 1 (replicate 16 9) ∷ []))
+    ∷ example
+    (answersOf roomy
+    (put1 ∷ edits (setFlag 14 10) ∷ reads (readFlag 14) ∷ fetches (fetch 1 (replicate 16 9)) ∷ edits (clearFlag 14) ∷ reads (readFlag 14)
+    ∷ fetches (fetch 1 (replicate 16 9)) ∷ []))
     (1 ∷ 1 ∷ 1 ∷ 1 ∷ 0 ∷ 10 ∷ 1 ∷ 1 ∷ 0 ∷ 16 ∷ (replicate 13 0 ++ (10 ∷ 0 ∷ 4 ∷ 1 ∷ 1 ∷ 0 ∷ 1 ∷ 1 ∷ 0 ∷ 16 ∷ replicate 16 0)))
     -- fresh: 9 by ascending field, then 13
     ∷ example (let w = fresh (scaled (pos 1)) (scaled (pos 1799)) (scaled (pos 13)) (scaled (pos 0)) (scaled (pos 0)) (7 ∷ []) in answer (w .answer) ++ w .out) (refuses 9 2 ++ one 7)
@@ -305,10 +335,10 @@ orders =
     ∷ example (packed wholeValues requiredBits (0 ∷ 1 ∷ 1 ∷ 9 ∷ []) []) (refuses 6 1)
     ∷ example (packed wholeValues requiredBits (0 ∷ 1 ∷ 5 ∷ 9 ∷ []) (replicate 39 7)) (refuses 13 0 ++ replicate 39 7)
     -- what each number is
-    ∷ example (quantities (effect textBytes (readField 1) .answer) ++ quantities (effect textBytes (readField 4) .answer)) (1 ∷ 1 ∷ [])
-    ∷ example (quantities (effect (effect roomy put1 .buffer) (readFlag 1) .answer)) (2 ∷ [])
-    ∷ example (quantities (effect textBytes (fetch 4 (replicate 9 7)) .answer) ++ quantities (effect textBytes (fetchText (replicate 9 7)) .answer)) (3 ∷ 3 ∷ [])
-    ∷ example (quantities (effect textBytes (clearField 4) .answer) ++ quantities (effect textBytes (remove 4) .answer)) []
+    ∷ example (quantities (effect textBytes (reads (readField 1)) .answer) ++ quantities (effect textBytes (reads (readField 4)) .answer)) (1 ∷ 1 ∷ [])
+    ∷ example (quantities (effect (effect roomy put1 .buffer) (reads (readFlag 1)) .answer)) (2 ∷ [])
+    ∷ example (quantities (effect textBytes (fetches (fetch 4 (replicate 9 7))) .answer) ++ quantities (effect textBytes (fetches (fetchText (replicate 9 7))) .answer)) (3 ∷ 3 ∷ [])
+    ∷ example (quantities (effect textBytes (edits (clearField 4)) .answer) ++ quantities (effect textBytes (edits (remove 4)) .answer)) []
     ∷ example (quantities (unpack textBytes (replicate 46 (pos 5)) (replicate 7 5) .answer)) (4 ∷ 5 ∷ 6 ∷ 7 ∷ 8 ∷ 9 ∷ [])
     ∷ example (quantities (pack wholeValues requiredBits 0 [] (replicate 39 7) .answer)) (8 ∷ [])
     -- all 14 bits of CK are compared; a checksum of 0 by a sum of 255 is stored as 0
@@ -317,25 +347,30 @@ orders =
     -- the highest codes are accepted
     ∷ example (take 1 (judged (judge (reportOf highestCodes 0 [])))) yes
     -- an attachment of 17 nibbles, and back
-    ∷ example (drop 37 (effect roomy (put 9 (replicate 17 3)) .buffer)) ((0x11 ∷ 0x19 ∷ replicate 8 0x33) ++ (0x30 ∷ replicate 12 5))
-    ∷ example (answersOf roomy (put 9 (replicate 17 3) ∷ fetch 9 (replicate 18 8) ∷ [])) (1 ∷ 1 ∷ 1 ∷ 0 ∷ 17 ∷ (replicate 17 3 ++ one 8))
+    ∷ example (drop 37 (effect roomy (edits (put 9 (replicate 17 3))) .buffer)) ((0x11 ∷ 0x19 ∷ replicate 8 0x33) ++ (0x30 ∷ replicate 12 5))
+    ∷ example (answersOf roomy (edits (put 9 (replicate 17 3)) ∷ fetches (fetch 9 (replicate 18 8)) ∷ [])) (1 ∷ 1 ∷ 1 ∷ 0 ∷ 17 ∷ (replicate 17 3 ++ one 8))
     -- a quality code of 43, and the rule
-    ∷ example (answersOf roomy (put 1 (replicate 14 10 ++ (2 ∷ 10 ∷ [])) ∷ put 1 (replicate 14 10 ++ (2 ∷ 11 ∷ [])) ∷ clearFlag 1 ∷ fetch 1 (replicate 16 8) ∷ []))
+    ∷ example (answersOf roomy (edits (put 1 (replicate 14 10 ++ (2 ∷ 10 ∷ []))) ∷ edits (put 1 (replicate 14 10 ++ (2 ∷ 11 ∷ []))) ∷ edits (clearFlag 1) ∷ fetches (fetch 1 (replicate 16 8)) ∷ []))
     (refuses 14 0 ++ (1 ∷ 1 ∷ 1 ∷ 1 ∷ 0 ∷ 16 ∷ 0 ∷ (replicate 13 10 ++ (2 ∷ 8 ∷ []))))
-    ∷ example (answersOf roomy (put 1 (11 ∷ replicate 15 0) ∷ put 1 (replicate 15 0) ∷ put 1 (replicate 14 0 ++ (0 ∷ 1 ∷ [])) ∷ put 1 (1 ∷ (replicate 14 0 ++ (1 ∷ []))) ∷ [])) (refuses 14 0 ++ (refuses 14 0 ++ (refuses 14 0 ++ yes)))
+    ∷ example
+    (answersOf roomy
+    (edits (put 1 (11 ∷ replicate 15 0)) ∷ edits (put 1 (replicate 15 0)) ∷ edits (put 1 (replicate 14 0 ++ (0 ∷ 1 ∷ [])))
+    ∷ edits (put 1 (1 ∷ (replicate 14 0 ++ (1 ∷ [])))) ∷ []))
+    (refuses 14 0 ++ (refuses 14 0 ++ (refuses 14 0 ++ yes)))
     -- field 1, and the required fields
-    ∷ example (answersOf freshBytes (readField 1 ∷ readField 46 ∷ readField 0 ∷ [])) (1 ∷ 1 ∷ 0 ∷ 1 ∷ 1 ∷ 0 ∷ refuses 8 0)
-    ∷ example (answersOf freshBytes (clearField 1 ∷ clearField 2 ∷ clearField 6 ∷ clearField 7 ∷ clearField 5 ∷ [])) (refuses 10 1 ++ (refuses 10 2 ++ (refuses 10 6 ++ (refuses 10 7 ++ yes))))
+    ∷ example (answersOf freshBytes (reads (readField 1) ∷ reads (readField 46) ∷ reads (readField 0) ∷ [])) (1 ∷ 1 ∷ 0 ∷ 1 ∷ 1 ∷ 0 ∷ refuses 8 0)
+    ∷ example (answersOf freshBytes (edits (clearField 1) ∷ edits (clearField 2) ∷ edits (clearField 6) ∷ edits (clearField 7) ∷ edits (clearField 5) ∷ []))
+    (refuses 10 1 ++ (refuses 10 2 ++ (refuses 10 6 ++ (refuses 10 7 ++ yes))))
     -- runs of 17, 18 and 36 spaces, and 21
     ∷ example (writeText (replicate 17 32 ++ (66 ∷ []))) (11 ∷ 14 ∷ 12 ∷ 2 ∷ [])
     ∷ example (writeText (replicate 18 32 ++ (66 ∷ []))) (11 ∷ 15 ∷ 12 ∷ 2 ∷ [])
     ∷ example (writeText (replicate 36 32 ++ (66 ∷ []))) (11 ∷ 15 ∷ 11 ∷ 15 ∷ 12 ∷ 2 ∷ [])
     ∷ example (readText (11 ∷ 15 ∷ 11 ∷ 0 ∷ 1 ∷ [])) (replicate 21 32 ++ (49 ∷ []))
-    ∷ example (answersOf roomy (put 4 (11 ∷ 15 ∷ 11 ∷ 0 ∷ 1 ∷ []) ∷ put 4 (15 ∷ 8 ∷ 0 ∷ []) ∷ fetchText (7 ∷ 7 ∷ []) ∷ [])) (1 ∷ 1 ∷ 1 ∷ 1 ∷ 0 ∷ 1 ∷ 128 ∷ 7 ∷ [])
+    ∷ example (answersOf roomy (edits (put 4 (11 ∷ 15 ∷ 11 ∷ 0 ∷ 1 ∷ [])) ∷ edits (put 4 (15 ∷ 8 ∷ 0 ∷ [])) ∷ fetches (fetchText (7 ∷ 7 ∷ [])) ∷ [])) (1 ∷ 1 ∷ 1 ∷ 1 ∷ 0 ∷ 1 ∷ 128 ∷ 7 ∷ [])
     -- bodies that end within a code
-    ∷ example (answersOf roomy (put 4 (1 ∷ 11 ∷ []) ∷ put 4 (1 ∷ 12 ∷ []) ∷ put 4 (1 ∷ 15 ∷ []) ∷ [])) (refuses 14 0 ++ (refuses 14 0 ++ refuses 14 0))
+    ∷ example (answersOf roomy (edits (put 4 (1 ∷ 11 ∷ [])) ∷ edits (put 4 (1 ∷ 12 ∷ [])) ∷ edits (put 4 (1 ∷ 15 ∷ [])) ∷ [])) (refuses 14 0 ++ (refuses 14 0 ++ refuses 14 0))
     -- the lister: a field of two digits, values 10 and -10, and input past 1856 bytes
-    ∷ example (drop 23 (listing (claim freshBytes (setField 10 (scaled (pos 10)) ∷ setField 31 (scaled (minus 10)) ∷ []) .buffer)))
+    ∷ example (drop 23 (listing (claim freshBytes (edits (setField 10 (scaled (pos 10))) ∷ edits (setField 31 (scaled (minus 10))) ∷ []) .state)))
     (49 ∷ 48 ∷ 32 ∷ 49 ∷ 48 ∷ 10 ∷ 51 ∷ 49 ∷ 32 ∷ 45 ∷ 49 ∷ 48 ∷ 10 ∷ 67 ∷ 32 ∷ 50 ∷ 50 ∷ 49 ∷ 10 ∷ 65 ∷ 32 ∷ 48 ∷ 10 ∷ [])
     ∷ example (listing longReport) (82 ∷ 32 ∷ 49 ∷ 32 ∷ 49 ∷ 53 ∷ 10 ∷ [])
     ∷ example (judged (judge longReport)) (refuses 6 15)
@@ -346,10 +381,21 @@ orders =
     ∷ example (packed wholeValues requiredBits (manyAttachments 15 ++ (0 ∷ [])) []) (refuses 1 16)
     -- nineteen spaces are 11 15 10, and not 10 11 15
     ∷ example (writeText (replicate 19 32 ++ (66 ∷ []))) (11 ∷ 15 ∷ 10 ∷ 12 ∷ 2 ∷ [])
-    ∷ example (answersOf roomy (put 4 (10 ∷ 11 ∷ 15 ∷ 12 ∷ 2 ∷ []) ∷ put 4 (11 ∷ 15 ∷ 10 ∷ 12 ∷ 2 ∷ []) ∷ put 4 (1 ∷ 10 ∷ []) ∷ put 4 (15 ∷ 4 ∷ 1 ∷ []) ∷ put 4 (14 ∷ 0 ∷ []) ∷ put 4 (15 ∷ 6 ∷ []) ∷ []))
+    ∷ example
+    (answersOf roomy
+    (edits (put 4 (10 ∷ 11 ∷ 15 ∷ 12 ∷ 2 ∷ [])) ∷ edits (put 4 (11 ∷ 15 ∷ 10 ∷ 12 ∷ 2 ∷ [])) ∷ edits (put 4 (1 ∷ 10 ∷ [])) ∷ edits (put 4 (15 ∷ 4 ∷ 1 ∷ []))
+    ∷ edits (put 4 (14 ∷ 0 ∷ [])) ∷ edits (put 4 (15 ∷ 6 ∷ [])) ∷ []))
     (refuses 14 0 ++ (1 ∷ (refuses 14 0 ++ (refuses 14 0 ++ (refuses 14 0 ++ refuses 14 0)))))
     ∷ []
 
 pub orders-hold : T (every orders)
-unfolding manyAttachments longTail longReport codesWith codesWithout spoilt one wholeValues numbers packed requiredBits unpackedNumbers orders presenceFrom countPresent unpackGives unpack packChecks entriesGiven countFrom packObservation packOrder pack quantityNumber quantities signed optional given valueNumbers observationNumbers refusal judged answer answers yes refuses example freshExample freshBytes freshObservationExample sBytes textBytes reportWith reportOf highestCodes freshCodes badText flagless put1 flagCalls answersOf roomy wide same every first table fieldAt required scaledOf codedOf inRange entryOf codeOf entries codes bits number bitsOf bitField total readFields writeFields nibbles bytes padded attachmentNibbles tailNibbles attachmentsOf among weights weight totalWeight allMissing qualityCode flagsFit flagBody withFlag flagsValid charCode short pairByte codeNibbles classify byteOf escapable isSpace symbolNibbles fulls rest spaceRun writeFrom writeText spaces textStep stateAfter symbolsOf readFrom endFrom atEnd textValid readText widths checksum cardNumbers cardNibbles packing observationOf fieldChecks bodyValid attachmentChecks reportChecks judge stands contentOf putIn removeFrom edited gives outputOf writes allNibbles callChecks checks step layout effect calls run claim freshObservation freshChecks fresh digitsFrom fieldLines listing
+unfolding manyAttachments longTail longReport codesWith codesWithout spoilt one wholeValues numbers packed requiredBits unpackedNumbers orders presenceFrom
+    countPresent unpackGives unpack packChecks entriesGiven countFrom packObservation packOrder pack quantityNumber quantities signed optional given valueNumbers
+    observationNumbers refusal judged answer joined answers yes refuses example freshExample freshBytes freshObservationExample sBytes textBytes reportWith reportOf
+    highestCodes freshCodes badText flagless put1 flagCalls answersOf roomy wide same every first table fieldAt required scaledOf codedOf inRange entryOf codeOf entries
+    codes bits number bitsOf bitField total readFields writeFields nibbles bytes padded attachmentNibbles tailNibbles attachmentsOf among weights weight totalWeight
+    allMissing qualityCode flagsFit flagBody withFlag flagsValid charCode short pairByte codeNibbles classify byteOf escapable isSpace symbolNibbles fulls rest spaceRun
+    writeFrom writeText spaces textStep stateAfter symbolsOf readFrom endFrom atEnd textValid readText widths checksum cardNumbers cardNibbles packing observationOf
+    fieldChecks bodyValid attachmentChecks reportChecks judge stands contentOf putIn removeFrom made gives outputsOf writes overfull overEach allNibbles callChecks checks
+    step layout effect course calls run claim freshObservation freshChecks fresh digitsFrom fieldLines listing
 orders-hold = tt

@@ -10,7 +10,8 @@ use Rattle.format.specs.Field.{Field, minus, table}
 use Rattle.format.specs.Bits.{total}
 use Rattle.format.specs.Observation.{widths}
 use Rattle.format.specs.Flags.{weights}
-use Rattle.format.specs.ShipText.{charCode, short, codeNibbles, pairByte, classify, byteOf, escapable, isSpace, symbolNibbles, fulls, rest, spaceRun, writeFrom, writeText, spaces, textStep, stateAfter, symbolsOf, readFrom, endFrom, atEnd, textValid, readText}
+use Rattle.format.specs.ShipText.{charCode, short, codeNibbles, pairByte, classify, byteOf, escapable, isSpace, symbolNibbles, fulls, rest, spaceRun, writeFrom}
+use Rattle.format.specs.ShipText.{writeText, spaces, textStep, stateAfter, symbolsOf, readFrom, endFrom, atEnd, textValid, readText}
 use Rattle.format.proofs.Test.{same}
 
 -- ---- fields: tables F0-1 and F0-2
@@ -146,5 +147,6 @@ pub characters-agree : T (
     -- the blank positions, and no other byte is short
     && (blankFrom 12 12 4 && (blankFrom 13 11 5 && (blankFrom 14 0 1 && (blankFrom 14 10 6 && (eqb (countShort 256) 43 && escaped 256)))))))))
     )
-unfolding same charCode short codeNibbles pairByte classify byteOf escapable isSpace symbolNibbles fulls rest spaceRun writeFrom writeText spaces textStep stateAfter symbolsOf readFrom endFrom atEnd textValid readText column single blankFrom countShort escaped
+unfolding same charCode short codeNibbles pairByte classify byteOf escapable isSpace symbolNibbles fulls rest spaceRun writeFrom writeText spaces textStep stateAfter
+    symbolsOf readFrom endFrom atEnd textValid readText column single blankFrom countShort escaped
 characters-agree = tt

@@ -1,11 +1,12 @@
 -- What a call, and a list of calls, leaves of the buffer and of the outputs; the claim about a list.
 use Prim.Native.Nat.{ℕ, _-_, max}
-use mathlib.Core.List.{List, [], _∷_, _++_, map}
+use mathlib.Core.List.{List, _++_, map}
 use lib.ListN.{length, drop, replicate}
 use Rattle.format.specs.Order.{Refusal}
 use Rattle.format.specs.Observation.{Observation, packing, size}
 use Rattle.format.specs.Report.{Verdict, refused, accepted, judge}
-use Rattle.format.specs.Calls.{Call, Answer, outputOf, step}
+use Rattle.format.specs.Calls.{Call, Answer, outputsOf, step}
+use Rattle.format.specs.Machine.{Moved, Course, course}
 
 abbrev pub zeros : ℕ → List ℕ
 zeros n = replicate n 0
@@ -15,14 +16,14 @@ zeros n = replicate n 0
 unfoldable pub layout : List ℕ → ℕ → Observation → List ℕ
 layout b e s = packing s ++ (zeros (e - size s) ++ drop (max e (size s)) b)
 
--- what a call leaves: its answer, the buffer, its output
+-- what a call leaves: its answer, the buffer, its outputs
 pub record After : Type 0 where
   pub answer : Answer
   pub buffer : List ℕ
-  pub out : List ℕ
+  pub outs : List (List ℕ)
 
-abbrev pub after : Answer → List ℕ → List ℕ → After
-after a b o = record { answer = a; buffer = b; out = o }
+abbrev pub after : Answer → List ℕ → List (List ℕ) → After
+after a b outs = record { answer = a; buffer = b; outs = outs }
 
 -- what a step leaves of the buffer b, whose report ended at e: "a refused step changes nothing"
 abbrev pub bufferAfter : Answer → List ℕ → ℕ → Observation → List ℕ
@@ -31,61 +32,60 @@ bufferAfter (Answer.accepted gs) b e s = layout b e s
 
 -- "the report is checked first": the verdict decides
 abbrev pub effectOn : Verdict → List ℕ → Call → After
-effectOn (refused r) b c = after (Answer.refused r) b (outputOf c)
+effectOn (refused r) b c = after (Answer.refused r) b (outputsOf c)
 effectOn (accepted s) b c =
     let t = step (length b) s c in
-    after (t .answer) (bufferAfter (t .answer) b (size s) (t .observation)) (t .out)
+    after (t .answer) (bufferAfter (t .answer) b (size s) (t .observation)) (t .outs)
 
 unfoldable pub effect : List ℕ → Call → After
 effect b c = effectOn (judge b) b c
 
 -- ---- a list of calls
 
--- an answer, with "the bytes of each output after the call"
+-- 01's answer whole: the answer, with "the bytes of each output after the call"
 pub record Shown : Type 0 where
   pub answer : Answer
-  pub out : List ℕ
+  pub outs : List (List ℕ)
 
-abbrev pub shown : Answer → List ℕ → Shown
-shown a o = record { answer = a; out = o }
+abbrev pub shown : Answer → List (List ℕ) → Shown
+shown a outs = record { answer = a; outs = outs }
 
-pub record Ran : Type 0 where
-  pub answers : List Shown
-  pub buffer : List ℕ
+-- the calls one after the other, each on the buffer "as the call before left" it: the state is the buffer
+abbrev pub performing : List ℕ → Call → Moved (List ℕ) Shown
+performing b c = let a = effect b c in record { answer = shown (a .answer) (a .outs); state = a .buffer }
 
--- the calls one after the other, each on the buffer "as the call before left" it
-unfoldable pub calls : List ℕ → List Call → Ran
-calls b [] = record { answers = []; buffer = b }
-calls b (c ∷ cs) =
-    let a = effect b c in
-    let r = calls (a .buffer) cs in
-    record { answers = shown (a .answer) (a .out) ∷ r .answers; buffer = r .buffer }
+unfoldable pub calls : List ℕ → List Call → Course (List ℕ) Shown
+calls b cs = course performing b cs
 
--- the machine's run over a list: its answers, its observation, and the longest end reached
-pub record Run : Type 0 where
-  pub answers : List Shown
+-- the plain machine's state in a list: its observation, and the longest end reached
+pub record Standing : Type 0 where
   pub observation : Observation
   pub longest : ℕ
 
-unfoldable pub run : ℕ → Observation → ℕ → List Call → Run
-run n s e [] = record { answers = []; observation = s; longest = e }
-run n s e (c ∷ cs) =
-    let t = step n s c in
-    let r = run n (t .observation) (max e (size (t .observation))) cs in
-    record { answers = shown (t .answer) (t .out) ∷ r .answers; observation = r .observation; longest = r .longest }
+abbrev pub standing : Observation → ℕ → Standing
+standing s e = record { observation = s; longest = e }
+
+-- its step, on a buffer of n bytes
+abbrev pub stepping : ℕ → Standing → Call → Moved Standing Shown
+stepping n m c =
+    let t = step n (m .observation) c in
+    record { answer = shown (t .answer) (t .outs); state = standing (t .observation) (max (m .longest) (size (t .observation))) }
+
+unfoldable pub run : ℕ → Standing → List Call → Course Standing Shown
+run n m cs = course (stepping n) m cs
 
 -- the packing of the machine's observation, 0 "from the present end to the longest end reached", and "bytes past that"
-abbrev pub runOn : List ℕ → Run → Ran
-runOn b m = record { answers = m .answers; buffer = layout b (m .longest) (m .observation) }
+abbrev pub runOn : List ℕ → Course Standing Shown → Course (List ℕ) Shown
+runOn b r = record { answers = r .answers; state = layout b (r .state .longest) (r .state .observation) }
 
 abbrev pub refusals : Refusal → List Call → List Shown
-refusals r cs = map (λ (c : Call). shown (Answer.refused r) (outputOf c)) cs
+refusals r cs = map (λ (c : Call). shown (Answer.refused r) (outputsOf c)) cs
 
 -- demand 3, what is claimed of a list: on an accepted report the machine's run, begun on that report's observation; on any other
 -- buffer each call gives the refusal, and no byte changes. That the calls do what is claimed is the theorem of crate laws
-abbrev pub claimOn : Verdict → List ℕ → List Call → Ran
-claimOn (refused r) b cs = record { answers = refusals r cs; buffer = b }
-claimOn (accepted s) b cs = runOn b (run (length b) s (size s) cs)
+abbrev pub claimOn : Verdict → List ℕ → List Call → Course (List ℕ) Shown
+claimOn (refused r) b cs = record { answers = refusals r cs; state = b }
+claimOn (accepted s) b cs = runOn b (run (length b) (standing s (size s)) cs)
 
-unfoldable pub claim : List ℕ → List Call → Ran
+unfoldable pub claim : List ℕ → List Call → Course (List ℕ) Shown
 claim b cs = claimOn (judge b) b cs

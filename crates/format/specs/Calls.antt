@@ -15,23 +15,32 @@ use Rattle.format.specs.Observation.{Observation, observation, size}
 use Rattle.format.specs.Report.{bodyValid}
 use Rattle.format.specs.declared.Scaled.{Scaled}
 
--- a call, with its arguments, its contents and its output "as they were lent"
+-- the calls, with their arguments, their contents and their outputs "as they were lent", in three groups
+
+-- those that read: read k; read flag j
+pub data Reading : Type 0 where
+  readField : ℕ → Reading
+  readFlag : ℕ → Reading
+
+-- those that edit: set k to v; clear k; set, clear flag j; put id, content; drop id; put text
+pub data Editing : Type 0 where
+  setField : ℕ → Scaled → Editing
+  clearField : ℕ → Editing
+  setFlag : ℕ → ℕ → Editing
+  clearFlag : ℕ → Editing
+  put : ℕ → List ℕ → Editing
+  remove : ℕ → Editing
+  putText : List ℕ → Editing
+
+-- those that fetch, to an output: fetch id; fetch text
+pub data Fetching : Type 0 where
+  fetch : ℕ → List ℕ → Fetching
+  fetchText : List ℕ → Fetching
+
 pub data Call : Type 0 where
-  -- read k; set k to v; clear k
-  readField : ℕ → Call
-  setField : ℕ → Scaled → Call
-  clearField : ℕ → Call
-  -- read, set, clear flag j
-  readFlag : ℕ → Call
-  setFlag : ℕ → ℕ → Call
-  clearFlag : ℕ → Call
-  -- put id, content; fetch id, to an output; drop id
-  put : ℕ → List ℕ → Call
-  fetch : ℕ → List ℕ → Call
-  remove : ℕ → Call
-  -- put text; fetch text, to an output
-  putText : List ℕ → Call
-  fetchText : List ℕ → Call
+  reads : Reading → Call
+  edits : Editing → Call
+  fetches : Fetching → Call
 
 -- ---- the observation's parts
 
@@ -71,19 +80,21 @@ content s i = contentOf i (s .attachments)
 
 -- ---- a step that is not refused
 
--- the observation that an edit makes. A call that reads or fetches makes none
-unfoldable pub edited : Observation → Call → Option Observation
-edited s (readField k) = none
-edited s (setField k v) = some (withValue s k (some v))
-edited s (clearField k) = some (withValue s k none)
-edited s (readFlag j) = none
-edited s (setFlag j v) = some (withContent s 1 (withFlag (content s 1) j v))
-edited s (clearFlag j) = some (withContent s 1 (withFlag (content s 1) j 0))
-edited s (put i ns) = some (withContent s i ns)
-edited s (fetch i out) = none
-edited s (remove i) = some (withAttachments s (removeFrom i (s .attachments)))
-edited s (putText t) = some (withContent s 4 (writeText t))
-edited s (fetchText out) = none
+-- the observation that an edit makes
+unfoldable pub made : Observation → Editing → Observation
+made s (setField k v) = withValue s k (some v)
+made s (clearField k) = withValue s k none
+made s (setFlag j v) = withContent s 1 (withFlag (content s 1) j v)
+made s (clearFlag j) = withContent s 1 (withFlag (content s 1) j 0)
+made s (put i ns) = withContent s i ns
+made s (remove i) = withAttachments s (removeFrom i (s .attachments))
+made s (putText t) = withContent s 4 (writeText t)
+
+-- a call that reads or fetches makes none
+abbrev pub edited : Observation → Call → Option Observation
+edited s (reads r) = none
+edited s (edits e) = some (made s e)
+edited s (fetches f) = none
 
 -- the observation after it
 abbrev pub afterEdit : Observation → Option Observation → Observation
@@ -95,17 +106,15 @@ next s c = afterEdit s (edited s c)
 
 -- what a number that is given is
 pub data Quantity : Type 0 where
-  -- a field's scaled value; a flag's value; how many bytes a fetch wrote
-  value : Quantity
-  flag : Quantity
-  count : Quantity
-  -- of a whole report: the presence word, how many fields are present, RPTIN, AC, its size in bytes, the tail's length
-  word : Quantity
-  present : Quantity
-  rptin : Quantity
-  attachments : Quantity
-  bytes : Quantity
-  nibbles : Quantity
+  value : Quantity  -- a field's scaled value
+  flag : Quantity  -- a flag's value
+  count : Quantity  -- how many bytes a fetch wrote
+  word : Quantity  -- the presence word
+  present : Quantity  -- how many fields are present
+  rptin : Quantity  -- RPTIN
+  attachments : Quantity  -- AC
+  bytes : Quantity  -- a report's size in bytes
+  nibbles : Quantity  -- so many nibbles: the length of unpack's tail
 
 -- a number that is given, or that it is missing
 pub record Given : Type 0 where
@@ -129,44 +138,25 @@ flagNumber v = cond (eqb v 0) none (some (pos v))
 
 -- what it gives
 unfoldable pub gives : Observation → Call → List Given
-gives s (readField k) = given value (valueNumber (valueAt s k)) ∷ []
-gives s (setField k v) = []
-gives s (clearField k) = []
-gives s (readFlag j) = given flag (flagNumber (flagAt (content s 1) j)) ∷ []
-gives s (setFlag j v) = []
-gives s (clearFlag j) = []
-gives s (put i ns) = []
-gives s (fetch i out) = counted count (length (content s i)) ∷ []
-gives s (remove i) = []
-gives s (putText t) = []
-gives s (fetchText out) = counted count (length (readText (content s 4))) ∷ []
+gives s (reads (readField k)) = given value (valueNumber (valueAt s k)) ∷ []
+gives s (reads (readFlag j)) = given flag (flagNumber (flagAt (content s 1) j)) ∷ []
+gives s (edits e) = []
+gives s (fetches (fetch i out)) = counted count (length (content s i)) ∷ []
+gives s (fetches (fetchText out)) = counted count (length (readText (content s 4))) ∷ []
 
--- the output that a call is lent, refused or not; and what a step that is not refused writes there, from the first byte on
-unfoldable pub outputOf : Call → List ℕ
-outputOf (readField k) = []
-outputOf (setField k v) = []
-outputOf (clearField k) = []
-outputOf (readFlag j) = []
-outputOf (setFlag j v) = []
-outputOf (clearFlag j) = []
-outputOf (put i ns) = []
-outputOf (fetch i out) = out
-outputOf (remove i) = []
-outputOf (putText t) = []
-outputOf (fetchText out) = out
+-- the outputs that a call is lent, refused or not
+unfoldable pub outputsOf : Call → List (List ℕ)
+outputsOf (reads r) = []
+outputsOf (edits e) = []
+outputsOf (fetches (fetch i out)) = out ∷ []
+outputsOf (fetches (fetchText out)) = out ∷ []
 
-unfoldable pub writes : Observation → Call → List ℕ
-writes s (readField k) = []
-writes s (setField k v) = []
-writes s (clearField k) = []
-writes s (readFlag j) = []
-writes s (setFlag j v) = []
-writes s (clearFlag j) = []
-writes s (put i ns) = []
-writes s (fetch i out) = content s i
-writes s (remove i) = []
-writes s (putText t) = []
-writes s (fetchText out) = readText (content s 4)
+-- what a step that is not refused writes to each of them, from the first byte on
+unfoldable pub writes : Observation → Call → List (List ℕ)
+writes s (reads r) = []
+writes s (edits e) = []
+writes s (fetches (fetch i out)) = content s i ∷ []
+writes s (fetches (fetchText out)) = readText (content s 4) ∷ []
 
 -- ---- the caller's refusals, "judged on the sheet, n and what the step was fed"
 
@@ -207,27 +197,32 @@ allNibbles (x ∷ xs) = leb x 15 && allNibbles xs
 abbrev pub contentCheck : ℕ → List ℕ → Check
 contentCheck i ns = check (not (allNibbles ns && bodyValid i ns)) 14 0
 
--- 13: a lent buffer shorter than the new report, which only an edit makes, or the output shorter than what is written
+-- 13: a lent buffer shorter than the new report, which only an edit makes, or an output shorter than what is written to it
 abbrev pub shorter : ℕ → Option Observation → Bool
 shorter n none = false
 shorter n (some t) = ltb n (size t)
 
-abbrev pub roomCheck : ℕ → Observation → Call → Check
-roomCheck n s c = check (shorter n (edited s c) || ltb (length (outputOf c)) (length (writes s c))) 13 0
+unfoldable pub overfull : List (List ℕ) → List (List ℕ) → Bool
+overfull [] outs = false
+overfull (xs ∷ more) [] = true
+overfull (xs ∷ more) (out ∷ outs) = ltb (length out) (length xs) || overfull more outs
 
--- those of each call that may come before 13, "then 8, 9, 10, 11, 12, 14, 13"
+abbrev pub roomCheck : ℕ → Observation → Call → Check
+roomCheck n s c = check (shorter n (edited s c) || overfull (writes s c) (outputsOf c)) 13 0
+
+-- a call's checks before the last one, which is 13 for room: "then 8, 9, 10, 11, 12, 14, 13"
 unfoldable pub callChecks : Observation → Call → List Check
-callChecks s (readField k) = fieldNumberCheck k ∷ []
-callChecks s (setField k v) = fieldNumberCheck k ∷ valueCheck k v ∷ []
-callChecks s (clearField k) = fieldNumberCheck k ∷ requiredCheck k ∷ []
-callChecks s (readFlag j) = flagNumberCheck j ∷ standsCheck s 1 ∷ []
-callChecks s (setFlag j v) = flagNumberCheck j ∷ flagValueCheck j v ∷ standsCheck s 1 ∷ []
-callChecks s (clearFlag j) = flagNumberCheck j ∷ standsCheck s 1 ∷ []
-callChecks s (put i ns) = idCheck i ∷ lengthCheck ns ∷ contentCheck i ns ∷ []
-callChecks s (fetch i out) = idCheck i ∷ standsCheck s i ∷ []
-callChecks s (remove i) = idCheck i ∷ standsCheck s i ∷ []
-callChecks s (putText t) = lengthCheck (writeText t) ∷ contentCheck 4 (writeText t) ∷ []
-callChecks s (fetchText out) = standsCheck s 4 ∷ []
+callChecks s (reads (readField k)) = fieldNumberCheck k ∷ []
+callChecks s (reads (readFlag j)) = flagNumberCheck j ∷ standsCheck s 1 ∷ []
+callChecks s (edits (setField k v)) = fieldNumberCheck k ∷ valueCheck k v ∷ []
+callChecks s (edits (clearField k)) = fieldNumberCheck k ∷ requiredCheck k ∷ []
+callChecks s (edits (setFlag j v)) = flagNumberCheck j ∷ flagValueCheck j v ∷ standsCheck s 1 ∷ []
+callChecks s (edits (clearFlag j)) = flagNumberCheck j ∷ standsCheck s 1 ∷ []
+callChecks s (edits (put i ns)) = idCheck i ∷ lengthCheck ns ∷ contentCheck i ns ∷ []
+callChecks s (edits (remove i)) = idCheck i ∷ standsCheck s i ∷ []
+callChecks s (edits (putText t)) = lengthCheck (writeText t) ∷ contentCheck 4 (writeText t) ∷ []
+callChecks s (fetches (fetch i out)) = idCheck i ∷ standsCheck s i ∷ []
+callChecks s (fetches (fetchText out)) = standsCheck s 4 ∷ []
 
 unfoldable pub checks : ℕ → Observation → Call → List Check
 checks n s c = callChecks s c ++ (roomCheck n s c ∷ [])
@@ -239,19 +234,24 @@ pub data Answer : Type 0 where
   refused : Refusal → Answer
   accepted : List Given → Answer
 
--- the answer, the observation after the step, and the bytes of the output after it
+-- the answer, the observation after the step, and the bytes of each output after it
 pub record Stepped : Type 0 where
   pub answer : Answer
   pub observation : Observation
-  pub out : List ℕ
+  pub outs : List (List ℕ)
 
--- the bytes of an output after these were written to its front
+-- the bytes of an output after these were written to its front; and of each output
 abbrev pub over : {A : Type 0} → List A → List A → List A
 over xs out = xs ++ drop (length xs) out
 
+unfoldable pub overEach : List (List ℕ) → List (List ℕ) → List (List ℕ)
+overEach [] outs = outs
+overEach (xs ∷ more) [] = []
+overEach (xs ∷ more) (out ∷ outs) = over xs out ∷ overEach more outs
+
 abbrev pub steppedBy : Option Refusal → Observation → Call → Stepped
-steppedBy (some r) s c = record { answer = refused r; observation = s; out = outputOf c }
-steppedBy none s c = record { answer = accepted (gives s c); observation = next s c; out = over (writes s c) (outputOf c) }
+steppedBy (some r) s c = record { answer = refused r; observation = s; outs = outputsOf c }
+steppedBy none s c = record { answer = accepted (gives s c); observation = next s c; outs = overEach (writes s c) (outputsOf c) }
 
 unfoldable pub step : ℕ → Observation → Call → Stepped
 step n s c = steppedBy (first (checks n s c)) s c

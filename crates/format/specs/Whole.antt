@@ -82,13 +82,13 @@ unpacked a vs ns = record { answer = a; values = vs; tail = ns }
 
 -- the presence word, how many fields are present, RPTIN, AC, byte length, the tail's length
 abbrev pub contents : ℕ → ℕ → ℕ → ℕ → ℕ → ℕ → List Given
-contents word present rptin count size tail =
+contents word present rptin attachments bytes nibbles =
     counted Quantity.word word
     ∷ counted Quantity.present present
     ∷ counted Quantity.rptin rptin
-    ∷ counted Quantity.attachments count
-    ∷ counted Quantity.bytes size
-    ∷ counted Quantity.nibbles tail
+    ∷ counted Quantity.attachments attachments
+    ∷ counted Quantity.bytes bytes
+    ∷ counted Quantity.nibbles nibbles
     ∷ []
 
 unfoldable pub unpackGives : Observation → List Given

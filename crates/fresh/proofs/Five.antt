@@ -30,7 +30,7 @@ use Rattle.laws.proofs.Laid.{layout-is, over-layout}
 use Rattle.laws.proofs.Whole.{fresh-size}
 use Rattle.card.specs.Answers.{Carded, codingOf}
 use Rattle.card.specs.declared.Coding.the-variants.{Outside, Code}
-use Rattle.card.proofs.Given.{coding-outside, coding-inside, coding-code}
+use Rattle.card.proofs.Laid.{coding-outside, coding-inside, coding-code}
 use Rattle.fresh.specs.Steps.{CodeOrZero, FiveFit, fiveCodes, fiveNumbers, cleared}
 
 -- ---- the code of a value

@@ -12,7 +12,7 @@ use Rattle.format.specs.Order.{between}
 use Rattle.format.specs.Nibbles.{Attachment, attachment, tailNibbles, among}
 use Rattle.format.specs.Report.{bodyValid}
 use Rattle.format.specs.Calls.{stands, contentOf, putIn, removeFrom, allNibbles}
-use Rattle.laws.proofs.Lists.{and-true, or-false, true-false, cond-case}
+use Rattle.laws.proofs.Sequences.{and-true, or-false, true-false, cond-case}
 use Rattle.laws.proofs.Attachments.{all-nibbles, FineAt, Fine, empty, one, tail-length, tail-append}
 
 -- ---- an edit leaves attachments that stand

@@ -17,7 +17,7 @@ use Rattle.format.specs.Flags.{flagsValid}
 use Rattle.format.specs.Report.{bodyValid, attachmentChecks}
 use Rattle.format.specs.Calls.{allNibbles}
 use Rattle.format.specs.Whole.{countFrom, countIn}
-use Rattle.laws.proofs.Lists.{and-true, or-false, cond-case}
+use Rattle.laws.proofs.Sequences.{and-true, or-false, cond-case}
 use Rattle.laws.proofs.Order.{first-none}
 use Rattle.laws.proofs.Bits.{append-below, take-below, drop-below}
 
@@ -308,3 +308,9 @@ fine-most a at =
 pub fine-size : {list : List Attachment} → Fine [] list → length (tailNibbles list) ≤ 3631
 unfolding room among tailNibbles most
 fine-size f = fine-weigh (λ list. length (tailNibbles list)) most refl (λ a more at. rw tail-length (omega (arith, fine-most a at))) f
+
+-- as many attachments as are counted
+pub attachments-length : (n : ℕ) (ns : List ℕ) → length (attachmentsOf n ns) ≡ n
+unfolding attachmentsOf
+attachments-length zero ns = refl
+attachments-length (suc n) ns = ap suc (attachments-length n (behind ns))

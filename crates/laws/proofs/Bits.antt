@@ -1,7 +1,8 @@
 -- Laws of bits, numbers and fields, for every width.
 -- Assumes nothing.
 use Prim.Native.Nat.{ℕ, zero, suc, _+_, _-_, _*_, _/_, _%_, _^_, _≤_, _<_}
-use native.Mathlib.Nat.{add-assoc, add-comm, le-min, le-of-suc-le-suc, lt-of-lt-of-le, min-le-left, mod-eq-of-lt, mod-lt, mod-one, mul-assoc, mul-suc, mul-zero, not-suc-le-zero, pow-succ', suc-add, suc-inj, zero-add, zero-lt-suc}
+use native.Mathlib.Nat.{add-assoc, add-comm, le-min, le-of-suc-le-suc, lt-of-lt-of-le, min-le-left, mod-eq-of-lt, mod-lt, mod-one, mul-assoc, mul-suc, mul-zero}
+use native.Mathlib.Nat.{not-suc-le-zero, pow-succ', suc-add, suc-inj, zero-add, zero-lt-suc}
 use native.Mathlib.Numerals.{add-one, one-add}
 use native.Mathlib.Omega.{arith}
 use mathlib.Core.Path.{_≡_, refl, sym, ap, ap₂, _∙_}

@@ -1,7 +1,7 @@
 -- Every answer fits 64 bits: a refusal's place, and each number that a call gives, negative ones too.
 -- Assumes nothing.
 use Prim.{Unit, tt}
-use Prim.Native.Nat.{ℕ, zero, suc, _+_, _-_, _^_, _≤_, _<_, max}
+use Prim.Native.Nat.{ℕ, zero, suc, _+_, _-_, _^_, _≤_, _<_}
 use native.Mathlib.Omega.{arith}
 use mathlib.Core.Path.{_≡_, refl, sym, ap, subst, _∙_}
 use mathlib.Core.Bool.{Bool, true, false, cond, not, _&&_}
@@ -14,15 +14,16 @@ use lib.Signed.{leZ, mag}
 use borrow.Author.Tests.{leb-true}
 use Rattle.format.specs.Order.{Refusal, Check, check, first, between}
 use Rattle.format.specs.Field.{Field, table, inRange}
-use Rattle.format.specs.Bits.{Bytes, bitField, offset}
+use Rattle.format.specs.Bits.{Bytes, offset}
 use Rattle.format.specs.Nibbles.{Attachment, Nibbles, idAt, behind}
 use Rattle.format.specs.Flags.{flagAt}
 use Rattle.format.specs.Observation.{Observation, widths, size}
 use Rattle.format.specs.Report.{codesOf, countOf, tailOf, fieldChecks, attachmentChecks, reportChecks, observationOf, Verdict, verdict, judge}
-use Rattle.format.specs.Calls.{Call, readField, setField, clearField, readFlag, setFlag, clearFlag, put, fetch, remove, putText, fetchText, contentOf, content, valueNumber, Given, gives, roomCheck, callChecks, checks, Answer, refused, accepted, steppedBy, step}
-use Rattle.format.specs.Buffer.{Shown, run, effectOn, effect, refusals, claimOn, claim}
+use Rattle.format.specs.Calls.{Call, reads, edits, fetches, readField, setField, clearField, readFlag, setFlag, clearFlag, put, fetch, remove, putText, fetchText, contentOf, content, valueNumber}
+use Rattle.format.specs.Calls.{Given, gives, roomCheck, callChecks, checks, Answer, refused, accepted, steppedBy, step}
+use Rattle.format.specs.Buffer.{Shown, Standing, standing, stepping, run, effectOn, effect, refusals, claimOn, claim}
 use Rattle.format.specs.declared.Scaled.{Scaled}
-use Rattle.laws.proofs.Lists.{and-true, true-false, cond-case}
+use Rattle.laws.proofs.Sequences.{and-true, true-false, cond-case}
 use Rattle.laws.proofs.Order.{between-in, first-append-some, first-append-skip}
 use Rattle.laws.proofs.Bits.{bitField-at, bitField-lt}
 use Rattle.laws.proofs.Card.{length-widths}
@@ -30,7 +31,8 @@ use Rattle.laws.proofs.Fields.{Fair, FairAll, nil, cons, fair-range, ta
 use Rattle.laws.proofs.Attachments.{Fine, empty, one}
 use Rattle.laws.proofs.ShipText.{read-text-length}
 use Rattle.laws.proofs.Report.{Good, judged, size-within}
-use Rattle.laws.proofs.List.{Kept, step-kept}
+use Rattle.laws.proofs.WholeList.{Kept, step-kept}
+use Rattle.laws.proofs.Machine.{Each, each-answer}
 
 -- ---- what fits
 
@@ -123,17 +125,17 @@ number-near low high x more h = near-cons _ _ (omega arith) (λ q. h (between-in
 
 calls-near : (s : Observation) (c : Call) → Near (callChecks s c)
 unfolding callChecks
-calls-near s (readField k) = number-near 1 46 k _ (λ h. near-nil)
-calls-near s (setField k v) = number-near 1 46 k _ (λ h. near-one _ (omega arith))
-calls-near s (clearField k) = number-near 1 46 k _ (λ h. near-one _ (omega arith))
-calls-near s (readFlag j) = number-near 1 14 j _ (λ h. near-one _ (omega arith))
-calls-near s (setFlag j v) = number-near 1 14 j _ (λ h. near-cons _ _ (omega arith) (λ q. near-one _ (omega arith)))
-calls-near s (clearFlag j) = number-near 1 14 j _ (λ h. near-one _ (omega arith))
-calls-near s (put i ns) = number-near 1 15 i _ (λ h. near-cons _ _ (omega arith) (λ q. near-one _ (omega arith)))
-calls-near s (fetch i out) = number-near 1 15 i _ (λ h. near-one _ (omega arith))
-calls-near s (remove i) = number-near 1 15 i _ (λ h. near-one _ (omega arith))
-calls-near s (putText t) = near-cons _ _ (omega arith) (λ q. near-one _ (omega arith))
-calls-near s (fetchText out) = near-one _ (omega arith)
+calls-near s (reads (readField k)) = number-near 1 46 k _ (λ h. near-nil)
+calls-near s (reads (readFlag j)) = number-near 1 14 j _ (λ h. near-one _ (omega arith))
+calls-near s (edits (setField k v)) = number-near 1 46 k _ (λ h. near-one _ (omega arith))
+calls-near s (edits (clearField k)) = number-near 1 46 k _ (λ h. near-one _ (omega arith))
+calls-near s (edits (setFlag j v)) = number-near 1 14 j _ (λ h. near-cons _ _ (omega arith) (λ q. near-one _ (omega arith)))
+calls-near s (edits (clearFlag j)) = number-near 1 14 j _ (λ h. near-one _ (omega arith))
+calls-near s (edits (put i ns)) = number-near 1 15 i _ (λ h. near-cons _ _ (omega arith) (λ q. near-one _ (omega arith)))
+calls-near s (edits (remove i)) = number-near 1 15 i _ (λ h. near-one _ (omega arith))
+calls-near s (edits (putText t)) = near-cons _ _ (omega arith) (λ q. near-one _ (omega arith))
+calls-near s (fetches (fetch i out)) = number-near 1 15 i _ (λ h. near-one _ (omega arith))
+calls-near s (fetches (fetchText out)) = near-one _ (omega arith)
 
 -- ---- numbers that are given
 
@@ -187,20 +189,14 @@ content-low i (one {a = a} {more = more} at new f) =
 
 gives-fit : (s : Observation) (c : Call) → Good s → GivenFit (gives s c)
 unfolding gives
-gives-fit s (readField k) g = (value-fits (g .fair) table-narrow (k - 1), tt)
-gives-fit s (setField k v) g = tt
-gives-fit s (clearField k) g = tt
-gives-fit s (readFlag j) g =
+gives-fit s (reads (readField k)) g = (value-fits (g .fair) table-narrow (k - 1), tt)
+gives-fit s (reads (readFlag j)) g =
     let v = flagAt (content s 1) j in
     let h = content-low 1 (g .fine) .1 (j - 1) in
     (cond-case NumberFits (eqb v 0) none (some (pos v)) (λ e. tt) (λ e. omega arith), tt)
-gives-fit s (setFlag j v) g = tt
-gives-fit s (clearFlag j) g = tt
-gives-fit s (put i ns) g = tt
-gives-fit s (fetch i out) g = let h = content-low i (g .fine) .0 in (omega arith, tt)
-gives-fit s (remove i) g = tt
-gives-fit s (putText t) g = tt
-gives-fit s (fetchText out) g = let h = content-low 4 (g .fine) .0 in (omega (arith, read-text-length (content s 4)), tt)
+gives-fit s (edits e) g = tt
+gives-fit s (fetches (fetch i out)) g = let h = content-low i (g .fine) .0 in (omega arith, tt)
+gives-fit s (fetches (fetchText out)) g = let h = content-low 4 (g .fine) .0 in (omega (arith, read-text-length (content s 4)), tt)
 
 -- ---- answers
 
@@ -224,26 +220,20 @@ effect-fits b c h = go (judge b) refl
     go (Verdict.accepted s) q = step-fits (length b) s c (judged b s h q .good)
 
 -- every answer of a list
-abbrev pub AnswersFit : List Shown → Type 0
-AnswersFit [] = Unit {0}
-AnswersFit (a ∷ more) = AnswerFits (a .answer) × AnswersFit more
+abbrev pub ShownFits : Call → Shown → Type 0
+ShownFits c a = AnswerFits (a .answer)
 
-refusals-fit : (r : Refusal) (cs : List Call) → r .place < 2 ^ 64 → AnswersFit (refusals r cs)
+refusals-fit : (r : Refusal) (cs : List Call) → r .place < 2 ^ 64 → Each ShownFits cs (refusals r cs)
 refusals-fit r [] h = tt
 refusals-fit r (c ∷ cs) h = (h, refusals-fit r cs h)
 
-run-fits : (n : ℕ) (s : Observation) (e : ℕ) (cs : List Call) → Kept n s → AnswersFit (run n s e cs .answers)
-unfolding run
-run-fits n s e [] k = tt
-run-fits n s e (c ∷ cs) k =
-    let t = step n s c .observation in
-    (step-fits n s c (k .good), run-fits n t (max e (size t)) cs (step-kept n s c k))
-
-pub claim-fits : (b : List ℕ) (cs : List Call) → Bytes b → AnswersFit (claim b cs .answers)
-unfolding claim
+pub claim-fits : (b : List ℕ) (cs : List Call) → Bytes b → Each ShownFits cs (claim b cs .answers)
+unfolding claim run
 claim-fits b cs h = go (judge b) refl
   where
-    go : (v : Verdict) → judge b ≡ v → AnswersFit (claimOn v b cs .answers)
+    go : (v : Verdict) → judge b ≡ v → Each ShownFits cs (claimOn v b cs .answers)
     go (Verdict.refused r) q = refusals-fit r cs (judge-fits b r q)
     go (Verdict.accepted s) q =
-        run-fits (length b) s (size s) cs (record { good = judged b s h q .good; fits = size-within b s h q })
+        each-answer (stepping (length b)) (λ (m : Standing). Kept (length b) (m .observation)) ShownFits
+        (λ m c k. (step-fits (length b) (m .observation) c (k .good), step-kept (length b) (m .observation) c k))
+        cs (standing s (size s)) (record { good = judged b s h q .good; fits = size-within b s h q })

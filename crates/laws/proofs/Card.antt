@@ -12,7 +12,8 @@ use Rattle.format.specs.Nibbles.{nibbles, bytes, odd, padded, Nibbles}
 use Rattle.format.specs.Field.{table}
 use Rattle.format.specs.Observation.{widths}
 use Rattle.format.specs.Report.{numbersOf, tailOf}
-use Rattle.laws.proofs.Bits.{Fit, append-below, length-bitsOf, length-readFields, length-writeFields, readFields-append, readFields-lt, readFields-writeFields, total-replicate, uniform, uniform-append, uniform-length, uniform-lt, uniform-read, writeFields-readFields}
+use Rattle.laws.proofs.Bits.{Fit, append-below, length-bitsOf, length-readFields, length-writeFields, readFields-append, readFields-lt, readFields-writeFields}
+use Rattle.laws.proofs.Bits.{total-replicate, uniform, uniform-append, uniform-length, uniform-lt, uniform-read, writeFields-readFields}
 use Rattle.laws.proofs.Nibbles.{bitsOf-nibbles, length-nibbles, nibbles-packed, readFields-nibbles}
 
 -- ---- fields of any widths that make m whole nibbles

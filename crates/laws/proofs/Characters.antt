@@ -8,7 +8,7 @@ use lib.Dec.{ltb, leb, eqb}
 use borrow.Author.Tests.{ltb-true, ltb-false, eqb-true, eqb-false, leb-true, le-ltb, ne-eqb, not-true}
 use Rattle.format.specs.Order.{between}
 use Rattle.format.specs.ShipText.{charCode, short, pairByte}
-use Rattle.laws.proofs.Lists.{and-true, cond-case, test-case}
+use Rattle.laws.proofs.Sequences.{and-true, cond-case, test-case}
 
 -- a test passes at each number below n
 unfoldable pub allBelow : ℕ → (ℕ → Bool) → Bool

@@ -23,7 +23,7 @@ use Rattle.format.specs.declared.Coded.{Coded}
 use Rattle.format.specs.declared.Scaled.{Scaled}
 use Rattle.format.proofs.Test.{left, right}
 use Rattle.format.proofs.Table.{Row, document001, agree, agreeAll, table-agrees}
-use Rattle.laws.proofs.Lists.{and-true, true-false}
+use Rattle.laws.proofs.Sequences.{and-true, true-false}
 use Rattle.laws.proofs.Order.{first-none}
 
 -- ---- order of the integers: adding on both sides keeps it

@@ -12,7 +12,7 @@ use lib.Dec.{eqb, leb}
 use borrow.Author.Tests.{leb-true, eqb-true, eq-eqb}
 use Rattle.format.specs.Order.{between}
 use Rattle.format.specs.Flags.{permitted, weights, weight, totalWeight, allMissing, qualityCode, flagInRange, flagsFit, flagBody, withFlag, flagsValid}
-use Rattle.laws.proofs.Lists.{and-true, cond-case}
+use Rattle.laws.proofs.Sequences.{and-true, cond-case}
 
 -- ---- what a flag may hold
 

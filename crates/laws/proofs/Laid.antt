@@ -23,7 +23,7 @@ use Rattle.laws.proofs.Card.{card-length, card-lt, card-front}
 use Rattle.laws.proofs.Fields.{noField, table-length, length-codes, codes-set}
 use Rattle.laws.proofs.Attachments.{fine-nibbles}
 use Rattle.laws.proofs.Report.{size-is, judged, within}
-use Rattle.laws.proofs.List.{layout-same}
+use Rattle.laws.proofs.WholeList.{layout-same}
 
 -- ---- nibbles of a layout
 

@@ -1,4 +1,4 @@
-pub mod Lists
+pub mod Sequences
 pub mod Order
 pub mod Bits
 pub mod Nibbles
@@ -11,7 +11,8 @@ pub mod Characters
 pub mod ShipText
 pub mod Stores
 pub mod Report
-pub mod List
+pub mod Machine
+pub mod WholeList
 pub mod Laid
 pub mod Edits
 pub mod Effects

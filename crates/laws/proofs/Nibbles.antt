@@ -12,7 +12,7 @@ use lib.Dec.{eqb}
 use borrow.Author.Tests.{eqb-false}
 use Rattle.format.specs.Bits.{bits, bitsOf, readFields, writeFields, Bytes}
 use Rattle.format.specs.Nibbles.{Nibbles, nibbles, bytes, odd, padded}
-use Rattle.laws.proofs.Lists.{true-false}
+use Rattle.laws.proofs.Sequences.{true-false}
 use Rattle.laws.proofs.Bits.{uniform, append-below, bits-add, bits-mod, take-below, uniform-append, uniform-back}
 
 -- ---- the nibbles of bytes

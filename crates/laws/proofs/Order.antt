@@ -9,7 +9,7 @@ use mathlib.Core.Option.{Option, none, some}
 use lib.Dec.{leb}
 use borrow.Author.Tests.{le-leb, lt-leb, leb-true, not-false}
 use Rattle.format.specs.Order.{Refusal, Check, first, between}
-use Rattle.laws.proofs.Lists.{and-true}
+use Rattle.laws.proofs.Sequences.{and-true}
 
 -- ---- a number within two ends
 

@@ -18,7 +18,7 @@ use Rattle.format.specs.Field.{scaled}
 use Rattle.format.specs.Observation.{Observation}
 use Rattle.format.specs.Whole.{valueOrZero, isPresent, presenceFrom, presence, countPresent, bitAt, bitOutside, entriesGiven}
 use Rattle.format.specs.declared.Scaled.{Scaled}
-use Rattle.laws.proofs.Lists.{or-false}
+use Rattle.laws.proofs.Sequences.{or-false}
 
 -- ---- the presence word
 

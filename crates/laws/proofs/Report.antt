@@ -18,7 +18,7 @@ use Rattle.format.specs.Bits.{readFields, writeFields, Bytes}
 use Rattle.format.specs.Nibbles.{Attachment, nibbles, bytes, padded, odd, tailNibbles, attachmentsOf, Nibbles}
 use Rattle.format.specs.Observation.{Observation, widths, checksum, cardNumbers, cardNibbles, packing, size}
 use Rattle.format.specs.Report.{numbersOf, rptinOf, codesOf, checksumOf, countOf, tailOf, observationOf, fieldChecks, attachmentChecks, tailLength, reportChecks, accepted, verdict, judge}
-use Rattle.laws.proofs.Lists.{true-false}
+use Rattle.laws.proofs.Sequences.{true-false}
 use Rattle.laws.proofs.Order.{first-nil, no-check, no-checks, first-none, first-append-none}
 use Rattle.laws.proofs.Bits.{Fit, append-below}
 use Rattle.laws.proofs.Nibbles.{length-nibbles, bytes-lt, padded-lt, nibbles-lt, nibbles-bytes, nibbles-inj, nibbles-take, padded-is, padded-even, length-bytes, length-bytes-padded}

@@ -14,9 +14,10 @@ use Rattle.format.specs.declared.TextState.{TextState}
 use Rattle.format.specs.declared.TextState.the-variants.{Between, Run, Pair, Escape, Half, Invalid}
 use Rattle.format.specs.declared.TextStep.{TextStep}
 use Rattle.format.specs.declared.TextStep.the-variants.{On, Plain, Original}
-use Rattle.format.specs.ShipText.{charCode, short, pairByte, codeNibbles, Symbol, plain, original, classify, byteOf, escapable, isSpace, symbolNibbles, fulls, rest, spaceRun, writeFrom, writeSymbols, writeText, spaces, textStep, stateAfter, symbolsOf, readFrom, endFrom, atEnd, textValid, readText}
+use Rattle.format.specs.ShipText.{charCode, short, pairByte, codeNibbles, Symbol, plain, original, classify, byteOf, escapable, isSpace, symbolNibbles, fulls, rest}
+use Rattle.format.specs.ShipText.{spaceRun, writeFrom, writeSymbols, writeText, spaces, textStep, stateAfter, symbolsOf, readFrom, endFrom, atEnd, textValid, readText}
 use Rattle.format.specs.Calls.{allNibbles}
-use Rattle.laws.proofs.Lists.{and-true, true-false, cond-case, test-case}
+use Rattle.laws.proofs.Sequences.{and-true, true-false, cond-case, test-case}
 use Rattle.format.specs.Bits.{Bytes}
 use Rattle.laws.proofs.Characters.{Coded, a-digit, a-pair, coded, escape-code, code-bound, digit-code, paired}
 

@@ -21,9 +21,10 @@ use Rattle.format.specs.ShipText.{textStep, stateAfter, endFrom, atEnd, textVal
 use Rattle.format.specs.Observation.{Observation, packing, size}
 use Rattle.format.specs.Report.{bodyValid, attachmentChecks, Verdict, judge}
 use Rattle.format.specs.Calls.{Answer, valueCheck, withAttachments, allNibbles, over}
-use Rattle.format.specs.Whole.{wroteBy, masked, contents, freshObservation, valueOrZero, isPresent, presence, countPresent, tail, unpacked, unpackGives, unpackChecks, unpackedBy, unpack, bitAt, bitOutside, packChecks, entriesGiven, countIn, packObservation, packOrder, packGives, pack}
+use Rattle.format.specs.Whole.{wroteBy, masked, contents, freshObservation, valueOrZero, isPresent, presence, countPresent, tail, unpacked, unpackGives, unpackChecks}
+use Rattle.format.specs.Whole.{unpackedBy, unpack, bitAt, bitOutside, packChecks, entriesGiven, countIn, packObservation, packOrder, packGives, pack}
 use Rattle.format.specs.declared.Scaled.{Scaled}
-use Rattle.laws.proofs.Lists.{true-false, cond-case}
+use Rattle.laws.proofs.Sequences.{true-false, cond-case}
 use Rattle.laws.proofs.Order.{first-nil, no-check, no-checks, first-none, first-append-none}
 use Rattle.format.specs.Bits.{Bytes}
 use Rattle.laws.proofs.Fields.{Fair, missing-fair, in-range-fair, fair-range, noField, FairAll, nil, cons, length-fair, fair-set, Present, table-length}

@@ -11,7 +11,7 @@ use lib.IntN.{ℤ, pos}
 use mir.Syntax.{w64}
 use mir.Val.{SFits, toZ, ofZ}
 use mir.ValLaws.{toZ-ofZ, toZ-pos}
-use Rattle.words.specs.Words.{unsigned}
+use Rattle.numbers.specs.Words.{unsigned}
 use Rattle.format.specs.Bits.{Bytes}
 use Rattle.format.specs.Order.{Refusal, first}
 use Rattle.format.specs.Observation.{Observation}
@@ -32,19 +32,19 @@ use Rattle.unpack.specs.declared.Contents.{Contents}
 use Rattle.pack.specs.Answers.{packAnswer}
 use Rattle.pack.specs.declared.Packed.{Packed}
 use Rattle.lmr5.specs.declared.Answer.{Answer}
-use Rattle.lmr5.specs.Numbered.{numbers, numberGiven, numbered, left, numberedAfter, judging, numberedWrote, Opened, opening, openedBy, numberedUnpacked, word}
+use Rattle.lmr5.specs.Numbered.{numbered, single, left, numberedAfter, judging, numberedWrote, Opened, opening, openedBy, numberedUnpacked, word}
 
 -- a number that 64 bits hold is given as it is
-pub number-given : (z : ℤ) → SFits w64 z → numberGiven (some (toZ w64 (ofZ w64 z))) ≡ numberGiven (some z)
-number-given z f = ap (numbers 0 1 0) (toZ-ofZ w64 z f)
+pub number-given : (label : ℕ) (z : ℤ) → SFits w64 z → single label (toZ w64 (ofZ w64 z)) ≡ single label z
+number-given label z f = ap (single label) (toZ-ofZ w64 z f)
 
 -- a count, and a flag's value
-pub count-given : (n : ℕ) (r : Answer) → n < 2 ^ 63 → r ≡ numberGiven (some (toZ w64 n)) → r ≡ numberGiven (some (pos n))
-count-given n r f h = h ∙ ap (λ (x : ℤ). numberGiven (some x)) (toZ-pos w64 n (omega arith))
+pub count-given : (label n : ℕ) (r : Answer) → n < 2 ^ 63 → r ≡ single label (toZ w64 n) → r ≡ single label (pos n)
+count-given label n r f h = h ∙ ap (single label) (toZ-pos w64 n (omega arith))
 
 -- ---- the numbers fit
 
-pub call-fits : (a : call.Answer) (b d o : List ℕ) (c : Call) → after a d o ≡ effect b c → Bytes b → AnswerFits a
+pub call-fits : (a : call.Answer) (b d : List ℕ) (o : List (List ℕ)) (c : Call) → after a d o ≡ effect b c → Bytes b → AnswerFits a
 call-fits a b d o c e h = subst AnswerFits (sym (ap (λ (w : After). w .answer) e)) (effect-fits b c h)
 
 -- the size that pack gives
@@ -72,7 +72,7 @@ pack-fits values word rptin ns out o p n e q r h =
 -- ---- each call
 
 -- each of the eleven calls
-pub call-numbered : (a : call.Answer) (b o : List ℕ) (w : After) (r : Answer) → after a b o ≡ w → r ≡ numbered a → left r b o ≡ numberedAfter w
+pub call-numbered : (a : call.Answer) (b : List ℕ) (o : List (List ℕ)) (w : After) (r : Answer) → after a b o ≡ w → r ≡ numbered a → left r b o ≡ numberedAfter w
 call-numbered a b o w r h e = ap (λ (x : Answer). left x b o) e ∙ ap numberedAfter h
 
 -- judge
@@ -108,7 +108,7 @@ unpack-given gs vs ns before after r h e = ap₂ (λ (x : Answer) (l : List ℕ)
 
 -- the six contents, stored one after the other
 pub six-set : (l : List ℕ) (c : Contents) → length l ≡ 6
-    → set (set (set (set (set (set l 0 (c .word)) 1 (c .present)) 2 (c .rptin)) 3 (c .count)) 4 (c .size)) 5 (c .tail) ≡ map word (contentsNumbers c)
+    → set (set (set (set (set (set l 0 (c .word)) 1 (c .present)) 2 (c .rptin)) 3 (c .attachments)) 4 (c .bytes)) 5 (c .nibbles) ≡ map word (contentsNumbers c)
 unfolding unsigned
 six-set [] c h = absurd (omega arith)
 six-set (x ∷ []) c h = absurd (omega arith)

@@ -1,44 +1,48 @@
 -- The answers of the definitions as the numbers that a program in another language gets.
-use Prim.Native.Nat.{ℕ}
+use Prim.Native.Nat.{ℕ, zero, suc}
 use mathlib.Core.List.{List, [], _∷_, map}
-use mathlib.Core.Option.{Option, none, some}
 use lib.IntN.{ℤ, pos}
-use Rattle.words.specs.Words.{unsigned}
+use Rattle.numbers.specs.Words.{unsigned}
 use Rattle.format.specs.Observation.{size}
 use Rattle.format.specs.Report.{Verdict}
 use Rattle.format.specs.Calls as call
 use Rattle.format.specs.Calls.{Given, refused, accepted}
 use Rattle.format.specs.Buffer.{After}
 use Rattle.format.specs.Whole.{Wrote, Unpacked, packGives}
+use Rattle.script.specs.Labels.{numberOrZero, labels}
 use Rattle.lmr5.specs.declared.Answer.{Answer}
 
-abbrev pub numbers : ℕ → ℕ → ℕ → ℤ → Answer
-numbers refusal given place value = record { refusal = refusal; given = given; place = place; value = value }
+abbrev pub answer : ℕ → ℕ → ℕ → ℤ → ℤ → ℤ → Answer
+answer refusal given place first second third =
+    record { refusal = refusal; given = given; place = place; first = first; second = second; third = third }
 
--- a number that is given: 1 and the number, or 2 where it is missing
-abbrev pub numberGiven : Option ℤ → Answer
-numberGiven (some z) = numbers 0 1 0 z
-numberGiven none = numbers 0 2 0 (pos 0)
+-- the number at a place of a row, 0 where there is none or it is missing
+abbrev pub numberIn : List Given → ℕ → ℤ
+numberIn [] i = pos 0
+numberIn (g ∷ gs) zero = numberOrZero (g .number)
+numberIn (g ∷ gs) (suc i) = numberIn gs i
 
--- the refusal's number and place, 0 where it is accepted; then 0 where nothing is given, else as above. What the number is,
--- the call tells
+-- the refusal's number and place, 0 where it is accepted; the labels of what is given; and up to three numbers
 abbrev pub numbered : call.Answer → Answer
-numbered (refused r) = numbers (r .number) 0 (r .place) (pos 0)
-numbered (accepted []) = numbers 0 0 0 (pos 0)
-numbered (accepted (g ∷ more)) = numberGiven (g .number)
+numbered (refused r) = answer (r .number) 0 (r .place) (pos 0) (pos 0) (pos 0)
+numbered (accepted gs) = answer 0 (labels gs) 0 (numberIn gs 0) (numberIn gs 1) (numberIn gs 2)
 
--- ---- the eleven calls: the answer, the buffer and the output after one
+-- an answer of one number, or of none where its label is 0
+abbrev pub single : ℕ → ℤ → Answer
+single label z = answer 0 label 0 z (pos 0) (pos 0)
+
+-- ---- the eleven calls: the answer, the buffer and the outputs after one
 
 pub record Left : Type 0 where
   pub answer : Answer
   pub buffer : List ℕ
-  pub out : List ℕ
+  pub outs : List (List ℕ)
 
-abbrev pub left : Answer → List ℕ → List ℕ → Left
-left a b o = record { answer = a; buffer = b; out = o }
+abbrev pub left : Answer → List ℕ → List (List ℕ) → Left
+left a b outs = record { answer = a; buffer = b; outs = outs }
 
 abbrev pub numberedAfter : After → Left
-numberedAfter a = left (numbered (a .answer)) (a .buffer) (a .out)
+numberedAfter a = left (numbered (a .answer)) (a .buffer) (a .outs)
 
 -- ---- whole reports
 
@@ -66,11 +70,7 @@ abbrev pub opening : Answer → List ℤ → List ℕ → List ℕ → Opened
 opening a vs ns contents = record { answer = a; values = vs; tail = ns; contents = contents }
 
 abbrev pub word : Given → ℕ
-word g = bits (g .number)
-  where
-    bits : Option ℤ → ℕ
-    bits none = 0
-    bits (some z) = unsigned z
+word g = unsigned (numberOrZero (g .number))
 
 -- what unpack gives stands in the contents; refused, it leaves them
 abbrev pub openedBy : call.Answer → List ℤ → List ℕ → List ℕ → Opened

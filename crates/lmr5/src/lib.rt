@@ -1,8 +1,7 @@
 // The calls for programs in C and other languages, over pointers and lengths. Each is one call of the crates below.
 ghost use Prim.Native.Nat.{_<_, _^_};
 ghost use mathlib.Core.Path.{_≡_};
-ghost use mathlib.Core.List.{[], map};
-ghost use mathlib.Core.Option.{none, some};
+ghost use mathlib.Core.List.{[], _∷_, map};
 ghost use lib.ListN.{length};
 ghost use lib.IntN.{pos};
 ghost use Rattle.format.specs.Field.{scaled};
@@ -14,7 +13,7 @@ ghost use Rattle.format.specs.Reply.{refusal, answerOf};
 ghost use Rattle.laws.proofs.Bounds.{AnswerFits};
 ghost use Rattle.unpack.specs.Answers.{contentsNumbers};
 ghost use Rattle.script.specs.Script.{Performs};
-ghost use Rattle.lmr5.specs.Numbered.{numberGiven, numbered, left, numberedAfter, judging, numberedWrote, word, opening, numberedUnpacked};
+ghost use Rattle.lmr5.specs.Numbered.{numbered, single, left, numberedAfter, judging, numberedWrote, word, opening, numberedUnpacked};
 use format::Reply;
 use format::Scaled;
 use fresh::Started;
@@ -23,14 +22,16 @@ use report::Judged;
 use unpack::Contents;
 use unpack::Unpacked;
 
-// What a call answers: the refusal's number and place, both 0 where it is accepted; then 0, or 1 and the value that it
-// gives, or 2 where a field or a flag is missing.
+// What a call answers: the refusal's number and place, both 0 where it is accepted; the labels of the numbers that it gives, the
+// first in the lowest byte, 0 where it gives none; and the numbers, 0 where one is missing or not given.
 #[repr(C)]
 pub struct Answer {
     pub refusal: u32,
     pub given: u32,
     pub place: u64,
-    pub value: i64,
+    pub first: i64,
+    pub second: i64,
+    pub third: i64,
 }
 
 // How many calls of a script were performed, and how many bytes of script and log they took.
@@ -48,48 +49,37 @@ fn refused(n: u8, p: usize) -> Answer
         refusal: n as u32,
         given: 0,
         place: p as u64,
-        value: 0,
+        first: 0,
+        second: 0,
+        third: 0,
+    }
+}
+
+// One number; none where its label is 0.
+fn given(label: u32, v: i64) -> Answer
+    ensures { λ r. ⌜ r ≡ single label v ⌝ }
+{
+    Answer {
+        refusal: 0,
+        given: label,
+        place: 0,
+        first: v,
+        second: 0,
+        third: 0,
     }
 }
 
 fn done() -> Answer
     ensures { λ r. ⌜ r ≡ numbered (call.accepted []) ⌝ }
 {
-    Answer {
-        refusal: 0,
-        given: 0,
-        place: 0,
-        value: 0,
-    }
+    given(0, 0)
 }
 
-fn missing() -> Answer
-    ensures { λ r. ⌜ r ≡ numberGiven none ⌝ }
-{
-    Answer {
-        refusal: 0,
-        given: 2,
-        place: 0,
-        value: 0,
-    }
-}
-
-fn given(v: i64) -> Answer
-    ensures { λ r. ⌜ r ≡ numberGiven (some v) ⌝ }
-{
-    Answer {
-        refusal: 0,
-        given: 1,
-        place: 0,
-        value: v,
-    }
-}
-
-fn counted(n: usize) -> Answer
+fn counted(label: u32, n: usize) -> Answer
     requires { ⌜ n < 2 ^ 63 ⌝ }
-    ensures { λ r. ⌜ r ≡ numberGiven (some (pos n)) ⌝ }
+    ensures { λ r. ⌜ r ≡ single label (pos n) ⌝ }
 {
-    given(n as i64)
+    given(label, n as i64)
 }
 
 fn answer_of(r: Reply) -> Answer
@@ -101,12 +91,12 @@ fn answer_of(r: Reply) -> Answer
         Reply::Done => done(),
         Reply::Value(v) => {
             let z = v.0;
-            given(z)
+            given(1, z)
         }
-        Reply::MissingValue => missing(),
-        Reply::Flag(v) => given(v as i64),
-        Reply::MissingFlag => missing(),
-        Reply::Count(n) => counted(n),
+        Reply::MissingValue => given(129, 0),
+        Reply::Flag(v) => given(2, v as i64),
+        Reply::MissingFlag => given(130, 0),
+        Reply::Count(n) => counted(3, n),
     }
 }
 
@@ -119,7 +109,7 @@ pub extern "C" fn lmr5_judge(report: &[u8]) -> Answer
     let j = report::judge(&*report);
     match j {
         Judged::Refused(n, p) => refused(n, p),
-        Judged::Accepted(size) => counted(size),
+        Judged::Accepted(size) => counted(8, size),
     }
 }
 
@@ -157,9 +147,9 @@ fn store(c: Contents, contents: &mut [u64])
     contents[0] = c.word;
     contents[1] = c.present as u64;
     contents[2] = c.rptin as u64;
-    contents[3] = c.count as u64;
-    contents[4] = c.size as u64;
-    contents[5] = c.tail as u64;
+    contents[3] = c.attachments as u64;
+    contents[4] = c.bytes as u64;
+    contents[5] = c.nibbles as u64;
 }
 
 #[no_mangle]
@@ -169,7 +159,8 @@ pub extern "C" fn lmr5_unpack(
     tail: &mut [u8],
     contents: &mut [u64; 6],
 ) -> Answer
-    ensures { λ r. ⌜ opening r (now (values .exit)) (now (tail .exit)) (now (contents .exit)) ≡ numberedUnpacked (spec.unpack (now (report .entry)) (now (values .entry)) (now (tail .entry))) (now (contents .entry)) ⌝ }
+    ensures { λ r. ⌜ opening r (now (values .exit)) (now (tail .exit)) (now (contents .exit))
+        ≡ numberedUnpacked (spec.unpack (now (report .entry)) (now (values .entry)) (now (tail .entry))) (now (contents .entry)) ⌝ }
 {
     let u = unpack::unpack(&*report, values, tail);
     match u {
@@ -194,7 +185,7 @@ pub extern "C" fn lmr5_pack(
     let p = pack::pack(values, word, rptin, tail, out);
     match p {
         Packed::Refused(n, k) => refused(n, k),
-        Packed::Written(size) => counted(size),
+        Packed::Written(size) => counted(8, size),
     }
 }
 
@@ -202,90 +193,91 @@ pub extern "C" fn lmr5_pack(
 
 #[no_mangle]
 pub extern "C" fn lmr5_read_field(report: &[u8], field: usize) -> Answer
-    ensures { λ r. ⌜ left r (now (report .entry)) [] ≡ numberedAfter (effect (now (report .entry)) (call.readField field)) ⌝ }
+    ensures { λ r. ⌜ left r (now (report .entry)) [] ≡ numberedAfter (effect (now (report .entry)) (call.reads (call.readField field))) ⌝ }
 {
-    answer_of(fields::read_field(&*report, field))
+    answer_of(call_fields::read_field(&*report, field))
 }
 
 #[no_mangle]
 pub extern "C" fn lmr5_set_field(report: &mut [u8], field: usize, value: i64) -> Answer
-    ensures { λ r. ⌜ left r (now (report .exit)) [] ≡ numberedAfter (effect (now (report .entry)) (call.setField field (scaled value))) ⌝ }
+    ensures { λ r. ⌜ left r (now (report .exit)) [] ≡ numberedAfter (effect (now (report .entry)) (call.edits (call.setField field (scaled value)))) ⌝ }
 {
-    answer_of(fields::set_field(report, field, Scaled(value)))
+    answer_of(call_fields::set_field(report, field, Scaled(value)))
 }
 
 #[no_mangle]
 pub extern "C" fn lmr5_clear_field(report: &mut [u8], field: usize) -> Answer
-    ensures { λ r. ⌜ left r (now (report .exit)) [] ≡ numberedAfter (effect (now (report .entry)) (call.clearField field)) ⌝ }
+    ensures { λ r. ⌜ left r (now (report .exit)) [] ≡ numberedAfter (effect (now (report .entry)) (call.edits (call.clearField field))) ⌝ }
 {
-    answer_of(fields::clear_field(report, field))
+    answer_of(call_fields::clear_field(report, field))
 }
 
 #[no_mangle]
 pub extern "C" fn lmr5_read_flag(report: &[u8], flag: usize) -> Answer
-    ensures { λ r. ⌜ left r (now (report .entry)) [] ≡ numberedAfter (effect (now (report .entry)) (call.readFlag flag)) ⌝ }
+    ensures { λ r. ⌜ left r (now (report .entry)) [] ≡ numberedAfter (effect (now (report .entry)) (call.reads (call.readFlag flag))) ⌝ }
 {
-    answer_of(flag_calls::read_flag(&*report, flag))
+    answer_of(call_flags::read_flag(&*report, flag))
 }
 
 #[no_mangle]
 pub extern "C" fn lmr5_set_flag(report: &mut [u8], flag: usize, value: usize) -> Answer
-    ensures { λ r. ⌜ left r (now (report .exit)) [] ≡ numberedAfter (effect (now (report .entry)) (call.setFlag flag value)) ⌝ }
+    ensures { λ r. ⌜ left r (now (report .exit)) [] ≡ numberedAfter (effect (now (report .entry)) (call.edits (call.setFlag flag value))) ⌝ }
 {
-    answer_of(flag_calls::set_flag(report, flag, value))
+    answer_of(call_flags::set_flag(report, flag, value))
 }
 
 #[no_mangle]
 pub extern "C" fn lmr5_clear_flag(report: &mut [u8], flag: usize) -> Answer
-    ensures { λ r. ⌜ left r (now (report .exit)) [] ≡ numberedAfter (effect (now (report .entry)) (call.clearFlag flag)) ⌝ }
+    ensures { λ r. ⌜ left r (now (report .exit)) [] ≡ numberedAfter (effect (now (report .entry)) (call.edits (call.clearFlag flag))) ⌝ }
 {
-    answer_of(flag_calls::clear_flag(report, flag))
+    answer_of(call_flags::clear_flag(report, flag))
 }
 
 // ---- attachments and the ship text
 
 #[no_mangle]
 pub extern "C" fn lmr5_put(report: &mut [u8], id: usize, content: &[u8]) -> Answer
-    ensures { λ r. ⌜ left r (now (report .exit)) [] ≡ numberedAfter (effect (now (report .entry)) (call.put id (now (content .entry)))) ⌝ }
+    ensures { λ r. ⌜ left r (now (report .exit)) [] ≡ numberedAfter (effect (now (report .entry)) (call.edits (call.put id (now (content .entry))))) ⌝ }
 {
-    answer_of(puts::put(report, id, content))
+    answer_of(call_puts::put(report, id, content))
 }
 
 #[no_mangle]
 pub extern "C" fn lmr5_fetch(report: &[u8], id: usize, out: &mut [u8]) -> Answer
-    ensures { λ r. ⌜ left r (now (report .entry)) (now (out .exit)) ≡ numberedAfter (effect (now (report .entry)) (call.fetch id (now (out .entry)))) ⌝ }
+    ensures { λ r. ⌜ left r (now (report .entry)) (now (out .exit) ∷ []) ≡ numberedAfter (effect (now (report .entry)) (call.fetches (call.fetch id (now (out .entry))))) ⌝ }
 {
-    answer_of(fetches::fetch(&*report, id, out))
+    answer_of(call_fetches::fetch(&*report, id, out))
 }
 
 #[no_mangle]
 pub extern "C" fn lmr5_drop(report: &mut [u8], id: usize) -> Answer
-    ensures { λ r. ⌜ left r (now (report .exit)) [] ≡ numberedAfter (effect (now (report .entry)) (call.remove id)) ⌝ }
+    ensures { λ r. ⌜ left r (now (report .exit)) [] ≡ numberedAfter (effect (now (report .entry)) (call.edits (call.remove id))) ⌝ }
 {
-    answer_of(attachments::remove(report, id))
+    answer_of(call_attachments::remove(report, id))
 }
 
 #[no_mangle]
 pub extern "C" fn lmr5_put_text(report: &mut [u8], text: &[u8]) -> Answer
-    ensures { λ r. ⌜ left r (now (report .exit)) [] ≡ numberedAfter (effect (now (report .entry)) (call.putText (now (text .entry)))) ⌝ }
+    ensures { λ r. ⌜ left r (now (report .exit)) [] ≡ numberedAfter (effect (now (report .entry)) (call.edits (call.putText (now (text .entry))))) ⌝ }
 {
-    answer_of(puts::put_text(report, text))
+    answer_of(call_puts::put_text(report, text))
 }
 
 #[no_mangle]
 pub extern "C" fn lmr5_fetch_text(report: &[u8], out: &mut [u8]) -> Answer
-    ensures { λ r. ⌜ left r (now (report .entry)) (now (out .exit)) ≡ numberedAfter (effect (now (report .entry)) (call.fetchText (now (out .entry)))) ⌝ }
+    ensures { λ r. ⌜ left r (now (report .entry)) (now (out .exit) ∷ []) ≡ numberedAfter (effect (now (report .entry)) (call.fetches (call.fetchText (now (out .entry))))) ⌝ }
 {
-    answer_of(fetches::fetch_text(&*report, out))
+    answer_of(call_fetches::fetch_text(&*report, out))
 }
 
 // ---- a script of calls
 
 #[no_mangle]
 pub extern "C" fn lmr5_replay(report: &mut [u8], script: &[u8], log: &mut [u8]) -> Performed
-    ensures { λ r. ⌜ Performs (record { buffer = now (report .exit); log = now (log .exit); calls = r .calls; taken = r .taken; written = r .written }) (now (report .entry)) (now (script .entry)) (now (log .entry)) ⌝ }
+    ensures { λ r. ⌜ Performs (record { buffer = now (report .exit); log = now (log .exit); calls = r .calls; taken = r .taken; written = r .written })
+        (now (report .entry)) (now (script .entry)) (now (log .entry)) ⌝ }
 {
-    let p = list::replay(report, script, log);
+    let p = replay::replay(report, script, log);
     Performed {
         calls: p.calls as u64,
         taken: p.taken as u64,

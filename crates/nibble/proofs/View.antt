@@ -1,6 +1,6 @@
 -- Laws of a buffer's nibbles, from a cursor on and n of them.
 -- Assumes nothing.
-use Prim.Native.Nat.{ℕ, _+_, _-_, _*_, _/_, _≤_, _<_, max}
+use Prim.Native.Nat.{ℕ, _+_, _-_, _*_, _/_, _≤_, _<_}
 use native.Mathlib.Nat.{add-zero}
 use native.Mathlib.Numerals.{add-one}
 use native.Mathlib.Omega.{arith}
@@ -10,11 +10,12 @@ use mathlib.Core.List.{List}
 use lib.ListN.{length, getD, take, drop, length-drop, drop-of-length-le}
 use lib.Seq.{length-take-le, getD-take, getD-drop, take-take, drop-drop, drop-cons}
 use lib.Dec.{ltb, leb}
+use lib.Bits.{bitOr, or-lt, or-add-and, and-le-l, and-le-r}
 use borrow.Author.Tests.{le-leb, lt-leb, leb-true, leb-false, lt-ltb, le-ltb, ltb-true, ltb-false}
 use Rattle.format.specs.Nibbles.{lengthAt, idAt, Nibbles}
 use Rattle.format.specs.Calls.{allNibbles}
 use Rattle.laws.proofs.Bits.{drop-below}
-use Rattle.laws.proofs.Lists.{test-case}
+use Rattle.laws.proofs.Sequences.{test-case}
 use Rattle.laws.proofs.Nibbles.{length-nibbles}
 use Rattle.nibble.specs.View.{view, from, part, moved, stepAt, headerAt}
 use Rattle.nibble.specs.declared.Cursor.{Cursor}
@@ -93,13 +94,17 @@ is-short b c e =
 
 -- ---- bytes that are nibbles each, from place i on
 
-max-leb : (a b : ℕ) → leb (max a b) 15 ≡ leb a 15 && leb b 15
-max-leb a b =
+or-above : (a b : ℕ) → (a ≤ bitOr a b) × (b ≤ bitOr a b)
+or-above a b = (omega (arith, or-add-and a b, and-le-r a b), omega (arith, or-add-and a b, and-le-l a b))
+
+-- no bit above the low four in two numbers, or in either
+or-leb : (a b : ℕ) → leb (bitOr a b) 15 ≡ leb a 15 && leb b 15
+or-leb a b =
     test-case (leb a 15)
     (λ t. test-case (leb b 15)
-    (λ u. le-leb (max a b) 15 (omega (arith, leb-true a 15 t, leb-true b 15 u)) ∙ rw (t, u))
-    (λ u. lt-leb (max a b) 15 (omega (arith, leb-false b 15 u)) ∙ rw (t, u)))
-    (λ t. lt-leb (max a b) 15 (omega (arith, leb-false a 15 t)) ∙ rw t)
+    (λ u. le-leb (bitOr a b) 15 (omega (arith, or-lt 4 a b (omega (arith, leb-true a 15 t)) (omega (arith, leb-true b 15 u)))) ∙ rw (t, u))
+    (λ u. lt-leb (bitOr a b) 15 (omega (arith, or-above a b .1, leb-false b 15 u)) ∙ rw (t, u)))
+    (λ t. lt-leb (bitOr a b) 15 (omega (arith, or-above a b .0, leb-false a 15 t)) ∙ rw t)
 
 and-right : (p : Bool) → p && true ≡ p
 and-right true = refl
@@ -109,12 +114,12 @@ and-assoc : (p q r : Bool) → (p && q) && r ≡ p && (q && r)
 and-assoc true q r = refl
 and-assoc false q r = refl
 
-module _ (ns : List ℕ) (i top : ℕ) where
-  -- the largest so far, and the next
-  pub nibble-next : i < length ns → leb (max top (getD ns i 0)) 15 && allNibbles (drop (i + 1) ns) ≡ leb top 15 && allNibbles (drop i ns)
+module _ (ns : List ℕ) (i bits : ℕ) where
+  -- the bits so far, and those of the next
+  pub nibble-next : i < length ns → leb (bitOr bits (getD ns i 0)) 15 && allNibbles (drop (i + 1) ns) ≡ leb bits 15 && allNibbles (drop i ns)
   unfolding allNibbles
-  nibble-next h = rw (drop-cons ns i 0 h, max-leb top (getD ns i 0), add-one) (and-assoc (leb top 15) (leb (getD ns i 0) 15) _)
+  nibble-next h = rw (drop-cons ns i 0 h, or-leb bits (getD ns i 0), add-one) (and-assoc (leb bits 15) (leb (getD ns i 0) 15) _)
 
-  pub nibbles-end : length ns ≤ i → leb top 15 ≡ leb top 15 && allNibbles (drop i ns)
+  pub nibbles-end : length ns ≤ i → leb bits 15 ≡ leb bits 15 && allNibbles (drop i ns)
   unfolding allNibbles
-  nibbles-end h = rw (drop-of-length-le ns {i = i} h) (sym (and-right (leb top 15)))
+  nibbles-end h = rw (drop-of-length-le ns {i = i} h) (sym (and-right (leb bits 15)))

@@ -1,8 +1,9 @@
 // Nibbles of a buffer, high half of a byte first, read by a cursor.
 ghost use mathlib.Core.Path.{_≡_};
-ghost use Prim.Native.Nat.{_+_, _≤_, _<_, _^_, max};
+ghost use Prim.Native.Nat.{_+_, _*_, _≤_, _<_, _^_};
 ghost use lib.Dec.{ltb};
 ghost use lib.ListN.{length, getD};
+ghost use Rattle.format.specs.Nibbles.{nibbles};
 ghost use Rattle.format.specs.Calls.{allNibbles};
 ghost use Rattle.nibble.specs.View.{view, stepAt, headerAt, moved};
 
@@ -39,11 +40,12 @@ pub fn nibble_at(s: &[u8], at: usize, packed: bool) -> u8
     s[at]
 }
 
-// A byte as a number.
-pub fn wide(x: u8) -> usize
-    ensures { λ r. ⌜ (r ≡ x) × (r < 256) ⌝ }
+// The nibble at a place of a packed buffer.
+pub fn packed_at(s: &[u8], at: usize) -> u8
+    requires { ⌜ at < 2 * length (now s) ⌝ }
+    ensures { λ r. ⌜ (r ≡ getD (nibbles (now (s .entry))) at 0) × (r < 16) ⌝ }
 {
-    x as usize
+    nibble_at(s, at, true)
 }
 
 // Whether a nibble stands at a place.
@@ -56,28 +58,18 @@ pub fn inside(s: &[u8], at: usize, packed: bool) -> bool
     at < s.len()
 }
 
-// The larger of two bytes.
-fn larger(a: u8, b: u8) -> u8
-    ensures { λ r. ⌜ r ≡ max a b ⌝ }
-{
-    if a < b {
-        return b;
-    }
-    a
-}
-
-// Whether each byte is a nibble: whether the largest is. It does not stop early, since the compiler takes many bytes at once
-// only in a loop that runs to its end.
+// Whether each byte is a nibble: whether no byte has a bit above the low four. It does not stop early, since the compiler
+// takes many bytes at once only in a loop that runs to its end.
 pub fn all_nibbles(ns: &[u8]) -> bool
     ensures { λ r. ⌜ r ≡ allNibbles (now (ns .entry)) ⌝ }
 {
-    let mut top = 0;
+    let mut bits = 0;
     let mut i = 0;
     while i < ns.len() {
-        top = larger(top, ns[i]);
+        bits = bits | ns[i];
         i += 1;
     }
-    top <= 15
+    bits <= 15
 }
 
 impl Cursor {
@@ -102,9 +94,9 @@ impl Cursor {
         let at = self.at;
         let packed = self.packed;
         if inside(s, at + 2, packed) {
-            let high = wide(nibble_at(s, at, packed));
-            let low = wide(nibble_at(s, at + 1, packed));
-            let id = wide(nibble_at(s, at + 2, packed));
+            let high = numbers::wide(nibble_at(s, at, packed)) as usize;
+            let low = numbers::wide(nibble_at(s, at + 1, packed)) as usize;
+            let id = numbers::wide(nibble_at(s, at + 2, packed)) as usize;
             return Header::Head(high * 16 + low, id, self.skip(3));
         }
         Header::Short

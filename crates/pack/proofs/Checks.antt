@@ -16,7 +16,7 @@ use Rattle.laws.proofs.Fields.{noField, table-length}
 use Rattle.card.specs.Runs.{sumRun}
 use Rattle.card.proofs.Entries.{field-is}
 use Rattle.card.proofs.Runs.{sum-zero}
-use Rattle.write_values.specs.Given.{refusalOf, refusalAt}
+use Rattle.write_values.specs.Lent.{valueRefusal, refusalAt}
 use Rattle.pack.specs.Steps.{checkedBy, fieldsChecked}
 use Rattle.pack.specs.declared.Checked.{Checked}
 
@@ -52,7 +52,7 @@ passed false true k r h = absurd (omega arith)
 passed false false k r h = refl
 
 -- n is the refusal of the field at place i
-module _ (values : List ℤ) (word i n : ℕ) (long : 46 ≤ length values) (h : i < 46) (e : n ≡ refusalOf (i + 1) word (getD values i (pos 0))) where
+module _ (values : List ℤ) (word i n : ℕ) (long : 46 ≤ length values) (h : i < 46) (e : n ≡ valueRefusal (i + 1) word (getD values i (pos 0))) where
   missing : Bool
   missing = required (suc i) && not (bitAt word (suc i))
 
@@ -60,7 +60,7 @@ module _ (values : List ℤ) (word i n : ℕ) (long : 46 ≤ length values) (h :
   outside = bitAt word (suc i) && not (inRange (getD table i noField) (scaled (getD values i (pos 0))))
 
   turn-is : n ≡ byTests missing outside
-  unfolding refusalOf missing outside
+  unfolding valueRefusal missing outside
   turn-is = e ∙ rw (field-is i, add-one i)
 
   left-step : left values word i ≡ turned missing outside (suc i) (left values word (suc i))

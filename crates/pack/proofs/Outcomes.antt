@@ -20,10 +20,10 @@ use Rattle.format.specs.Calls.{Answer, allNibbles, over}
 use Rattle.format.specs.Buffer.{zeros}
 use Rattle.format.specs.Reply.{refusal}
 use Rattle.format.specs.Whole.{bitOutside, packChecks, countIn, packObservation, packOrder, packGives, pack}
-use Rattle.tail.specs.Walk.{countedBy, counted}
+use Rattle.tail.specs.Walk.{countedBy, tailCounted}
 use Rattle.tail.specs.declared.Counted.{Counted}
 use Rattle.card.specs.Answers.{Carded}
-use Rattle.write_values.specs.Given.{given}
+use Rattle.write_values.specs.Lent.{codesGiven}
 use Rattle.laws.proofs.Order.{first-skip, first-fits, first-append-skip, first-append-some}
 use Rattle.format.specs.Bits.{Bytes}
 use Rattle.laws.proofs.Nibbles.{length-nibbles}
@@ -45,8 +45,8 @@ said : (o : Option Refusal) (count : ℕ) → Said o count (countedBy o count)
 said none count = (refl, refl)
 said (some r) count = refl
 
-pub says : (ns : List ℕ) (w v : Counted) → w ≡ counted ns → w ≡ v → Said (first (attachmentChecks (countIn ns) 1 [] ns)) (countIn ns) v
-unfolding counted
+pub says : (ns : List ℕ) (w v : Counted) → w ≡ tailCounted ns → w ≡ v → Said (first (attachmentChecks (countIn ns) 1 [] ns)) (countIn ns) v
+unfolding tailCounted
 says ns w v is e =
     let o = first (attachmentChecks (countIn ns) 1 [] ns) in
     subst (Said o (countIn ns)) (sym is ∙ e) (said o (countIn ns))
@@ -156,16 +156,16 @@ module _ (values : List ℤ) (word rptin : ℕ) (ns out : List ℕ) where
     pub written : (o1 o2 o3 : List ℕ) (count : ℕ) → (75 + length ns) / 2 + (75 + length ns) % 2 ≤ length out → Bytes o3 → count ≡ countIn ns
         → nibbles o1 ≡ paste (nibbles out) 75 ns (length ns) → length o1 ≡ length out
         → nibbles o2 ≡ cond (odd (75 + length ns)) (set (nibbles o1) (75 + length ns) 0) (nibbles o1) → length o2 ≡ length o1
-        → Carded o2 o3 (rptin ∷ (given values word ++ (checksum (given values word) ∷ count ∷ [])))
+        → Carded o2 o3 (rptin ∷ (codesGiven values word ++ (checksum (codesGiven values word) ∷ count ∷ [])))
         → record { answer = Answer.accepted (packGives ((75 + length ns) / 2 + (75 + length ns) % 2)); out = o3 } ≡ pack values word rptin ns out
     unfolding packObservation cardNumbers
-    written o1 o2 o3 count room bs counted e1 l1 e2 l2 carded =
+    written o1 o2 o3 count room bs counts e1 l1 e2 l2 carded =
         let s : Observation = packObservation values word rptin ns in
         let n : ℕ = 75 + length ns in
         let m : max 0 (size s) ≡ size s = omega arith in
         let long : 38 ≤ length o3 = omega (arith, carded .long, l1, l2) in
         let card : numbersOf o3 ≡ cardNumbers s =
-        carded .card ∙ ap (λ (x : ℕ). rptin ∷ (given values word ++ (checksum (given values word) ∷ x ∷ []))) (counted ∙ sym (checked .count)) in
+        carded .card ∙ ap (λ (x : ℕ). rptin ∷ (codesGiven values word ++ (checksum (codesGiven values word) ∷ x ∷ []))) (counts ∙ sym (checked .count)) in
         let behind : tailOf o3 ≡ ns ++ (zeros (2 * size s - n) ++ drop (2 * size s) (nibbles out)) =
         carded .behind ∙ ap (drop 75) (e2 ∙ ap (λ (x : List ℕ). cond (odd n) (set x n 0) x) e1)
         ∙ laid-behind (nibbles out) ns n (2 * size s) refl (omega (arith, size-of)) (omega (arith, size-of, length-nibbles out)) in

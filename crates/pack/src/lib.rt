@@ -57,7 +57,7 @@ fn pad(s: &mut [u8], at: usize)
     ensures { λ _. ⌜ (nibbles (now (s .exit)) ≡ cond (odd at) (set (nibbles (now (s .entry))) at 0) (nibbles (now (s .entry)))) × (length (now (s .exit)) ≡ length (now (s .entry))) ⌝ }
 {
     if at % 2 == 1 {
-        shift::put(s, at, 0);
+        nibble_edit::put(s, at, 0);
         return;
     }
 }
@@ -72,7 +72,7 @@ fn write(values: &[i64], word: u64, rptin: u16, tail: &[u8], count: usize, out: 
     if out.len() < size {
         return Packed::Refused(13, 0);
     }
-    transfer::lay(out, 75, tail);
+    nibble_copy::lay(out, 75, tail);
     pad(out, n);
     write_values::write(out, rptin, values, word, count);
     Packed::Written(size)

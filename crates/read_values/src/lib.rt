@@ -9,7 +9,7 @@ ghost use Rattle.format.specs.Report.{codesOf};
 ghost use Rattle.format.specs.Calls.{over};
 ghost use Rattle.format.specs.Whole.{valueOrZero, isPresent, presenceFrom};
 ghost use Rattle.card.specs.Rows.{fieldIn, RowAt, RowsAt};
-ghost use Rattle.read_values.specs.Shown.{Shown};
+ghost use Rattle.read_values.specs.Values.{ValuesRead};
 use format::Coded;
 
 // What unpacking shows of a coded number of the field that a row is of: the scaled value, 0 where it is missing.
@@ -39,7 +39,7 @@ fn presence_bit(k: usize, c: Coded) -> u64
 // Shows the field at place i: writes its value, and adds its bit to the presence word.
 fn show_field(word: u64, s: &[u8], out: &mut [i64], i: usize, row: u64) -> u64
     requires { ⌜ (38 ≤ length (now s)) × (46 ≤ length (now out)) × (word < 2305843009213693952) × RowAt i row ⌝ }
-    ensures { λ r. ⌜ Shown (now (s .entry)) i 1 (now (out .entry)) (now (out .exit)) word r ⌝ }
+    ensures { λ r. ⌜ ValuesRead (now (s .entry)) i 1 (now (out .entry)) (now (out .exit)) word r ⌝ }
 {
     let c = card::code_in(s, row);
     out[i] = value_or_zero(row, c);
@@ -49,7 +49,7 @@ fn show_field(word: u64, s: &[u8], out: &mut [i64], i: usize, row: u64) -> u64
 // The same of three fields from place i on.
 fn show_three(word: u64, s: &[u8], out: &mut [i64], i: usize, r1: u64, r2: u64, r3: u64) -> u64
     requires { ⌜ (38 ≤ length (now s)) × (46 ≤ length (now out)) × (word < 1152921504606846976) × RowsAt i r1 r2 r3 ⌝ }
-    ensures { λ r. ⌜ Shown (now (s .entry)) i 3 (now (out .entry)) (now (out .exit)) word r ⌝ }
+    ensures { λ r. ⌜ ValuesRead (now (s .entry)) i 3 (now (out .entry)) (now (out .exit)) word r ⌝ }
 {
     let word = show_field(word, s, out, i, r1);
     let word = show_field(word, s, out, i + 1, r2);
@@ -58,7 +58,7 @@ fn show_three(word: u64, s: &[u8], out: &mut [i64], i: usize, r1: u64, r2: u64, 
 
 fn show_1_to_15(word: u64, s: &[u8], out: &mut [i64]) -> u64
     requires { ⌜ (38 ≤ length (now s)) × (46 ≤ length (now out)) × (word < 576460752303423488) ⌝ }
-    ensures { λ r. ⌜ Shown (now (s .entry)) 0 15 (now (out .entry)) (now (out .exit)) word r ⌝ }
+    ensures { λ r. ⌜ ValuesRead (now (s .entry)) 0 15 (now (out .entry)) (now (out .exit)) word r ⌝ }
 {
     let word = show_three(word, s, out, 0, card::BOX10, card::YEAR, card::MONTH);
     let word = show_three(word, s, out, 3, card::DAY, card::HOUR, card::X);
@@ -70,7 +70,7 @@ fn show_1_to_15(word: u64, s: &[u8], out: &mut [i64]) -> u64
 
 fn show_16_to_30(word: u64, s: &[u8], out: &mut [i64]) -> u64
     requires { ⌜ (38 ≤ length (now s)) × (46 ≤ length (now out)) × (word < 576460752303423488) ⌝ }
-    ensures { λ r. ⌜ Shown (now (s .entry)) 15 15 (now (out .entry)) (now (out .exit)) word r ⌝ }
+    ensures { λ r. ⌜ ValuesRead (now (s .entry)) 15 15 (now (out .entry)) (now (out .exit)) word r ⌝ }
 {
     let word = show_three(word, s, out, 15, card::PB, card::DI, card::D);
     let word = show_three(word, s, out, 18, card::WI, card::W, card::VI);
@@ -82,7 +82,7 @@ fn show_16_to_30(word: u64, s: &[u8], out: &mut [i64]) -> u64
 
 fn show_31_to_45(word: u64, s: &[u8], out: &mut [i64]) -> u64
     requires { ⌜ (38 ≤ length (now s)) × (46 ≤ length (now out)) × (word < 576460752303423488) ⌝ }
-    ensures { λ r. ⌜ Shown (now (s .entry)) 30 15 (now (out .entry)) (now (out .exit)) word r ⌝ }
+    ensures { λ r. ⌜ ValuesRead (now (s .entry)) 30 15 (now (out .entry)) (now (out .exit)) word r ⌝ }
 {
     let word = show_three(word, s, out, 30, card::S, card::BI, card::C);
     let word = show_three(word, s, out, 33, card::NH, card::CL, card::HI);

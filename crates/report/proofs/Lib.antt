@@ -1,2 +1,3 @@
 pub mod Outcomes
 pub mod Observations
+pub mod Found

@@ -6,26 +6,28 @@ use mathlib.Core.Option.{none, some}
 use lib.ListN.{length, take}
 use lib.Dec.{T}
 use lib.IntN.{pos, negsuc}
-use Rattle.format.specs.Calls.{Call, readField, setField, clearField, readFlag, setFlag, clearFlag, put, fetch, remove, putText, fetchText, outputOf, Quantity, given, accepted}
-use Rattle.format.specs.Buffer.{shown}
+use Rattle.format.specs.Calls.{Call, reads, edits, fetches, readField, setField, clearField, readFlag, setFlag, clearFlag, put, fetch, remove, putText, fetchText}
+use Rattle.format.specs.Calls.{outputsOf, Quantity, given, accepted}
+use Rattle.format.specs.Buffer.{zeros, shown}
 use Rattle.format.specs.Reply.{refusal}
 use Rattle.format.proofs.Test.{Example, same, every}
-use Rattle.script.specs.Script.{numberFrom, numberOf, bytesOf, bytes8, kinds, within, entryAt, recordSize, nextIn, listOf, entryOf, scriptOf, headOf, recordOf, records}
-use Rattle.words.specs.Words.{signed, unsigned}
+use Rattle.script.specs.Script.{numberFrom, numberOf, bytesOf, bytes8, kinds, within, entryAt, joined, recordSize, nextIn, listOf, scriptEntry, scriptOf, rowOf, headOf, recordOf, records}
+use Rattle.script.specs.Labels.{quantityLabel}
+use Rattle.numbers.specs.Words.{signed, unsigned}
 
 calls : List Call
 calls =
-    readField 7
-    ∷ setField 7 (record { 0 = negsuc 1 })
-    ∷ clearField 10
-    ∷ readFlag 2
-    ∷ setFlag 2 300
-    ∷ clearFlag 14
-    ∷ put 5 (1 ∷ 2 ∷ 3 ∷ [])
-    ∷ fetch 5 (9 ∷ 8 ∷ [])
-    ∷ remove 15
-    ∷ putText (65 ∷ 32 ∷ [])
-    ∷ fetchText (6 ∷ [])
+    reads (readField 7)
+    ∷ edits (setField 7 (record { 0 = negsuc 1 }))
+    ∷ edits (clearField 10)
+    ∷ reads (readFlag 2)
+    ∷ edits (setFlag 2 300)
+    ∷ edits (clearFlag 14)
+    ∷ edits (put 5 (1 ∷ 2 ∷ 3 ∷ []))
+    ∷ fetches (fetch 5 (9 ∷ 8 ∷ []))
+    ∷ edits (remove 15)
+    ∷ edits (putText (65 ∷ 32 ∷ []))
+    ∷ fetches (fetchText (6 ∷ []))
     ∷ []
 
 script : List ℕ
@@ -52,23 +54,30 @@ example got want = record { got = got; want = want }
 examples : List Example
 examples =
     example (scriptOf calls) script
-    ∷ example (again 113 script) script
+    ∷ example (again 410 script) script
     -- a log that is too short for the last record, and for the first
-    ∷ example (again 112 script) (take 129 script)
-    ∷ example (again 9 script) []
+    ∷ example (again 409 script) (take 129 script)
+    ∷ example (again 36 script) []
     -- an entry that is cut off; unknown kinds; bytes behind
-    ∷ example (again 113 (take 138 script)) (take 129 script)
-    ∷ example (again 113 (0 ∷ script)) []
-    ∷ example (again 113 (12 ∷ script)) []
-    ∷ example (again 200 (script ++ (0 ∷ script))) script
-    ∷ example (again 226 (script ++ script)) (script ++ script)
-    -- a log
-    ∷ example (records (shown (refusal 13 258) (9 ∷ 8 ∷ []) ∷ shown (accepted []) [] ∷ []))
-    (0 ∷ 13 ∷ 0 ∷ 0 ∷ 0 ∷ 0 ∷ 0 ∷ 0 ∷ 1 ∷ 2 ∷ 9 ∷ 8 ∷ 1 ∷ 0 ∷ 0 ∷ 0 ∷ 0 ∷ 0 ∷ 0 ∷ 0 ∷ 0 ∷ 0 ∷ [])
-    ∷ example (records (shown (accepted (given Quantity.value (some (pos 300)) ∷ [])) [] ∷ shown (accepted (given Quantity.value (some (negsuc 1)) ∷ [])) (1 ∷ []) ∷ shown (accepted (given Quantity.flag none ∷ [])) [] ∷ []))
-    (2 ∷ 0 ∷ 0 ∷ 0 ∷ 0 ∷ 0 ∷ 0 ∷ 0 ∷ 1 ∷ 44 ∷ 2 ∷ 0 ∷ 255 ∷ 255 ∷ 255 ∷ 255 ∷ 255 ∷ 255 ∷ 255 ∷ 254 ∷ 1 ∷ 3 ∷ 0 ∷ 0 ∷ 0 ∷ 0 ∷ 0 ∷ 0 ∷ 0 ∷ 0 ∷ 0 ∷ [])
+    ∷ example (again 410 (take 138 script)) (take 129 script)
+    ∷ example (again 410 (0 ∷ script)) []
+    ∷ example (again 410 (12 ∷ script)) []
+    ∷ example (again 700 (script ++ (0 ∷ script))) script
+    ∷ example (again 820 (script ++ script)) (script ++ script)
+    -- a log: what is refused, and what is given: nothing, a value, a negative one, a missing flag, three numbers
+    ∷ example (records (shown (refusal 13 258) ((9 ∷ []) ∷ (8 ∷ []) ∷ []) ∷ shown (accepted []) [] ∷ []))
+    ((0 ∷ 13 ∷ 0 ∷ 0 ∷ 0 ∷ 0 ∷ 0 ∷ 0 ∷ 1 ∷ 2 ∷ zeros 27) ++ (9 ∷ 8 ∷ 1 ∷ zeros 36))
+    ∷ example (recordOf (shown (accepted (given Quantity.value (some (pos 300)) ∷ [])) []))
+    ((1 ∷ zeros 9) ++ (1 ∷ 0 ∷ 0 ∷ 0 ∷ 0 ∷ 0 ∷ 0 ∷ 1 ∷ 44 ∷ zeros 18))
+    ∷ example (recordOf (shown (accepted (given Quantity.value (some (negsuc 1)) ∷ [])) ((1 ∷ []) ∷ [])))
+    ((1 ∷ zeros 9) ++ ((1 ∷ 255 ∷ 255 ∷ 255 ∷ 255 ∷ 255 ∷ 255 ∷ 255 ∷ 254 ∷ zeros 18) ++ (1 ∷ [])))
+    ∷ example (recordOf (shown (accepted (given Quantity.flag none ∷ [])) []))
+    ((1 ∷ zeros 9) ++ (130 ∷ zeros 26))
+    ∷ example (recordOf (shown (accepted (given Quantity.count (some (pos 5)) ∷ given Quantity.nibbles none ∷ given Quantity.bytes (some (pos 38)) ∷ [])) []))
+    ((1 ∷ zeros 9) ++ ((3 ∷ zeros 7) ++ ((5 ∷ 137 ∷ zeros 8) ++ ((8 ∷ zeros 7) ++ (38 ∷ [])))))
     ∷ []
 
 hold : T (every examples)
-unfolding calls script again example examples same every outputOf numberFrom numberOf bytesOf bytes8 signed unsigned kinds within entryAt recordSize nextIn listOf entryOf scriptOf headOf recordOf records
+unfolding calls script again example examples same every outputsOf numberFrom numberOf bytesOf bytes8 signed unsigned kinds within entryAt quantityLabel joined
+    recordSize nextIn listOf scriptEntry scriptOf rowOf headOf recordOf records
 hold = tt

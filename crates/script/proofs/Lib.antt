@@ -2,4 +2,4 @@ pub mod Numbers
 pub mod Log
 pub mod Scripts
 pub mod Examples
-pub mod Driver
+pub mod Replay

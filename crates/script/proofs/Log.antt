@@ -1,167 +1,227 @@
 -- The log cuts nothing: the records of a list's answers have the lengths that its calls say, and tell the answers.
 -- Assumes nothing.
 use Prim.{Unit, tt}
-use Prim.Native.Nat.{ℕ, _+_, max}
+use Prim.Native.Nat.{ℕ, zero, suc, _+_, _-_, _*_, _≤_, _<_}
 use native.Mathlib.Omega.{arith}
-use mathlib.Core.Path.{_≡_, refl, sym, ap, subst, _∙_}
-use mathlib.Core.Bool.{cond}
+use mathlib.Core.Path.{_≡_, refl, sym, ap, _∙_}
+use mathlib.Core.Bool.{false}
 use mathlib.Core.List.{List, [], _∷_, _++_, append-assoc}
 use mathlib.Core.Option.{Option, none, some}
-use lib.ListN.{length, getD, take, drop, length-append, length-drop}
+use lib.ListN.{length, drop, length-append, length-drop}
 use lib.Seq.{drop-drop, drop-at, take-at}
 use lib.Dec.{ltb, eqb}
 use lib.IntN.{ℤ}
-use borrow.Author.Tests.{ltb-false}
+use borrow.Author.Tests.{ltb-false, lt-ltb, le-ltb, ne-eqb}
 use Rattle.format.specs.Bits.{Bytes}
 use Rattle.format.specs.Order.{Refusal, first}
 use Rattle.format.specs.Observation.{Observation, size}
 use Rattle.format.specs.Report.{Verdict, judge}
-use Rattle.format.specs.Calls.{Call, readField, setField, clearField, readFlag, setFlag, clearFlag, put, fetch, remove, putText, fetchText, edited, shorter, Quantity, Given, given, gives, outputOf, writes, roomCheck, callChecks, checks, Answer, refused, accepted, steppedBy, step, over}
-use Rattle.format.specs.Buffer.{Shown, effectOn, effect, run, refusals, claimOn, claim}
-use Rattle.format.specs.Reply.{refusal}
-use Rattle.laws.proofs.Lists.{or-false}
+use Rattle.format.specs.Calls.{Call, reads, edits, fetches, readField, readFlag, fetch, fetchText, edited, shorter, overfull, overEach, outputsOf, writes, roomCheck, callChecks, checks}
+use Rattle.format.specs.Calls.{Quantity, value, flag, count, word, present, rptin, attachments, bytes, nibbles, Given, given, gives, Answer, refused, accepted, steppedBy, step, over}
+use Rattle.format.specs.Buffer.{Shown, Standing, standing, stepping, run, effectOn, effect, refusals, claimOn, claim}
+use Rattle.laws.proofs.Sequences.{or-false}
 use Rattle.laws.proofs.Order.{first-none, first-append-none}
-use Rattle.laws.proofs.Bounds.{NumberFits, GivenFit, AnswerFits, AnswersFit, claim-fits}
-use Rattle.words.specs.Words.{unsigned}
-use Rattle.script.specs.Script.{bytes8, numberAt, recordSize, numberHead, headOf, recordOf, records, quantities, numbersAt, labelled, answerAt, answersIn}
+use Rattle.laws.proofs.Machine.{Each, each-answer}
+use Rattle.laws.proofs.Bounds.{NumberFits, GivenFit, AnswerFits, ShownFits, claim-fits}
+use Rattle.numbers.specs.Words.{unsigned}
+use Rattle.script.specs.Labels.{quantityLabel, quantityOf, labelBy, numberOrZero}
+use Rattle.script.specs.Script.{bytes8, joined, recordSize, rowOf, headOf, recordOf, records, givenAt, givenIn, answerAt, outputsIn, answersIn}
 use Rattle.script.proofs.Numbers.{length-bytes8, number-at, signed-unsigned, unsigned-lt}
 
 -- ---- lengths
 
-pub head-length : (a : Answer) → length (headOf a) ≡ 10
-unfolding headOf
-head-length (refused r) = rw length-bytes8
-head-length (accepted []) = rw length-bytes8
-head-length (accepted (g ∷ more)) = number-head (g .number)
-  where
-    number-head : (n : Option ℤ) → length (numberHead n) ≡ 10
-    number-head (some z) = rw length-bytes8
-    number-head none = rw length-bytes8
+row-length : (n : ℕ) (gs : List Given) → length (rowOf n gs) ≡ 9 * n
+unfolding rowOf
+row-length zero gs = refl
+row-length (suc n) [] = simp (length-append, length-bytes8, row-length n []) (omega arith)
+row-length (suc n) (g ∷ gs) = simp (length-append, length-bytes8, row-length n gs) (omega arith)
 
-pub record-length : (a : Shown) → length (recordOf a) ≡ 10 + length (a .out)
+pub head-length : (a : Answer) → length (headOf a) ≡ 37
+unfolding headOf
+head-length (refused r) = simp (length-append, length-bytes8, row-length 3 [])
+head-length (accepted gs) = simp (length-append, length-bytes8, row-length 3 gs)
+
+pub record-length : (a : Shown) → length (recordOf a) ≡ 37 + length (joined (a .outs))
 unfolding recordOf
 record-length a = simp (length-append, head-length)
 
--- no call changes the length of its output
-pub step-out : (n : ℕ) (s : Observation) (c : Call) → length (step n s c .out) ≡ length (outputOf c)
+-- outputs as many and as long as others
+abbrev pub Alike : List (List ℕ) → List (List ℕ) → Type 0
+Alike [] [] = Unit {0}
+Alike [] (y ∷ ys) = ⊥
+Alike (x ∷ xs) [] = ⊥
+Alike (x ∷ xs) (y ∷ ys) = (length x ≡ length y) × Alike xs ys
+
+alike-same : (xs : List (List ℕ)) → Alike xs xs
+alike-same [] = tt
+alike-same (x ∷ xs) = (refl, alike-same xs)
+
+alike-over : (xs outs : List (List ℕ)) → overfull xs outs ≡ false → Alike (overEach xs outs) outs
+unfolding overfull overEach
+alike-over [] outs h = alike-same outs
+alike-over (x ∷ xs) [] h = let z : _≡_ {A = ℕ} 0 1 = cc in absurd (omega arith)
+alike-over (x ∷ xs) (out ∷ outs) h =
+    let f = or-false (ltb (length out) (length x)) (overfull xs outs) h in
+    let fits = ltb-false (length out) (length x) (f .0) in
+    (simp (length-append, length-drop) (omega arith), alike-over xs outs (f .1))
+
+pub alike-joined : (xs ys : List (List ℕ)) → Alike xs ys → length (joined xs) ≡ length (joined ys)
+unfolding joined
+alike-joined [] [] h = refl
+alike-joined [] (y ∷ ys) h = absurd h
+alike-joined (x ∷ xs) [] h = absurd h
+alike-joined (x ∷ xs) (y ∷ ys) h = simp (length-append, h .0, alike-joined xs ys (h .1))
+
+-- no call changes the lengths of its outputs
+step-outs : (n : ℕ) (s : Observation) (c : Call) → Alike (step n s c .outs) (outputsOf c)
 unfolding step
-step-out n s c = go (first (checks n s c)) refl
+step-outs n s c = go (first (checks n s c)) refl
   where
-    go : (o : Option Refusal) → first (checks n s c) ≡ o → length (steppedBy o s c .out) ≡ length (outputOf c)
-    go (some r) q = refl
+    go : (o : Option Refusal) → first (checks n s c) ≡ o → Alike (steppedBy o s c .outs) (outputsOf c)
+    go (some r) q = alike-same (outputsOf c)
     go none q =
         let f = first-append-none (callChecks s c) (roomCheck n s c ∷ []) (unfold checks in q) in
-        let room = or-false (shorter n (edited s c)) (ltb (length (outputOf c)) (length (writes s c))) (first-none (roomCheck n s c) [] (f .1) .0) in
-        let fits = ltb-false (length (outputOf c)) (length (writes s c)) (room .1) in
-        simp (length-append, length-drop) (omega arith)
+        let room = or-false (shorter n (edited s c)) (overfull (writes s c) (outputsOf c)) (first-none (roomCheck n s c) [] (f .1) .0) in
+        alike-over (writes s c) (outputsOf c) (room .1)
 
-pub effect-out : (b : List ℕ) (c : Call) → length (effect b c .out) ≡ length (outputOf c)
+pub effect-outs : (b : List ℕ) (c : Call) → Alike (effect b c .outs) (outputsOf c)
 unfolding effect
-effect-out b c = go (judge b)
+effect-outs b c = go (judge b)
   where
-    go : (v : Verdict) → length (effectOn v b c .out) ≡ length (outputOf c)
-    go (Verdict.refused r) = refl
-    go (Verdict.accepted s) = step-out (length b) s c
+    go : (v : Verdict) → Alike (effectOn v b c .outs) (outputsOf c)
+    go (Verdict.refused r) = alike-same (outputsOf c)
+    go (Verdict.accepted s) = step-outs (length b) s c
 
 -- ---- an answer read back
 
--- what is given has these quantities, of which a record has room for one
-abbrev OfQuantities : List Quantity → List Given → Type 0
-OfQuantities [] gs = gs ≡ []
-OfQuantities (q ∷ []) gs = (n : Option ℤ) × (gs ≡ given q n ∷ [])
-OfQuantities (q ∷ p ∷ more) gs = ⊥
+label-range : (q : Quantity) → (1 ≤ quantityLabel q) × (quantityLabel q < 128)
+unfolding quantityLabel
+label-range value = (omega arith, omega arith)
+label-range flag = (omega arith, omega arith)
+label-range count = (omega arith, omega arith)
+label-range word = (omega arith, omega arith)
+label-range present = (omega arith, omega arith)
+label-range rptin = (omega arith, omega arith)
+label-range attachments = (omega arith, omega arith)
+label-range bytes = (omega arith, omega arith)
+label-range nibbles = (omega arith, omega arith)
 
-gives-quantities : (s : Observation) (c : Call) → OfQuantities (quantities c) (gives s c)
-unfolding quantities gives
-gives-quantities s (readField k) = (_, refl)
-gives-quantities s (setField k v) = refl
-gives-quantities s (clearField k) = refl
-gives-quantities s (readFlag j) = (_, refl)
-gives-quantities s (setFlag j v) = refl
-gives-quantities s (clearFlag j) = refl
-gives-quantities s (put i ns) = refl
-gives-quantities s (fetch i out) = (_, refl)
-gives-quantities s (remove i) = refl
-gives-quantities s (putText t) = refl
-gives-quantities s (fetchText out) = (_, refl)
+label-back : (q : Quantity) → quantityOf (quantityLabel q) ≡ q
+unfolding quantityLabel quantityOf
+label-back value = refl
+label-back flag = refl
+label-back count = refl
+label-back word = refl
+label-back present = refl
+label-back rptin = refl
+label-back attachments = refl
+label-back bytes = refl
+label-back nibbles = refl
 
--- the answer that a record tells, with numbers of these quantities
-abbrev answerTold : List Quantity → List ℕ → Answer
-answerTold qs s = cond (eqb (getD s 0 0) 0) (refusal (getD s 1 0) (numberAt s 2)) (accepted (labelled qs (numbersAt s)))
+number-back : (q : Quantity) (n : Option ℤ) (rest : List ℕ) → NumberFits n
+    → givenAt (labelBy (quantityLabel q) n ∷ (bytes8 (unsigned (numberOrZero n)) ++ rest)) ≡ given q n
+number-back q none rest h =
+    let m = quantityLabel q in
+    let e : 128 + m - 128 ≡ m = omega arith in
+    rw (le-ltb (128 + m) 128 (omega arith), e, label-back q)
+number-back q (some z) rest h =
+    let m = quantityLabel q in
+    rw (lt-ltb m 128 (label-range q .1), label-back q, number-at (m ∷ []) 1 refl (unsigned z) rest (unsigned-lt z h), signed-unsigned z h)
 
-number-back : (q : Quantity) (n : Option ℤ) (rest : List ℕ) → NumberFits n → answerTold (q ∷ []) (numberHead n ++ rest) ≡ accepted (given q n ∷ [])
-number-back q none rest h = refl
-number-back q (some z) rest h = rw (number-at (2 ∷ 0 ∷ []) 2 refl (unsigned z) rest (unsigned-lt z h), signed-unsigned z h)
+label-there : (m : ℕ) (n : Option ℤ) → 1 ≤ m → eqb (labelBy m n) 0 ≡ false
+label-there m none h = ne-eqb (128 + m) 0 (λ e. omega arith)
+label-there m (some z) h = ne-eqb m 0 (λ e. omega arith)
 
-given-back : (qs : List Quantity) (gs : List Given) (rest : List ℕ) → OfQuantities qs gs → GivenFit gs → answerTold qs (headOf (accepted gs) ++ rest) ≡ accepted gs
-unfolding headOf
-given-back [] gs rest e h = rw e
-given-back (q ∷ []) gs rest e h = rw (e .1) (number-back q (e .0) rest (subst GivenFit (e .1) h .0))
-given-back (q ∷ p ∷ more) gs rest e h = absurd e
+given-back : (n : ℕ) (gs : List Given) (rest : List ℕ) → length gs ≤ n → GivenFit gs → givenIn n (rowOf n gs ++ rest) ≡ gs
+unfolding givenIn rowOf
+given-back zero [] rest l h = refl
+given-back zero (g ∷ gs) rest l h = absurd (omega arith)
+given-back (suc n) [] rest l h = refl
+given-back (suc n) (g ∷ gs) rest l h =
+    let x = bytes8 (unsigned (numberOrZero (g .number))) in
+    rw (
+      append-assoc x (rowOf n gs) rest,
+      label-there (quantityLabel (g .quantity)) (g .number) (label-range (g .quantity) .0),
+      number-back (g .quantity) (g .number) (rowOf n gs ++ rest) (h .0),
+      drop-at x (rowOf n gs ++ rest) 8 (length-bytes8 _),
+      given-back n gs rest (omega arith) (h .1),
+    )
 
--- a call's answer: a refusal, or what such a call gives
-abbrev Answers : Call → Answer → Type 0
-Answers c (refused r) = Unit {0}
-Answers c (accepted gs) = OfQuantities (quantities c) gs
+-- a refusal, or not more numbers than a row has room for
+abbrev Few : Answer → Type 0
+Few (refused r) = Unit {0}
+Few (accepted gs) = length gs ≤ 3
 
-answer-back : (c : Call) (a : Answer) (rest : List ℕ) → Answers c a → AnswerFits a → answerAt c (headOf a ++ rest) ≡ a
-unfolding answerAt
-answer-back c (refused r) rest t h = unfold headOf in rw (number-at (0 ∷ r .number ∷ []) 2 refl (r .place) rest h)
-answer-back c (accepted gs) rest t h = given-back (quantities c) gs rest t h
+answer-back : (a : Answer) (rest : List ℕ) → Few a → AnswerFits a → answerAt (headOf a ++ rest) ≡ a
+unfolding answerAt headOf
+answer-back (refused r) rest t h =
+    rw (append-assoc (bytes8 (r .place)) (rowOf 3 []) rest, number-at (0 ∷ r .number ∷ []) 2 refl (r .place) (rowOf 3 [] ++ rest) h)
+answer-back (accepted gs) rest t h =
+    rw (append-assoc (bytes8 0) (rowOf 3 gs) rest, drop-at (bytes8 0) (rowOf 3 gs ++ rest) 8 (length-bytes8 0), given-back 3 gs rest t h)
+
+outputs-back : (outs lent : List (List ℕ)) (rest : List ℕ) → Alike outs lent → outputsIn lent (joined outs ++ rest) ≡ outs
+unfolding outputsIn joined
+outputs-back [] [] rest h = refl
+outputs-back [] (y ∷ lent) rest h = absurd h
+outputs-back (x ∷ outs) [] rest h = absurd h
+outputs-back (x ∷ outs) (y ∷ lent) rest h =
+    rw (append-assoc x (joined outs) rest, take-at x (joined outs ++ rest) (length y) (h .0), drop-at x (joined outs ++ rest) (length y) (h .0), outputs-back outs lent rest (h .1))
 
 -- ---- the answers of a list read back
 
--- answers of these calls, each with an output of the length that was lent
-abbrev Shapes : List Call → List Shown → Type 0
-Shapes [] [] = Unit {0}
-Shapes [] (a ∷ more) = ⊥
-Shapes (c ∷ cs) [] = ⊥
-Shapes (c ∷ cs) (a ∷ more) = Answers c (a .answer) × (length (a .out) ≡ length (outputOf c)) × Shapes cs more
+-- what a record holds: a call's answer, and outputs of the lengths that were lent
+abbrev Held : Call → Shown → Type 0
+Held c a = Few (a .answer) × Alike (a .outs) (outputsOf c)
 
-answers-back : (cs : List Call) (more : List Shown) (rest : List ℕ) → Shapes cs more → AnswersFit more → answersIn cs (records more ++ rest) ≡ more
+answers-back : (cs : List Call) (more : List Shown) (rest : List ℕ) → Each Held cs more → Each ShownFits cs more → answersIn cs (records more ++ rest) ≡ more
 unfolding answersIn records recordOf recordSize
 answers-back [] [] rest s f = refl
 answers-back [] (a ∷ more) rest s f = absurd s
 answers-back (c ∷ cs) [] rest s f = absurd s
 answers-back (c ∷ cs) (a ∷ more) rest s f =
+    let head = headOf (a .answer) in
+    let outs = joined (a .outs) in
     let left = records more ++ rest in
-    let whole : ((headOf (a .answer) ++ a .out) ++ records more) ++ rest ≡ headOf (a .answer) ++ (a .out ++ (records more ++ rest)) =
-    append-assoc (headOf (a .answer) ++ a .out) (records more) rest ∙ append-assoc (headOf (a .answer)) (a .out) (records more ++ rest) in
-    let ten = head-length (a .answer) in
-    let behind : drop 10 (headOf (a .answer) ++ (a .out ++ left)) ≡ a .out ++ left = drop-at (headOf (a .answer)) (a .out ++ left) 10 ten in
-    let next : drop (10 + length (outputOf c)) (headOf (a .answer) ++ (a .out ++ left)) ≡ left =
-    sym (drop-drop (length (outputOf c)) 10 (headOf (a .answer) ++ (a .out ++ left)))
-    ∙ ap (drop (length (outputOf c))) behind
-    ∙ drop-at (a .out) left (length (outputOf c)) (s .1) in
-    rw (whole, answer-back c (a .answer) (a .out ++ left) (s .0) (f .0), behind, take-at (a .out) left (length (outputOf c)) (s .1), next, answers-back cs more rest (s .2) (f .1))
+    let n = length (joined (outputsOf c)) in
+    let long : length outs ≡ n = alike-joined (a .outs) (outputsOf c) (s .0 .1) in
+    let whole : ((head ++ outs) ++ records more) ++ rest ≡ head ++ (outs ++ left) =
+    append-assoc (head ++ outs) (records more) rest ∙ append-assoc head outs left in
+    let behind : drop 37 (head ++ (outs ++ left)) ≡ outs ++ left = drop-at head (outs ++ left) 37 (head-length (a .answer)) in
+    let next : drop (37 + n) (head ++ (outs ++ left)) ≡ left =
+    sym (drop-drop n 37 (head ++ (outs ++ left))) ∙ ap (drop n) behind ∙ drop-at outs left n long in
+    rw (whole, answer-back (a .answer) (outs ++ left) (s .0 .0) (f .0), behind, outputs-back (a .outs) (outputsOf c) left (s .0 .1), next, answers-back cs more rest (s .1) (f .1))
 
-step-shape : (n : ℕ) (s : Observation) (c : Call) → Answers c (step n s c .answer)
+gives-few : (s : Observation) (c : Call) → length (gives s c) ≤ 3
+unfolding gives
+gives-few s (reads (readField k)) = omega arith
+gives-few s (reads (readFlag j)) = omega arith
+gives-few s (edits e) = omega arith
+gives-few s (fetches (fetch i out)) = omega arith
+gives-few s (fetches (fetchText out)) = omega arith
+
+step-few : (n : ℕ) (s : Observation) (c : Call) → Few (step n s c .answer)
 unfolding step
-step-shape n s c = go (first (checks n s c))
+step-few n s c = go (first (checks n s c))
   where
-    go : (o : Option Refusal) → Answers c (steppedBy o s c .answer)
+    go : (o : Option Refusal) → Few (steppedBy o s c .answer)
     go (some r) = tt
-    go none = gives-quantities s c
+    go none = gives-few s c
 
-run-shapes : (n : ℕ) (s : Observation) (e : ℕ) (cs : List Call) → Shapes cs (run n s e cs .answers)
-unfolding run
-run-shapes n s e [] = tt
-run-shapes n s e (c ∷ cs) =
-    let t = step n s c .observation in
-    (step-shape n s c, step-out n s c, run-shapes n t (max e (size t)) cs)
+refusals-held : (r : Refusal) (cs : List Call) → Each Held cs (refusals r cs)
+refusals-held r [] = tt
+refusals-held r (c ∷ cs) = ((tt, alike-same (outputsOf c)), refusals-held r cs)
 
-refusals-shapes : (r : Refusal) (cs : List Call) → Shapes cs (refusals r cs)
-refusals-shapes r [] = tt
-refusals-shapes r (c ∷ cs) = (tt, refl, refusals-shapes r cs)
-
-claim-shapes : (b : List ℕ) (cs : List Call) → Shapes cs (claim b cs .answers)
-unfolding claim
-claim-shapes b cs = go (judge b)
+claim-held : (b : List ℕ) (cs : List Call) → Each Held cs (claim b cs .answers)
+unfolding claim run
+claim-held b cs = go (judge b)
   where
-    go : (v : Verdict) → Shapes cs (claimOn v b cs .answers)
-    go (Verdict.refused r) = refusals-shapes r cs
-    go (Verdict.accepted s) = run-shapes (length b) s (size s) cs
+    go : (v : Verdict) → Each Held cs (claimOn v b cs .answers)
+    go (Verdict.refused r) = refusals-held r cs
+    go (Verdict.accepted s) =
+        each-answer (stepping (length b)) (λ (m : Standing). Unit {0}) Held
+        (λ m c k. ((step-few (length b) (m .observation) c, step-outs (length b) (m .observation) c), tt))
+        cs (standing s (size s)) tt
 
 -- THE LOG TELLS THE ANSWERS that are claimed of a list
 pub claim-told : (b : List ℕ) (cs : List Call) (log : List ℕ) → Bytes b → answersIn cs (over (records (claim b cs .answers)) log) ≡ claim b cs .answers
-claim-told b cs log h = answers-back cs (claim b cs .answers) _ (claim-shapes b cs) (claim-fits b cs h)
+claim-told b cs log h = answers-back cs (claim b cs .answers) _ (claim-held b cs) (claim-fits b cs h)

@@ -6,15 +6,16 @@ use native.Mathlib.Numerals.{add-one}
 use native.Mathlib.Omega.{arith}
 use mathlib.Core.Path.{_≡_, refl, sym, ap, _∙_}
 use mathlib.Core.List.{List, [], _∷_, _++_, append-assoc, append-nil}
-use lib.ListN.{length, getD, take, drop, set, length-set, length-drop}
+use lib.ListN.{length, getD, take, drop, set, length-append, length-set, length-drop, length-replicate, drop-of-length-le, replicate-append-replicate}
 use lib.Seq.{getD-drop, drop-at, length-take-le, take-all, take-suc, take-suc-set, set-split, drop-length, drop-drop, take-at, take-append-seam}
 use lib.Pow.{pow-add, pow-mono, mod-pow-add}
 use lib.IntN.{ℤ, pos, negsuc}
 use lib.Signed.{mag}
 use borrow.Author.Tests.{lt-ltb, le-ltb}
 use Rattle.format.specs.Calls.{over}
+use Rattle.format.specs.Buffer.{zeros}
 use Rattle.script.specs.Script.{numberFrom, numberOf, bytesOf, bytes8, numberAt, bytesAt}
-use Rattle.words.specs.Words.{signed, unsigned}
+use Rattle.numbers.specs.Words.{signed, unsigned}
 
 -- ---- of a number
 
@@ -142,6 +143,82 @@ head-set (a ∷ b ∷ o) ys x y n h e =
     let l : length (a ∷ b ∷ o) - 2 ≡ length o = omega arith in
     rw (e, l, take-all (length o) o (omega arith), drop-length o, append-nil)
 
+-- and behind one
+pub label-set : (o ys : List ℕ) (x n : ℕ) → 9 ≤ length o → ys ≡ over (bytes8 n) (take (length o - 1) (drop 1 o))
+    → set (take 1 o ++ (ys ++ drop (length o - 1) (drop 1 o))) 0 x ≡ over (x ∷ bytes8 n) o
+label-set [] ys x n h e = absurd (omega arith)
+label-set (a ∷ o) ys x n h e =
+    let l : length (a ∷ o) - 1 ≡ length o = omega arith in
+    rw (e, l, take-all (length o) o (omega arith), drop-length o, append-nil)
+
+-- ---- one behind the other
+
+-- bytes written over a front, and then others over the w bytes behind it
+pub over-part : (o xs ys : List ℕ) (m w : ℕ) → length xs ≡ m → length ys ≡ w
+    → take m (over xs o) ++ (ys ++ drop w (drop m (over xs o))) ≡ over (xs ++ ys) o
+over-part o xs ys m w lx ly =
+    let r = drop (length xs) o in
+    let e : length ys + length xs ≡ length (xs ++ ys) = simp length-append (omega arith) in
+    rw (take-at xs r m lx, drop-at xs r m lx, ← ly, drop-drop (length ys) (length xs) o, length-append xs ys, append-assoc xs ys _)
+
+-- over some of what was written: ys over us
+pub over-within : (o o₁ xs ys us vs zs : List ℕ) (m : ℕ) → o₁ ≡ over (xs ++ (us ++ vs)) o → length xs ≡ m → length us ≡ length ys
+    → zs ≡ over ys (take (length o₁ - m) (drop m o₁))
+    → take m o₁ ++ (zs ++ drop (length o₁ - m) (drop m o₁)) ≡ over (xs ++ (ys ++ vs)) o
+over-within o o₁ xs ys us vs zs m is lx ly e =
+    let r = drop (length (xs ++ (us ++ vs))) o in
+    let whole : o₁ ≡ xs ++ (us ++ (vs ++ r)) = is ∙ append-assoc xs (us ++ vs) r ∙ ap (λ (l : List ℕ). xs ++ l) (append-assoc us vs r) in
+    let front : take m o₁ ≡ xs = rw whole (take-at xs (us ++ (vs ++ r)) m lx) in
+    let back : drop m o₁ ≡ us ++ (vs ++ r) = rw whole (drop-at xs (us ++ (vs ++ r)) m lx) in
+    let l = length-drop m o₁ in
+    let all : take (length o₁ - m) (drop m o₁) ≡ drop m o₁ = take-all (length o₁ - m) (drop m o₁) (omega arith) in
+    let none : drop (length o₁ - m) (drop m o₁) ≡ [] = drop-of-length-le (drop m o₁) {i = length o₁ - m} (omega arith) in
+    let put : zs ≡ ys ++ (vs ++ r) = e ∙ ap (over ys) (all ∙ back) ∙ ap (λ (l : List ℕ). ys ++ l) (drop-at us (vs ++ r) (length ys) ly) in
+    let same : length (xs ++ (ys ++ vs)) ≡ length (xs ++ (us ++ vs)) = simp (length-append, ly) in
+    rw (none, append-nil zs, front, put, same, append-assoc xs (ys ++ vs) r, append-assoc ys vs r)
+
+-- over w bytes behind it, which are made 0
+pub over-cleared : (o o₁ xs zs : List ℕ) (m w : ℕ) → o₁ ≡ over xs o → length xs ≡ m → m + w ≤ length o → zs ≡ zeros (length (take w (drop m o₁)))
+    → take m o₁ ++ (zs ++ drop w (drop m o₁)) ≡ over (xs ++ zeros w) o
+over-cleared o o₁ xs zs m w is lx h e =
+    let l : length (take w (drop m o₁)) ≡ w = length-take-le w (drop m o₁) (rw is (simp (length-drop, length-append) (omega arith))) in
+    rw (e, l, is) (over-part o xs (zeros w) m w lx (length-replicate w 0))
+
+-- a byte before w that are made 0
+pub cleared-behind : (o zs : List ℕ) (x w : ℕ) → suc w ≤ length o → zs ≡ zeros (length (take w (drop 1 o)))
+    → set (take 1 o ++ (zs ++ drop w (drop 1 o))) 0 x ≡ over (x ∷ zeros w) o
+cleared-behind [] zs x w h e = absurd (omega arith)
+cleared-behind (a ∷ o) zs x w h e =
+    let l : length (take w o) ≡ w = length-take-le w o (omega arith) in
+    rw (e, l, length-replicate {A = ℕ} w 0)
+
+-- ---- cleared
+
+pub record Cleared (to₀ to : List ℕ) (i : ℕ) : Type 0 where
+  pub same-length : length to ≡ length to₀
+  pub within : i ≤ length to₀
+  pub done : take i to ≡ zeros i
+
+pub cleared-start : (to : List ℕ) → Cleared to to 0
+cleared-start to = record { same-length = refl; within = omega arith; done = refl }
+
+pub cleared-more : (to₀ to : List ℕ) (i : ℕ) → Cleared to₀ to i → i < length to₀ → Cleared to₀ (set to i 0) (i + 1)
+cleared-more to₀ to i c h =
+    let l = c .same-length in
+    let e : i + 1 ≡ suc i = omega arith in
+    record {
+      same-length = rw (length-set to i 0) l;
+      within = omega arith;
+      done = rw (e, take-suc-set to i 0 (omega arith), c .done) (replicate-append-replicate i 1 0 ∙ ap zeros e);
+    }
+
+pub cleared-end : (to₀ to : List ℕ) (i : ℕ) → Cleared to₀ to i → length to₀ ≤ i → to ≡ zeros (length to₀)
+cleared-end to₀ to i c h =
+    let l = c .same-length in
+    let w = c .within in
+    let e : i ≡ length to₀ = omega arith in
+    sym (take-all i to (omega arith)) ∙ c .done ∙ ap zeros e
+
 -- ---- copies
 
 pub record Copied (from to : List ℕ) (i : ℕ) : Type 0 where
@@ -175,5 +252,10 @@ module _ (p : List ℕ) (i : ℕ) (h : length p ≡ i) where
 
   pub bytes-at : (s more : List ℕ) → length s < 2 ^ 64 → bytesAt (p ++ (bytes8 (length s) ++ (s ++ more))) i ≡ s
   bytes-at s more f =
-      rw (number-at (length s) (s ++ more) f, ← drop-drop 8 i (p ++ (bytes8 (length s) ++ (s ++ more))), drop-at p (bytes8 (length s) ++ (s ++ more)) i h, drop-at (bytes8 (length s)) (s ++ more) 8 (length-bytes8 (length s)))
+      rw (
+        number-at (length s) (s ++ more) f,
+        ← drop-drop 8 i (p ++ (bytes8 (length s) ++ (s ++ more))),
+        drop-at p (bytes8 (length s) ++ (s ++ more)) i h,
+        drop-at (bytes8 (length s)) (s ++ more) 8 (length-bytes8 (length s)),
+      )
       (take-append-seam s more)

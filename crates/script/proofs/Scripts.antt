@@ -1,4 +1,4 @@
--- Laws of scripts: every list of calls has one, and how the driver goes through one.
+-- Laws of scripts: every list of calls has one, and how a replay goes through one.
 -- Assumes nothing.
 use Prim.Native.Nat.{ℕ, zero, suc, _+_, _-_, _^_, _≤_, _<_}
 use native.Mathlib.Nat.{add-assoc, add-zero, zero-add}
@@ -13,16 +13,16 @@ use lib.Dec.{leb}
 use lib.IntN.{ℤ}
 use borrow.Author.Tests.{le-leb, lt-leb, leb-true}
 use Rattle.format.specs.Bits.{Bytes}
-use Rattle.format.specs.Order.{first}
-use Rattle.format.specs.Observation.{size}
-use Rattle.format.specs.Calls.{Call, readField, setField, clearField, readFlag, setFlag, clearFlag, put, fetch, remove, putText, fetchText, Answer, over}
-use Rattle.format.specs.Buffer.{after, Shown, shown, Ran, effect, calls, claim}
+use Rattle.format.specs.Calls.{Call, reads, edits, fetches, readField, setField, clearField, readFlag, setFlag, clearFlag, put, fetch, remove, putText, fetchText, outputsOf, Answer, over}
+use Rattle.format.specs.Machine.{Course, course}
+use Rattle.format.specs.Buffer.{after, Shown, shown, effect, calls, claim}
 use Rattle.laws.proofs.Bits.{append-below}
-use Rattle.laws.proofs.List.{whole-list}
-use Rattle.script.specs.Script.{bytesOf, bytes8, Entry, entry, numberAt, bytesAt, kinds, within, entryAt, recordSize, logSize, nextIn, listOf, entryOf, scriptOf, Slice, Fits, AllFit, headOf, recordOf, records, answersIn, Replayed, logged, Claimed, Performs, idle, performed, turn}
-use Rattle.words.specs.Words.{signed, unsigned}
+use Rattle.laws.proofs.WholeList.{whole-list}
+use Rattle.script.specs.Script.{bytesOf, bytes8, Entry, entry, numberAt, bytesAt, kinds, within, entryAt, joined, recordSize, logSize, nextIn, listOf, scriptEntry}
+use Rattle.script.specs.Script.{scriptOf, Slice, Fits, AllFit, headOf, recordOf, records, answersIn, Replayed, logged, Claimed, Performs, idle, performed, turn}
+use Rattle.numbers.specs.Words.{signed, unsigned}
 use Rattle.script.proofs.Numbers.{length-bytes8, number-at, bytes-at, signed-unsigned, unsigned-lt}
-use Rattle.script.proofs.Log.{record-length, effect-out, claim-told}
+use Rattle.script.proofs.Log.{record-length, alike-joined, effect-outs, claim-told}
 
 -- ---- entries
 
@@ -94,30 +94,32 @@ module _ (k : ℕ) (rest : List ℕ) where
       ∙ ap (λ (w : ℕ). some (entry (f d) w)) n
 
 -- an entry that was written is read back, whatever stands behind it
-pub entry-back : (c : Call) (rest : List ℕ) → Fits c → entryAt (entryOf c ++ rest) ≡ some (entry c (length (entryOf c)))
-unfolding entryOf Fits kinds
-entry-back (readField k) rest h = one-number 1 rest readField k h refl
-entry-back (setField k v) rest h =
+pub entry-back : (c : Call) (rest : List ℕ) → Fits c → entryAt (scriptEntry c ++ rest) ≡ some (entry c (length (scriptEntry c)))
+unfolding scriptEntry Fits kinds
+entry-back (reads (readField k)) rest h = one-number 1 rest (λ (x : ℕ). reads (readField x)) k h refl
+entry-back (edits (setField k v)) rest h =
     rw append-assoc
-    (two-numbers 2 rest (λ (x y : ℕ). setField x (record { 0 = signed y })) k (unsigned (v .0)) (h .0) (unsigned-lt (v .0) (h .1)) refl
-    ∙ ap (λ (z : ℤ). some (entry (setField k (record { 0 = z })) (length (2 ∷ (bytes8 k ++ bytes8 (unsigned (v .0))))))) (signed-unsigned (v .0) (h .1)))
-entry-back (clearField k) rest h = one-number 3 rest clearField k h refl
-entry-back (readFlag j) rest h = one-number 4 rest readFlag j h refl
-entry-back (setFlag j v) rest h = rw append-assoc (two-numbers 5 rest setFlag j v (h .0) (h .1) refl)
-entry-back (clearFlag j) rest h = one-number 6 rest clearFlag j h refl
-entry-back (put i ns) rest h = simp append-assoc (counted 7 rest put i ns (h .0) (h .1 .0) refl)
-entry-back (fetch i out) rest h = simp append-assoc (counted 8 rest fetch i out (h .0) (h .1 .0) refl)
-entry-back (remove i) rest h = one-number 9 rest remove i h refl
-entry-back (putText t) rest h = rw append-assoc (text 10 rest putText t (h .0) refl)
-entry-back (fetchText out) rest h = rw append-assoc (text 11 rest fetchText out (h .0) refl)
+    (two-numbers 2 rest (λ (x y : ℕ). edits (setField x (record { 0 = signed y }))) k (unsigned (v .0)) (h .0) (unsigned-lt (v .0) (h .1)) refl
+    ∙ ap (λ (z : ℤ). some (entry (edits (setField k (record { 0 = z }))) (length (2 ∷ (bytes8 k ++ bytes8 (unsigned (v .0))))))) (signed-unsigned (v .0) (h .1)))
+entry-back (edits (clearField k)) rest h = one-number 3 rest (λ (x : ℕ). edits (clearField x)) k h refl
+entry-back (reads (readFlag j)) rest h = one-number 4 rest (λ (x : ℕ). reads (readFlag x)) j h refl
+entry-back (edits (setFlag j v)) rest h = rw append-assoc (two-numbers 5 rest (λ (x y : ℕ). edits (setFlag x y)) j v (h .0) (h .1) refl)
+entry-back (edits (clearFlag j)) rest h = one-number 6 rest (λ (x : ℕ). edits (clearFlag x)) j h refl
+entry-back (edits (put i ns)) rest h =
+    simp append-assoc (counted 7 rest (λ (x : ℕ) (d : List ℕ). edits (put x d)) i ns (h .0) (h .1 .0) refl)
+entry-back (fetches (fetch i out)) rest h =
+    simp append-assoc (counted 8 rest (λ (x : ℕ) (d : List ℕ). fetches (fetch x d)) i out (h .0) (h .1 .0) refl)
+entry-back (edits (remove i)) rest h = one-number 9 rest (λ (x : ℕ). edits (remove x)) i h refl
+entry-back (edits (putText t)) rest h = rw append-assoc (text 10 rest (λ (d : List ℕ). edits (putText d)) t (h .0) refl)
+entry-back (fetches (fetchText out)) rest h = rw append-assoc (text 11 rest (λ (d : List ℕ). fetches (fetchText d)) out (h .0) refl)
 
 -- a property of each entry of a list is one of the entry at k
-abbrev Each : (Entry → Type 0) → List (Option Entry) → Type 0
-Each P [] = Unit {0}
-Each P (none ∷ more) = Each P more
-Each P (some e ∷ more) = P e × Each P more
+abbrev OfEach : (Entry → Type 0) → List (Option Entry) → Type 0
+OfEach P [] = Unit {0}
+OfEach P (none ∷ more) = OfEach P more
+OfEach P (some e ∷ more) = P e × OfEach P more
 
-of-each : (P : Entry → Type 0) (os : List (Option Entry)) (k : ℕ) (e : Entry) → Each P os → getD os k none ≡ some e → P e
+of-each : (P : Entry → Type 0) (os : List (Option Entry)) (k : ℕ) (e : Entry) → OfEach P os → getD os k none ≡ some e → P e
 of-each P [] k e h q = let z : _≡_ {A = ℕ} 0 1 = cc in absurd (omega arith)
 of-each P (none ∷ more) zero e h q = let z : _≡_ {A = ℕ} 0 1 = cc in absurd (omega arith)
 of-each P (none ∷ more) (suc k) e h q = of-each P more k e h q
@@ -127,35 +129,49 @@ of-each P (some d ∷ more) (suc k) e h q = of-each P more k e (h .1) q
 -- an entry's bytes: at least its kind and a number; and, where it is whole, as many as are written for its call
 record Sized (s : List ℕ) (e : Entry) : Type 0 where
   some-bytes : 9 ≤ e .taken
-  as-written : e .taken ≤ length s → length (entryOf (e .call)) ≡ e .taken
+  as-written : e .taken ≤ length s → length (scriptEntry (e .call)) ≡ e .taken
 
 module _ (s : List ℕ) where
-  one-sized : (k x : ℕ) {c : Call} → entryOf c ≡ k ∷ bytes8 x → Sized s (entry c 9)
+  one-sized : (k x : ℕ) {c : Call} → scriptEntry c ≡ k ∷ bytes8 x → Sized s (entry c 9)
   one-sized k x e = record { some-bytes = omega arith; as-written = λ w. rw (e, length-bytes8) }
 
-  two-sized : (k x y : ℕ) {c : Call} → entryOf c ≡ k ∷ (bytes8 x ++ bytes8 y) → Sized s (entry c 17)
+  two-sized : (k x y : ℕ) {c : Call} → scriptEntry c ≡ k ∷ (bytes8 x ++ bytes8 y) → Sized s (entry c 17)
   two-sized k x y e = record { some-bytes = omega arith; as-written = λ w. rw e (simp (length-append, length-bytes8)) }
 
   -- counted bytes behind a number at i
-  counted-sized : (i : ℕ) {c : Call} → 1 ≤ i → length (entryOf c) ≡ i + 8 + length (bytesAt s i) → Sized s (entry c (i + 8 + numberAt s i))
+  counted-sized : (i : ℕ) {c : Call} → 1 ≤ i → length (scriptEntry c) ≡ i + 8 + length (bytesAt s i) → Sized s (entry c (i + 8 + numberAt s i))
   counted-sized i h e =
       record {
         some-bytes = omega arith;
         as-written = λ w. e ∙ ap (λ (n : ℕ). i + 8 + n) (length-take-le (numberAt s i) (drop (i + 8) s) (simp length-drop (omega arith)));
       }
 
-  long-sized : (k x : ℕ) {c : Call} → entryOf c ≡ k ∷ (bytes8 x ++ (bytes8 (length (bytesAt s 9)) ++ bytesAt s 9)) → Sized s (entry c (17 + numberAt s 9))
+  long-sized : (k x : ℕ) {c : Call} → scriptEntry c ≡ k ∷ (bytes8 x ++ (bytes8 (length (bytesAt s 9)) ++ bytesAt s 9)) → Sized s (entry c (17 + numberAt s 9))
   long-sized k x e = counted-sized 9 (omega arith) (rw e (simp (length-append, length-bytes8) (omega arith)))
 
-  short-sized : (k : ℕ) {c : Call} → entryOf c ≡ k ∷ (bytes8 (length (bytesAt s 1)) ++ bytesAt s 1) → Sized s (entry c (9 + numberAt s 1))
+  short-sized : (k : ℕ) {c : Call} → scriptEntry c ≡ k ∷ (bytes8 (length (bytesAt s 1)) ++ bytesAt s 1) → Sized s (entry c (9 + numberAt s 1))
   short-sized k e = counted-sized 1 (omega arith) (rw e (simp (length-append, length-bytes8) (omega arith)))
 
-  kinds-sized : Each (Sized s) (kinds s)
-  unfolding kinds entryOf
+  kinds-sized : OfEach (Sized s) (kinds s)
+  unfolding kinds scriptEntry
   kinds-sized =
       let n = numberAt s 1 in
-      let m = numberAt s 9 in
-      (one-sized 1 n refl, (two-sized 2 n (unsigned (signed m)) refl, (one-sized 3 n refl, (one-sized 4 n refl, (two-sized 5 n m refl, (one-sized 6 n refl, (long-sized 7 n refl, (long-sized 8 n refl, (one-sized 9 n refl, (short-sized 10 refl, (short-sized 11 refl, tt)))))))))))
+      let m = numberAt s 9 in (
+        one-sized 1 n refl,
+        (
+          two-sized 2 n (unsigned (signed m)) refl,
+          (
+            one-sized 3 n refl,
+            (
+              one-sized 4 n refl,
+              (
+                two-sized 5 n m refl,
+                (one-sized 6 n refl, (long-sized 7 n refl, (long-sized 8 n refl, (one-sized 9 n refl, (short-sized 10 refl, (short-sized 11 refl, tt)))))),
+              ),
+            ),
+          ),
+        ),
+      )
 
 -- ---- the next entry
 
@@ -174,7 +190,7 @@ pub record Next (room : ℕ) (s : List ℕ) (e : Entry) : Type 0 where
   pub there : entryAt s ≡ some e
   pub some-bytes : 9 ≤ e .taken
   pub whole : e .taken ≤ length s
-  pub as-written : length (entryOf (e .call)) ≡ e .taken
+  pub as-written : length (scriptEntry (e .call)) ≡ e .taken
   pub fits : recordSize (e .call) ≤ room
 
 pub next-some : (room : ℕ) (s : List ℕ) (e : Entry) → nextIn room s ≡ some e → Next room s e
@@ -248,14 +264,14 @@ pub script-list : (cs : List Call) (room : ℕ) (rest : List ℕ) → AllFit cs 
 unfolding scriptOf AllFit logSize
 script-list [] room rest f h = let e : room - 0 ≡ room = omega arith in rw e
 script-list (c ∷ cs) room rest f h =
-    let s = entryOf c ++ (scriptOf cs ++ rest) in
-    let e = entry c (length (entryOf c)) in
+    let s = scriptEntry c ++ (scriptOf cs ++ rest) in
+    let e = entry c (length (scriptEntry c)) in
     let q = next-in room s e (entry-back c (scriptOf cs ++ rest) (f .0)) (omega arith) in
     let d : room - recordSize c - logSize cs ≡ room - (recordSize c + logSize cs) = omega arith in
     rw append-assoc
     (list-cons room s e q
     ∙ ap (λ (x : List Call). c ∷ x)
-    (rw (drop-append-seam (entryOf c) (scriptOf cs ++ rest), ← d) (script-list cs (room - recordSize c) rest (f .1) (omega arith))))
+    (rw (drop-append-seam (scriptEntry c) (scriptOf cs ++ rest), ← d) (script-list cs (room - recordSize c) rest (f .1) (omega arith))))
 
 -- with nothing behind it
 pub script-alone : (cs : List Call) (room : ℕ) → AllFit cs → logSize cs ≤ room → listOf (length (scriptOf cs)) room (scriptOf cs) ≡ cs
@@ -286,34 +302,34 @@ alone k x h (suc i) = bytes8-bytes x i
 before : (k x : ℕ) (s : List ℕ) → k < 256 → Bytes s → Bytes (k ∷ (bytes8 x ++ s))
 before k x s h f = append-below 256 (k ∷ bytes8 x) s (alone k x h) f
 
-entry-bytes : (c : Call) → Fits c → Bytes (entryOf c)
-unfolding entryOf Fits
-entry-bytes (readField k) h = alone 1 k (omega arith)
-entry-bytes (setField k v) h = before 2 k (bytes8 (unsigned (v .0))) (omega arith) (bytes8-bytes (unsigned (v .0)))
-entry-bytes (clearField k) h = alone 3 k (omega arith)
-entry-bytes (readFlag j) h = alone 4 j (omega arith)
-entry-bytes (setFlag j v) h = before 5 j (bytes8 v) (omega arith) (bytes8-bytes v)
-entry-bytes (clearFlag j) h = alone 6 j (omega arith)
-entry-bytes (put i ns) h = before 7 i (bytes8 (length ns) ++ ns) (omega arith) (counted-bytes ns (h .1))
-entry-bytes (fetch i out) h = before 8 i (bytes8 (length out) ++ out) (omega arith) (counted-bytes out (h .1))
-entry-bytes (remove i) h = alone 9 i (omega arith)
-entry-bytes (putText t) h = before 10 (length t) t (omega arith) (h .1)
-entry-bytes (fetchText out) h = before 11 (length out) out (omega arith) (h .1)
+entry-bytes : (c : Call) → Fits c → Bytes (scriptEntry c)
+unfolding scriptEntry Fits
+entry-bytes (reads (readField k)) h = alone 1 k (omega arith)
+entry-bytes (edits (setField k v)) h = before 2 k (bytes8 (unsigned (v .0))) (omega arith) (bytes8-bytes (unsigned (v .0)))
+entry-bytes (edits (clearField k)) h = alone 3 k (omega arith)
+entry-bytes (reads (readFlag j)) h = alone 4 j (omega arith)
+entry-bytes (edits (setFlag j v)) h = before 5 j (bytes8 v) (omega arith) (bytes8-bytes v)
+entry-bytes (edits (clearFlag j)) h = alone 6 j (omega arith)
+entry-bytes (edits (put i ns)) h = before 7 i (bytes8 (length ns) ++ ns) (omega arith) (counted-bytes ns (h .1))
+entry-bytes (fetches (fetch i out)) h = before 8 i (bytes8 (length out) ++ out) (omega arith) (counted-bytes out (h .1))
+entry-bytes (edits (remove i)) h = alone 9 i (omega arith)
+entry-bytes (edits (putText t)) h = before 10 (length t) t (omega arith) (h .1)
+entry-bytes (fetches (fetchText out)) h = before 11 (length out) out (omega arith) (h .1)
 
 pub script-bytes : (cs : List Call) → AllFit cs → Bytes (scriptOf cs)
 unfolding scriptOf AllFit
 script-bytes [] f = λ i. omega arith
-script-bytes (c ∷ cs) f = append-below 256 (entryOf c) (scriptOf cs) (entry-bytes c (f .0)) (script-bytes cs (f .1))
+script-bytes (c ∷ cs) f = append-below 256 (scriptEntry c) (scriptOf cs) (entry-bytes c (f .0)) (script-bytes cs (f .1))
 
--- a call's answer and output
+-- a call's answer and outputs
 abbrev pub shownOf : List ℕ → Call → Shown
-shownOf b c = shown (effect b c .answer) (effect b c .out)
+shownOf b c = shown (effect b c .answer) (effect b c .outs)
 
 pub record-size : (b : List ℕ) (c : Call) → length (recordOf (shownOf b c)) ≡ recordSize c
 unfolding recordSize
-record-size b c = record-length (shownOf b c) ∙ ap (λ (n : ℕ). 10 + n) (effect-out b c)
+record-size b c = record-length (shownOf b c) ∙ ap (λ (n : ℕ). 37 + n) (alike-joined (effect b c .outs) (outputsOf c) (effect-outs b c))
 
--- ---- the driver
+-- ---- a replay
 
 -- what the calls of a script leave, each on the buffer as the one before left it
 unfoldable pub finish : List ℕ → List ℕ → List ℕ → Replayed
@@ -333,7 +349,7 @@ performs r b script log h bytes =
   where
     claimed : (cs : List Call) → r ≡ logged cs (calls b cs) log → Claimed r b log cs
     claimed cs q =
-        let is : r ≡ logged cs (claim b cs) log = q ∙ ap (λ (x : Ran). logged cs x log) (whole-list b cs bytes) in
+        let is : r ≡ logged cs (claim b cs) log = q ∙ ap (λ (x : Course (List ℕ) Shown). logged cs x log) (whole-list b cs bytes) in
         record { left = is; told = ap (λ (x : Replayed). answersIn cs (x .log)) is ∙ claim-told b cs log bytes }
 
     of : (cs : List Call) → AllFit cs → scriptOf cs ≡ script → logSize cs ≤ length log → listOf (length script) (length log) script ≡ cs
@@ -347,19 +363,19 @@ behind front n at r =
 -- no entry is next
 pub finish-end : (b script log : List ℕ) → nextIn (length log) script ≡ none
     → finish b script log ≡ idle b log
-unfolding finish calls records scriptOf
+unfolding finish calls course records scriptOf
 finish-end b script log q = rw (list-nil (length script) (length log) script q)
 
 -- one is: a list's first call, its record, and what the rest leaves
 logged-cons : (b : List ℕ) (c : Call) (cs : List Call) (log : List ℕ)
     → (let a = recordOf (shownOf b c) in
-    logged (c ∷ cs) (calls b (c ∷ cs)) log ≡ behind a 1 (length (entryOf c)) (logged cs (calls (effect b c .buffer) cs) (drop (length a) log)))
-unfolding calls records scriptOf
+    logged (c ∷ cs) (calls b (c ∷ cs)) log ≡ behind a 1 (length (scriptEntry c)) (logged cs (calls (effect b c .buffer) cs) (drop (length a) log)))
+unfolding calls course records scriptOf
 logged-cons b c cs log =
     let a = recordOf (shownOf b c) in
     let r = records (calls (effect b c .buffer) cs .answers) in
     let n : suc (length cs) ≡ 1 + length cs = omega arith in
-    rw (append-assoc a r (drop (length (a ++ r)) log), length-append a r, length-append (entryOf c) (scriptOf cs), drop-drop (length r) (length a) log, n)
+    rw (append-assoc a r (drop (length (a ++ r)) log), length-append a r, length-append (scriptEntry c) (scriptOf cs), drop-drop (length r) (length a) log, n)
 
 pub finish-next : (b script log : List ℕ) (e : Entry) → nextIn (length log) script ≡ some e
     → (let a = recordOf (shownOf b (e .call)) in
@@ -372,7 +388,7 @@ finish-next b script log e q =
     rw (list-cons (length log) script e q, left, ← next-some (length log) script e q .as-written)
     (logged-cons b (e .call) _ log)
 
--- ---- the driver's turn, at each return
+-- ---- its turn, at each return
 
 module _ (b script log : List ℕ) where
   pub turn-idle : nextIn (length log) script ≡ none → idle b log ≡ turn b script log
@@ -383,12 +399,12 @@ module _ (b script log : List ℕ) where
   unfolding turn
   turn-next e q = rw (q, turn)
 
-  pub turn-done : (e : Entry) (a : Answer) (b′ out log′ : List ℕ) → nextIn (length log) script ≡ some e
-      → after a b′ out ≡ effect b (e .call)
-      → log′ ≡ over (headOf a ++ out) log
+  pub turn-done : (e : Entry) (a : Answer) (b′ : List ℕ) (outs : List (List ℕ)) (log′ : List ℕ) → nextIn (length log) script ≡ some e
+      → after a b′ outs ≡ effect b (e .call)
+      → log′ ≡ over (headOf a ++ joined outs) log
       → record { buffer = b′; log = log′; calls = 1; taken = e .taken; written = recordSize (e .call) } ≡ turn b script log
   unfolding recordOf
-  turn-done e a b′ out log′ q f w = rw (turn-next e q, ← f, w)
+  turn-done e a b′ outs log′ q f w = rw (turn-next e q, ← f, w)
 
 -- its sizes, and what it leaves to do
 pub record Turned (b script log : List ℕ) (t : Replayed) : Type 0 where
@@ -431,25 +447,25 @@ turned b script log t h = subst (Turned b script log) (sym h) (go (nextIn (lengt
           ended = λ z. absurd (omega arith);
         })
 
--- ---- what the driver's loop keeps: what stands in the log, and what the rest of the script will leave, are the whole
+-- ---- what its loop keeps: what stands in the log, and what the rest of the script will leave, are the whole
 
 behind-behind : (p q : List ℕ) (m n i j : ℕ) (r : Replayed) → behind p m i (behind q n j r) ≡ behind (p ++ q) (m + n) (i + j) r
 behind-behind p q m n i j r =
     rw (length-append p q, append-assoc p q (r .log), add-assoc m n (r .calls), add-assoc i j (r .taken), add-assoc (length p) (length q) (r .written))
 
-pub record Kept (b₀ script log₀ b log : List ℕ) (n at to : ℕ) : Type 0 where
+pub record Going (b₀ script log₀ b log : List ℕ) (n at to : ℕ) : Type 0 where
   pub within : at ≤ length script
   pub room : to ≤ length log
   pub counted : n ≤ at
   pub log-length : length log ≡ length log₀
   pub left : finish b₀ script log₀ ≡ behind (take to log) n at (finish b (drop at script) (drop to log))
 
-pub kept-start : (b script log : List ℕ) → Kept b script log b log 0 0 0
+pub kept-start : (b script log : List ℕ) → Going b script log b log 0 0 0
 kept-start b script log =
     record { within = omega arith; room = omega arith; counted = omega arith; log-length = refl; left = behind-nothing (finish b script log) }
 
-module _ (b₀ script log₀ b log : List ℕ) (n at to : ℕ) (k : Kept b₀ script log₀ b log n at to) (t : Replayed) (h : t ≡ turn b (drop at script) (drop to log)) where
-  pub kept-turn : Kept b₀ script log₀ (t .buffer) (take to log ++ t .log) (n + t .calls) (at + t .taken) (to + t .written)
+module _ (b₀ script log₀ b log : List ℕ) (n at to : ℕ) (k : Going b₀ script log₀ b log n at to) (t : Replayed) (h : t ≡ turn b (drop at script) (drop to log)) where
+  pub kept-turn : Going b₀ script log₀ (t .buffer) (take to log ++ t .log) (n + t .calls) (at + t .taken) (to + t .written)
   kept-turn =
       let u = turned b (drop at script) (drop to log) t h in
       let s = length-drop at script in

@@ -5,15 +5,17 @@ use mathlib.Core.Bool.{cond}
 use mathlib.Core.List.{List, [], _∷_, _++_}
 use mathlib.Core.Option.{Option, none, some}
 use lib.ListN.{length, getD, take, drop}
-use lib.Dec.{leb, eqb}
-use lib.IntN.{ℤ}
+use lib.Dec.{ltb, leb, eqb}
 use lib.Signed.{mag}
-use Rattle.words.specs.Words.{signed, unsigned}
-use Rattle.format.specs.Calls.{Call, readField, setField, clearField, readFlag, setFlag, clearFlag, put, fetch, remove, putText, fetchText, outputOf, Quantity, value, flag, count, Given, given, Answer, refused, accepted, over}
-use Rattle.format.specs.Buffer.{Shown, shown, Ran, effect, claim}
+use Rattle.numbers.specs.Words.{signed, unsigned}
+use Rattle.format.specs.Calls.{Call, reads, edits, fetches, readField, setField, clearField, readFlag, setFlag, clearFlag, put, fetch, remove, putText, fetchText, outputsOf}
+use Rattle.format.specs.Calls.{Given, given, Answer, refused, accepted, over}
+use Rattle.format.specs.Machine.{Course}
+use Rattle.format.specs.Buffer.{Shown, shown, effect, claim}
 use Rattle.format.specs.Reply.{refusal}
 use Rattle.format.specs.declared.Scaled.{Scaled}
 use Rattle.format.specs.Bits.{Bytes}
+use Rattle.script.specs.Labels.{quantityOf, missingLabel, labelOf, numberOrZero}
 
 -- ---- numbers in 8 bytes, the highest first
 
@@ -50,24 +52,24 @@ numberAt s i = numberOf (take 8 (drop i s))
 abbrev pub bytesAt : List ℕ → ℕ → List ℕ
 bytesAt s i = take (numberAt s i) (drop (i + 8) s)
 
-abbrev pub valueAt : List ℕ → ℕ → Scaled
-valueAt s i = record { 0 = signed (numberAt s i) }
+abbrev pub scaledAt : List ℕ → ℕ → Scaled
+scaledAt s i = record { 0 = signed (numberAt s i) }
 
 -- what an entry of each kind says, were it whole. An output is taken as it stands in the script
 unfoldable pub kinds : List ℕ → List (Option Entry)
 kinds s =
     none ∷  -- 0
-    some (entry (readField (numberAt s 1)) 9) ∷  -- 1
-    some (entry (setField (numberAt s 1) (valueAt s 9)) 17) ∷  -- 2
-    some (entry (clearField (numberAt s 1)) 9) ∷  -- 3
-    some (entry (readFlag (numberAt s 1)) 9) ∷  -- 4
-    some (entry (setFlag (numberAt s 1) (numberAt s 9)) 17) ∷  -- 5
-    some (entry (clearFlag (numberAt s 1)) 9) ∷  -- 6
-    some (entry (put (numberAt s 1) (bytesAt s 9)) (17 + numberAt s 9)) ∷  -- 7
-    some (entry (fetch (numberAt s 1) (bytesAt s 9)) (17 + numberAt s 9)) ∷  -- 8
-    some (entry (remove (numberAt s 1)) 9) ∷  -- 9
-    some (entry (putText (bytesAt s 1)) (9 + numberAt s 1)) ∷  -- 10
-    some (entry (fetchText (bytesAt s 1)) (9 + numberAt s 1)) ∷  -- 11
+    some (entry (reads (readField (numberAt s 1))) 9) ∷  -- 1
+    some (entry (edits (setField (numberAt s 1) (scaledAt s 9))) 17) ∷  -- 2
+    some (entry (edits (clearField (numberAt s 1))) 9) ∷  -- 3
+    some (entry (reads (readFlag (numberAt s 1))) 9) ∷  -- 4
+    some (entry (edits (setFlag (numberAt s 1) (numberAt s 9))) 17) ∷  -- 5
+    some (entry (edits (clearFlag (numberAt s 1))) 9) ∷  -- 6
+    some (entry (edits (put (numberAt s 1) (bytesAt s 9))) (17 + numberAt s 9)) ∷  -- 7
+    some (entry (fetches (fetch (numberAt s 1) (bytesAt s 9))) (17 + numberAt s 9)) ∷  -- 8
+    some (entry (edits (remove (numberAt s 1))) 9) ∷  -- 9
+    some (entry (edits (putText (bytesAt s 1))) (9 + numberAt s 1)) ∷  -- 10
+    some (entry (fetches (fetchText (bytesAt s 1))) (9 + numberAt s 1)) ∷  -- 11
     []
 
 -- the entry, if what it wants is within n
@@ -79,9 +81,14 @@ within wants n (some e) = cond (leb (wants e) n) (some e) none
 unfoldable pub entryAt : List ℕ → Option Entry
 entryAt s = within (λ (e : Entry). e .taken) (length s) (getD (kinds s) (getD s 0 0) none)
 
+-- outputs one behind the other
+unfoldable pub joined : List (List ℕ) → List ℕ
+joined [] = []
+joined (out ∷ outs) = out ++ joined outs
+
 -- the bytes of a call's record in the log
 unfoldable pub recordSize : Call → ℕ
-recordSize c = 10 + length (outputOf c)
+recordSize c = 37 + length (joined (outputsOf c))
 
 unfoldable pub logSize : List Call → ℕ
 logSize [] = 0
@@ -102,39 +109,39 @@ listOf (suc fuel) room s =
 
 -- ---- the script of a list
 
-unfoldable pub entryOf : Call → List ℕ
-entryOf (readField k) = 1 ∷ bytes8 k
-entryOf (setField k v) = 2 ∷ (bytes8 k ++ bytes8 (unsigned (v .0)))
-entryOf (clearField k) = 3 ∷ bytes8 k
-entryOf (readFlag j) = 4 ∷ bytes8 j
-entryOf (setFlag j v) = 5 ∷ (bytes8 j ++ bytes8 v)
-entryOf (clearFlag j) = 6 ∷ bytes8 j
-entryOf (put i ns) = 7 ∷ (bytes8 i ++ (bytes8 (length ns) ++ ns))
-entryOf (fetch i out) = 8 ∷ (bytes8 i ++ (bytes8 (length out) ++ out))
-entryOf (remove i) = 9 ∷ bytes8 i
-entryOf (putText t) = 10 ∷ (bytes8 (length t) ++ t)
-entryOf (fetchText out) = 11 ∷ (bytes8 (length out) ++ out)
+unfoldable pub scriptEntry : Call → List ℕ
+scriptEntry (reads (readField k)) = 1 ∷ bytes8 k
+scriptEntry (edits (setField k v)) = 2 ∷ (bytes8 k ++ bytes8 (unsigned (v .0)))
+scriptEntry (edits (clearField k)) = 3 ∷ bytes8 k
+scriptEntry (reads (readFlag j)) = 4 ∷ bytes8 j
+scriptEntry (edits (setFlag j v)) = 5 ∷ (bytes8 j ++ bytes8 v)
+scriptEntry (edits (clearFlag j)) = 6 ∷ bytes8 j
+scriptEntry (edits (put i ns)) = 7 ∷ (bytes8 i ++ (bytes8 (length ns) ++ ns))
+scriptEntry (fetches (fetch i out)) = 8 ∷ (bytes8 i ++ (bytes8 (length out) ++ out))
+scriptEntry (edits (remove i)) = 9 ∷ bytes8 i
+scriptEntry (edits (putText t)) = 10 ∷ (bytes8 (length t) ++ t)
+scriptEntry (fetches (fetchText out)) = 11 ∷ (bytes8 (length out) ++ out)
 
 unfoldable pub scriptOf : List Call → List ℕ
 scriptOf [] = []
-scriptOf (c ∷ cs) = entryOf c ++ scriptOf cs
+scriptOf (c ∷ cs) = scriptEntry c ++ scriptOf cs
 
 -- what every call of the code has: numbers and lengths of 64 bits, a signed value of 64 bits, contents and outputs of bytes
 abbrev pub Slice : List ℕ → Type 0
 Slice s = (length s < 2 ^ 64) × Bytes s
 
 unfoldable pub Fits : Call → Type 0
-Fits (readField k) = k < 2 ^ 64
-Fits (setField k v) = (k < 2 ^ 64) × (mag (v .0) < 2 ^ 63)
-Fits (clearField k) = k < 2 ^ 64
-Fits (readFlag j) = j < 2 ^ 64
-Fits (setFlag j v) = (j < 2 ^ 64) × (v < 2 ^ 64)
-Fits (clearFlag j) = j < 2 ^ 64
-Fits (put i ns) = (i < 2 ^ 64) × Slice ns
-Fits (fetch i out) = (i < 2 ^ 64) × Slice out
-Fits (remove i) = i < 2 ^ 64
-Fits (putText t) = Slice t
-Fits (fetchText out) = Slice out
+Fits (reads (readField k)) = k < 2 ^ 64
+Fits (reads (readFlag j)) = j < 2 ^ 64
+Fits (edits (setField k v)) = (k < 2 ^ 64) × (mag (v .0) < 2 ^ 63)
+Fits (edits (clearField k)) = k < 2 ^ 64
+Fits (edits (setFlag j v)) = (j < 2 ^ 64) × (v < 2 ^ 64)
+Fits (edits (clearFlag j)) = j < 2 ^ 64
+Fits (edits (put i ns)) = (i < 2 ^ 64) × Slice ns
+Fits (edits (remove i)) = i < 2 ^ 64
+Fits (edits (putText t)) = Slice t
+Fits (fetches (fetch i out)) = (i < 2 ^ 64) × Slice out
+Fits (fetches (fetchText out)) = Slice out
 
 unfoldable pub AllFit : List Call → Type 0
 AllFit [] = Unit {0}
@@ -142,21 +149,20 @@ AllFit (c ∷ cs) = Fits c × AllFit cs
 
 -- ---- the log
 
--- a number that is given, or that it is missing
-abbrev pub numberHead : Option ℤ → List ℕ
-numberHead (some z) = 2 ∷ 0 ∷ bytes8 (unsigned z)
-numberHead none = 3 ∷ 0 ∷ bytes8 0
+-- a row of n numbers that are given, each in nine bytes: its label, and the number. 0 where there is none
+unfoldable pub rowOf : ℕ → List Given → List ℕ
+rowOf zero gs = []
+rowOf (suc n) [] = 0 ∷ (bytes8 0 ++ rowOf n [])
+rowOf (suc n) (g ∷ gs) = labelOf g ∷ (bytes8 (unsigned (numberOrZero (g .number))) ++ rowOf n gs)
 
--- an answer in 10 bytes: a tag, the refusal's number, and its place or the number that was given. No call gives two, and
--- the call tells what the number is
+-- an answer in 37 bytes: a tag, the refusal's number and its place, and a row of three
 unfoldable pub headOf : Answer → List ℕ
-headOf (refused r) = 0 ∷ r .number ∷ bytes8 (r .place)
-headOf (accepted []) = 1 ∷ 0 ∷ bytes8 0
-headOf (accepted (g ∷ more)) = numberHead (g .number)
+headOf (refused r) = 0 ∷ r .number ∷ (bytes8 (r .place) ++ rowOf 3 [])
+headOf (accepted gs) = 1 ∷ 0 ∷ (bytes8 0 ++ rowOf 3 gs)
 
--- the record of a call: its answer, and its output after it
+-- the record of a call: its answer, and its outputs after it
 unfoldable pub recordOf : Shown → List ℕ
-recordOf a = headOf (a .answer) ++ a .out
+recordOf a = headOf (a .answer) ++ joined (a .outs)
 
 unfoldable pub records : List Shown → List ℕ
 records [] = []
@@ -164,40 +170,30 @@ records (a ∷ more) = recordOf a ++ records more
 
 -- ---- the log read back
 
--- what the numbers are that a call gives
-unfoldable pub quantities : Call → List Quantity
-quantities (readField k) = value ∷ []
-quantities (setField k v) = []
-quantities (clearField k) = []
-quantities (readFlag j) = flag ∷ []
-quantities (setFlag j v) = []
-quantities (clearFlag j) = []
-quantities (put i ns) = []
-quantities (fetch i out) = count ∷ []
-quantities (remove i) = []
-quantities (putText t) = []
-quantities (fetchText out) = count ∷ []
+-- the number that nine bytes tell
+abbrev pub givenAt : List ℕ → Given
+givenAt s =
+    let m = getD s 0 0 in
+    cond (ltb m missingLabel) (given (quantityOf m) (some (signed (numberAt s 1)))) (given (quantityOf (m - missingLabel)) none)
 
--- the numbers that a record tells, and what they are
-abbrev pub numbersAt : List ℕ → List (Option ℤ)
-numbersAt s =
-    cond (eqb (getD s 0 0) 1) []
-    (cond (eqb (getD s 0 0) 2) (some (signed (numberAt s 2)) ∷ []) (none ∷ []))
+-- those of a row, up to the first that is not there
+unfoldable pub givenIn : ℕ → List ℕ → List Given
+givenIn zero s = []
+givenIn (suc n) s = cond (eqb (getD s 0 0) 0) [] (givenAt s ∷ givenIn n (drop 9 s))
 
-abbrev pub labelled : List Quantity → List (Option ℤ) → List Given
-labelled [] ns = []
-labelled (q ∷ qs) [] = []
-labelled (q ∷ qs) (n ∷ ns) = given q n ∷ labelled qs ns
+-- the answer that a record tells
+unfoldable pub answerAt : List ℕ → Answer
+answerAt s = cond (eqb (getD s 0 0) 0) (refusal (getD s 1 0) (numberAt s 2)) (accepted (givenIn 3 (drop 10 s)))
 
--- the answer that a call's record tells
-unfoldable pub answerAt : Call → List ℕ → Answer
-answerAt c s =
-    cond (eqb (getD s 0 0) 0) (refusal (getD s 1 0) (numberAt s 2)) (accepted (labelled (quantities c) (numbersAt s)))
+-- as many outputs as were lent, each as long
+unfoldable pub outputsIn : List (List ℕ) → List ℕ → List (List ℕ)
+outputsIn [] s = []
+outputsIn (out ∷ outs) s = take (length out) s ∷ outputsIn outs (drop (length out) s)
 
 -- the answers to a list of calls and their outputs, as its records tell them
 unfoldable pub answersIn : List Call → List ℕ → List Shown
 answersIn [] s = []
-answersIn (c ∷ cs) s = shown (answerAt c s) (take (length (outputOf c)) (drop 10 s)) ∷ answersIn cs (drop (recordSize c) s)
+answersIn (c ∷ cs) s = shown (answerAt s) (outputsIn (outputsOf c) (drop 37 s)) ∷ answersIn cs (drop (recordSize c) s)
 
 -- ---- the claim
 
@@ -210,10 +206,10 @@ pub record Replayed : Type 0 where
   pub written : ℕ
 
 -- what a list of calls that answered so leaves, the log having been `log`
-abbrev pub logged : List Call → Ran → List ℕ → Replayed
+abbrev pub logged : List Call → Course (List ℕ) Shown → List ℕ → Replayed
 logged cs r log =
     record {
-      buffer = r .buffer;
+      buffer = r .state;
       log = over (records (r .answers)) log;
       calls = length cs;
       taken = length (scriptOf cs);
@@ -245,12 +241,12 @@ performed b e log =
     let a = effect b (e .call) in
     record {
       buffer = a .buffer;
-      log = over (recordOf (shown (a .answer) (a .out))) log;
+      log = over (recordOf (shown (a .answer) (a .outs))) log;
       calls = 1;
       taken = e .taken;
       written = recordSize (e .call);
     }
 
--- the driver's turn
+-- a replay's turn
 unfoldable pub turn : List ℕ → List ℕ → List ℕ → Replayed
 turn b script log = elim (nextIn (length log) script) [ none ↦ idle b log | some e ↦ performed b e log ]

@@ -1,18 +1,13 @@
 // Bytes of a script and of its log: numbers read and written, answers written, outputs copied.
 ghost use mathlib.Core.Path.{_≡_};
 ghost use Prim.Native.Nat.{_+_, _≤_, _<_};
-ghost use mathlib.Core.List.{_∷_};
+ghost use mathlib.Core.List.{[], _∷_, _++_};
 ghost use lib.ListN.{length};
-ghost use Rattle.format.specs.Calls.{over};
-ghost use Rattle.format.specs.Reply.{answerOf};
+ghost use Rattle.format.specs.Calls.{accepted, over};
+ghost use Rattle.format.specs.Buffer.{zeros};
+ghost use Rattle.format.specs.Reply.{refusal, answerOf};
 ghost use Rattle.script.specs.Script.{numberAt, bytes8, headOf};
 use format::Reply;
-
-fn wide(x: u8) -> u64
-    ensures { λ r. ⌜ (r ≡ x) × (r < 256) ⌝ }
-{
-    x as u64
-}
 
 // The number in 8 bytes from place i on.
 pub fn number_at(s: &[u8], i: usize) -> u64
@@ -22,7 +17,7 @@ pub fn number_at(s: &[u8], i: usize) -> u64
     let mut n: u64 = 0;
     let mut j = 0;
     while j < 8 {
-        n = n * 256 + wide(s[i + j]);
+        n = n * 256 + numbers::wide(s[i + j]);
         j += 1;
     }
     n
@@ -42,44 +37,91 @@ fn put_number(to: &mut [u8], n: u64)
     }
 }
 
-// Writes two bytes and a number over the first ten of a log.
-fn put_head(log: &mut [u8], tag: u8, code: u8, n: u64)
-    requires { ⌜ 10 ≤ length (now log) ⌝ }
-    ensures { λ _. ⌜ now (log .exit) ≡ over (tag ∷ code ∷ bytes8 n) (now (log .entry)) ⌝ }
+// Makes bytes 0.
+fn clear(to: &mut [u8])
+    ensures { λ _. ⌜ now (to .exit) ≡ zeros (length (now (to .entry))) ⌝ }
 {
-    put_number(&mut log[2..], n);
-    log[0] = tag;
-    log[1] = code;
+    let mut i = 0;
+    while i < to.len() {
+        to[i] = 0;
+        i += 1;
+    }
 }
 
-// Writes an answer over the first ten bytes of a log.
+// Writes two bytes and a number over the first ten.
+fn put_head(to: &mut [u8], tag: u8, code: u8, n: u64)
+    requires { ⌜ 10 ≤ length (now to) ⌝ }
+    ensures { λ _. ⌜ now (to .exit) ≡ over (tag ∷ code ∷ bytes8 n) (now (to .entry)) ⌝ }
+{
+    put_number(&mut to[2..], n);
+    to[0] = tag;
+    to[1] = code;
+}
+
+// Writes a number behind its label over the first nine bytes.
+fn put_labelled(to: &mut [u8], label: u8, n: u64)
+    requires { ⌜ 9 ≤ length (now to) ⌝ }
+    ensures { λ _. ⌜ now (to .exit) ≡ over (label ∷ bytes8 n) (now (to .entry)) ⌝ }
+{
+    put_number(&mut to[1..], n);
+    to[0] = label;
+}
+
+// Writes a refusal over the first 37 bytes of a log.
+fn put_refusal(log: &mut [u8], number: u8, place: u64)
+    requires { ⌜ 37 ≤ length (now log) ⌝ }
+    ensures { λ _. ⌜ now (log .exit) ≡ over (headOf (refusal number place)) (now (log .entry)) ⌝ }
+{
+    put_head(log, 0, number, place);
+    clear(&mut log[10..37]);
+}
+
+// Writes over the first 37 bytes of a log that a call is accepted and gives nothing.
+fn put_done(log: &mut [u8])
+    requires { ⌜ 37 ≤ length (now log) ⌝ }
+    ensures { λ _. ⌜ now (log .exit) ≡ over (headOf (accepted [])) (now (log .entry)) ⌝ }
+{
+    clear(&mut log[1..37]);
+    log[0] = 1;
+}
+
+// The same of a call that gives one number, with its label.
+fn put_given(log: &mut [u8], label: u8, n: u64)
+    requires { ⌜ 37 ≤ length (now log) ⌝ }
+    ensures { λ _. ⌜ now (log .exit) ≡ over (1 ∷ 0 ∷ (bytes8 0 ++ (label ∷ (bytes8 n ++ zeros 18)))) (now (log .entry)) ⌝ }
+{
+    put_done(log);
+    put_labelled(&mut log[10..], label, n);
+}
+
+// Writes an answer over the first 37 bytes of a log.
 pub fn put_reply(log: &mut [u8], r: Reply)
-    requires { ⌜ 10 ≤ length (now log) ⌝ }
+    requires { ⌜ 37 ≤ length (now log) ⌝ }
     ensures { λ _. ⌜ now (log .exit) ≡ over (headOf (answerOf r)) (now (log .entry)) ⌝ }
 {
     match r {
         Reply::Refused(n, p) => {
-            put_head(log, 0, n, p as u64);
+            put_refusal(log, n, p as u64);
         }
         Reply::Done => {
-            put_head(log, 1, 0, 0);
+            put_done(log);
         }
         Reply::Value(v) => {
             let z = v.0;
-            let n = words::unsigned_of(z);
-            put_head(log, 2, 0, n);
+            let n = numbers::unsigned_of(z);
+            put_given(log, 1, n);
         }
         Reply::MissingValue => {
-            put_head(log, 3, 0, 0);
+            put_given(log, 129, 0);
         }
         Reply::Flag(v) => {
-            put_head(log, 2, 0, v as u64);
+            put_given(log, 2, v as u64);
         }
         Reply::MissingFlag => {
-            put_head(log, 3, 0, 0);
+            put_given(log, 130, 0);
         }
         Reply::Count(n) => {
-            put_head(log, 2, 0, n as u64);
+            put_given(log, 3, n as u64);
         }
     }
 }

@@ -13,7 +13,7 @@ use Rattle.format.specs.Order.{Refusal, first}
 use Rattle.format.specs.Nibbles.{lengthAt, idAt, behind, Nibbles}
 use Rattle.format.specs.Report.{bodyValid, attachmentChecks}
 use Rattle.format.specs.Whole.{bitAt}
-use Rattle.laws.proofs.Lists.{or-false}
+use Rattle.laws.proofs.Sequences.{or-false}
 use Rattle.nibble.specs.View.{view, from, part, moved}
 use Rattle.nibble.specs.declared.Cursor.{Cursor}
 use Rattle.nibble.proofs.View.{IsHead, from-length, from-moved, from-nibbles}

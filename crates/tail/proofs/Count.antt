@@ -1,6 +1,6 @@
 -- A walk to the end of a tail counts its attachments.
 -- Assumes nothing.
-use Prim.Native.Nat.{ℕ, zero, suc, _+_, _-_, _≤_, _<_}
+use Prim.Native.Nat.{ℕ, suc, _+_, _-_, _≤_, _<_}
 use native.Mathlib.Nat.{zero-add}
 use native.Mathlib.Omega.{arith}
 use mathlib.Core.Path.{_≡_, refl, ap, _∙_}
@@ -16,7 +16,7 @@ use Rattle.laws.proofs.Attachments.{count-nil}
 use Rattle.nibble.specs.View.{from}
 use Rattle.nibble.specs.declared.Cursor.{Cursor}
 use Rattle.tail.specs.Look.{lookedAt, passedBy}
-use Rattle.tail.specs.Walk.{walkedBy, walked, countedBy, counted}
+use Rattle.tail.specs.Walk.{walkedBy, walked, countedBy, tailCounted}
 use Rattle.tail.specs.declared.Counted.{Counted}
 use Rattle.tail.specs.declared.Looked.the-variants.{Fault, Fine}
 use Rattle.tail.specs.declared.State.{State}
@@ -44,8 +44,8 @@ counted-by : (o : Option Refusal) (t : Tail) (n : ℕ) → asCounted n (walkedBy
 counted-by none t n = refl
 counted-by (some r) t n = refl
 
-counted-is : (s : List ℕ) → asCounted (countIn s) (walked s atTail (countIn s) 0) ≡ counted s
-unfolding walked counted
+counted-is : (s : List ℕ) → asCounted (countIn s) (walked s atTail (countIn s) 0) ≡ tailCounted s
+unfolding walked tailCounted
 counted-is s = counted-by (first (attachmentChecks (countIn s) 1 [] s)) _ (countIn s)
 
 -- i attachments of a tail are walked over, at least one nibble each, and the others are still to be counted
@@ -66,7 +66,7 @@ count-start s n =
     }
 
 module _ (s : List ℕ) (st : State) (i : ℕ) (k : Counting s st i) where
-  pub count-end : length s ≤ st .cursor .at → Counted.Ended i ≡ counted s
+  pub count-end : length s ≤ st .cursor .at → Counted.Ended i ≡ tailCounted s
   count-end h =
       let z : countFrom (length s - i) (from s (st .cursor)) ≡ 0 = rw (k .flat, drop-of-length-le s h) (count-nil (length s - i)) in
       let r = k .rest in
@@ -85,7 +85,7 @@ module _ (s : List ℕ) (st : State) (i : ℕ) (k : Counting s st i) where
     before-end : i < countIn s
     before-end = omega (arith, one-of)
 
-    pub count-fault : (n : ℕ) → lookedAt s (st .cursor) (st .mask) ≡ Fault n → Counted.Refused n (i + 1) ≡ counted s
+    pub count-fault : (n : ℕ) → lookedAt s (st .cursor) (st .mask) ≡ Fault n → Counted.Refused n (i + 1) ≡ tailCounted s
     count-fault n e = ap (asCounted (countIn s)) (walk-fault s atTail (countIn s) 0 st i (k .walking) before-end n e) ∙ counted-is s
 
     pub count-more : (a d : ℕ) → lookedAt s (st .cursor) (st .mask) ≡ Fine a d → Counting s (passedBy st a d 0) (i + 1)

@@ -13,7 +13,7 @@ use lib.Bits.{bitOr, or-shr, or-mod, or-zero-r, or-lt, or-add-and, and-le-r}
 use borrow.Author.Tests.{eqb-true, eqb-false, eq-eqb}
 use Rattle.format.specs.Nibbles.{among}
 use Rattle.format.specs.Whole.{bitAt}
-use Rattle.laws.proofs.Lists.{test-case, true-false}
+use Rattle.laws.proofs.Sequences.{test-case, true-false}
 
 -- bit i of m
 abbrev bit : ℕ → ℕ → ℕ

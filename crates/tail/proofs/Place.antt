@@ -14,7 +14,7 @@ use Rattle.format.specs.Observation.{size}
 use Rattle.format.specs.Report.{tailOf, observationOf, accepted, judge}
 use Rattle.format.specs.Calls.{stands, contentOf}
 use Rattle.format.specs.Buffer.{zeros}
-use Rattle.laws.proofs.Lists.{or-false, test-case}
+use Rattle.laws.proofs.Sequences.{or-false, test-case}
 use Rattle.format.specs.Bits.{Bytes}
 use Rattle.laws.proofs.Attachments.{tail-length, tail-append}
 use Rattle.laws.proofs.AttachmentEdits.{Placed}

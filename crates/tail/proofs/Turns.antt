@@ -16,7 +16,7 @@ use Rattle.format.specs.Order.{Refusal, first}
 use Rattle.format.specs.Nibbles.{Attachment, attachment, tailNibbles, attachmentsOf, lengthAt, contentAt, behind, among, Nibbles}
 use Rattle.format.specs.Report.{attachmentChecks}
 use Rattle.format.specs.Calls.{contentOf}
-use Rattle.laws.proofs.Lists.{test-case, or-false}
+use Rattle.laws.proofs.Sequences.{test-case, or-false}
 use Rattle.laws.proofs.Attachments.{tail-length}
 use Rattle.nibble.specs.View.{view, from, moved}
 use Rattle.nibble.specs.declared.Cursor.{Cursor}
@@ -146,7 +146,8 @@ module _ (b : List ℕ) (c : Cursor) (count want : ℕ) (st : State) (i : ℕ) (
       let z : count - i ≡ 0 = omega arith in
       let place = found-or (among want (k .seen)) (st .place) (λ t. k .kept t .0) in
       let al = found-or (among want (k .seen)) (st .al) (λ t. k .kept t .1) in
-      let ended : walkedFrom b 0 (i + 1) (k .seen) (st .cursor) want (st .place) (st .al) ≡ Ended (record { end = st .cursor .at; place = st .place; al = st .al }) = rw (add-zero (st .cursor .at), place, al) in
+      let ended : walkedFrom b 0 (i + 1) (k .seen) (st .cursor) want (st .place) (st .al) ≡ Ended (record { end = st .cursor .at; place = st .place; al = st .al }) =
+      rw (add-zero (st .cursor .at), place, al) in
       sym ended ∙ (rw z at (k .rest))
 
   -- what a look requires, and a pass

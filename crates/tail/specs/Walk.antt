@@ -41,5 +41,5 @@ countedBy (some r) n = Counted.Refused (r .number) (r .place)
 countedBy none n = Counted.Ended n
 
 -- the first refusal of a tail's attachments, 1, 5 or 6, or how many there are
-unfoldable pub counted : List ℕ → Counted
-counted ns = countedBy (first (attachmentChecks (countIn ns) 1 [] ns)) (countIn ns)
+unfoldable pub tailCounted : List ℕ → Counted
+tailCounted ns = countedBy (first (attachmentChecks (countIn ns) 1 [] ns)) (countIn ns)

@@ -6,7 +6,7 @@ ghost use Rattle.format.specs.Nibbles.{Nibbles};
 ghost use Rattle.format.specs.Report.{bodyValid};
 ghost use Rattle.nibble.specs.View.{view, part};
 ghost use Rattle.tail.specs.Look.{judgedAt, lookedAt, passedBy};
-ghost use Rattle.tail.specs.Walk.{walked, counted};
+ghost use Rattle.tail.specs.Walk.{walked, tailCounted};
 use nibble::Cursor;
 use nibble::Header;
 
@@ -156,7 +156,7 @@ pub fn walk(s: &[u8], c: Cursor, count: usize, want: usize) -> Walked
 // Checks the attachments of a tail, one nibble a byte, to its end, and counts them.
 pub fn walk_tail(s: &[u8]) -> Counted
     requires { ⌜ Nibbles (now s) ⌝ }
-    ensures { λ r. ⌜ r ≡ counted (now (s .entry)) ⌝ }
+    ensures { λ r. ⌜ r ≡ tailCounted (now (s .entry)) ⌝ }
 {
     let mut st = State {
         cursor: Cursor {

@@ -16,7 +16,7 @@ use Rattle.format.specs.ShipText.{byteOf, textStep, stateAfter, readFrom, endFr
 use Rattle.format.specs.Calls.{over}
 use Rattle.laws.proofs.ShipText.{read-append, end-append, credit, read-length, read-text-length}
 use Rattle.text.specs.declared.Code.{Code}
-use Rattle.text.specs.Rows.{place, next}
+use Rattle.text.specs.Rows.{place, nextState}
 use Rattle.text.specs.Codes.{codeAt, Begins}
 use Rattle.text.proofs.Rows.{place-step, place-bound, place-end}
 use Rattle.laws.proofs.Stores.{stores, stores-length, stores-over}
@@ -95,14 +95,14 @@ module _ (v : List ℕ) (at len : ℕ) where
       ap (λ (q : ℕ). eqb q 4) (s .place) ∙ place-end (reached v at i) ∙ ap (λ (k : ℕ). atEnd (reached v at k)) e
 
   module _ (k : at + len ≤ length v) (p i : ℕ) (s : Stands v at len p i) where
-    pub stand-more : (n q : ℕ) → i < len → n ≡ getD v (at + i) 0 → q ≡ next p n → Stands v at len q (i + 1)
+    pub stand-more : (n q : ℕ) → i < len → n ≡ getD v (at + i) 0 → q ≡ nextState p n → Stands v at len q (i + 1)
     stand-more n q h e f = record {
       inside = omega arith;
-      place = f ∙ ap (λ (x : ℕ). next x n) (s .place) ∙ sym (place-step (reached v at i) n) ∙ ap place (sym (reached-one v at i n (omega arith) e));
+      place = f ∙ ap (λ (x : ℕ). nextState x n) (s .place) ∙ sym (place-step (reached v at i) n) ∙ ap place (sym (reached-one v at i n (omega arith) e));
     }
 
   pub stand-two : at + len ≤ length v → (p q r i m n : ℕ) → Stands v at len p i → i + 1 < len → m ≡ getD v (at + i) 0 → n ≡ getD v (at + i + 1) 0
-      → q ≡ next p m → r ≡ next q n → Stands v at len r (i + 2)
+      → q ≡ nextState p m → r ≡ nextState q n → Stands v at len r (i + 2)
   stand-two k p q r i m n s h e f g u =
       let a : at + i + 1 ≡ at + (i + 1) = omega arith in
       let b : i + 1 + 1 ≡ i + 2 = omega arith in

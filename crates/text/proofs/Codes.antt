@@ -9,7 +9,7 @@ use lib.Dec.{leb, eqb}
 use borrow.Author.Tests.{eqb-true, ne-eqb, leb-true}
 use Rattle.format.specs.Order.{between}
 use Rattle.format.specs.ShipText.{charCode}
-use Rattle.laws.proofs.Lists.{and-true, test-case}
+use Rattle.laws.proofs.Sequences.{and-true, test-case}
 use Rattle.laws.proofs.Characters.{allBelow, at-below}
 
 -- two functions give the same at n numbers from low on

@@ -15,7 +15,7 @@ use Rattle.format.specs.declared.TextState.the-variants.{Between, Run, Pair, Es
 use Rattle.format.specs.declared.TextStep.{TextStep}
 use Rattle.format.specs.declared.TextStep.the-variants.{On}
 use Rattle.format.specs.ShipText.{Symbol, plain, original, byteOf, spaces, escapable, pairByte, textStep, stateAfter, symbolsOf, readFrom, endFrom, atEnd}
-use Rattle.laws.proofs.Lists.{and-true, true-false, cond-case, test-case}
+use Rattle.laws.proofs.Sequences.{and-true, true-false, cond-case, test-case}
 use Rattle.laws.proofs.Characters.{paired}
 use Rattle.laws.proofs.ShipText.{invalid-refused, bytes-spaces, credit}
 use Rattle.text.specs.declared.Code.{Code}

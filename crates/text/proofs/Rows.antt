@@ -14,9 +14,9 @@ use Rattle.format.specs.declared.TextState.the-variants.{Between, Run, Pair, Es
 use Rattle.format.specs.declared.TextStep.{TextStep}
 use Rattle.format.specs.declared.TextStep.the-variants.{On}
 use Rattle.format.specs.ShipText.{charCode, short, escapable, pairByte, textStep, stateAfter, atEnd}
-use Rattle.laws.proofs.Lists.{cond-case, test-case}
+use Rattle.laws.proofs.Sequences.{cond-case, test-case}
 use Rattle.laws.proofs.Characters.{allBelow, at-below, no-column, no-row}
-use Rattle.text.specs.Rows.{pairPlaces, halfPlaces, place, rows, next, pairRows}
+use Rattle.text.specs.Rows.{pairPlaces, halfPlaces, place, stateRows, nextState, pairRows}
 use Rattle.text.proofs.Steps.{between-over, run-over, run-crowd, escape-over, half-over, half-large}
 
 -- the place behind a nibble
@@ -27,34 +27,34 @@ stepped st n = place (stateAfter (textStep st n))
 
 -- a state steps as its place does
 abbrev agrees : TextState → Bool
-agrees st = allBelow 16 (λ n. eqb (stepped st n) (next (place st) n))
+agrees st = allBelow 16 (λ n. eqb (stepped st n) (nextState (place st) n))
 
 all-between : allBelow 18 (λ s. agrees (Between s)) ≡ true
-unfolding allBelow place stateAfter textStep next
+unfolding allBelow place stateAfter textStep nextState
 all-between = refl
 
-full-between : allBelow 16 (λ n. eqb (next 4 n) (next 8 n)) ≡ true
-unfolding allBelow next
+full-between : allBelow 16 (λ n. eqb (nextState 4 n) (nextState 8 n)) ≡ true
+unfolding allBelow nextState
 full-between = refl
 
 all-runs : agrees (Run 0) ≡ true
-unfolding allBelow place stateAfter textStep next
+unfolding allBelow place stateAfter textStep nextState
 all-runs = refl
 
 all-pairs : allBelow 16 (λ z. agrees (Pair 0 z)) ≡ true
-unfolding allBelow place stateAfter textStep pairByte next
+unfolding allBelow place stateAfter textStep pairByte nextState
 all-pairs = refl
 
 all-escapes : agrees (Escape 0) ≡ true
-unfolding allBelow place stateAfter textStep next
+unfolding allBelow place stateAfter textStep nextState
 all-escapes = refl
 
 all-halves : allBelow 16 (λ h. agrees (Half 0 h)) ≡ true
-unfolding allBelow place stateAfter textStep escapable short charCode next
+unfolding allBelow place stateAfter textStep escapable short charCode nextState
 all-halves = refl
 
 all-invalid : agrees Invalid ≡ true
-unfolding allBelow place stateAfter textStep next
+unfolding allBelow place stateAfter textStep nextState
 all-invalid = refl
 
 -- ---- nibbles
@@ -65,10 +65,10 @@ beyond (x ∷ xs) zero h = absurd (omega arith)
 beyond (x ∷ xs) (suc n) h = beyond xs n (omega arith)
 
 module _ (n : ℕ) (h : n < 16) where
-  computed : (st : TextState) → agrees st ≡ true → stepped st n ≡ next (place st) n
-  computed st e = eqb-true _ _ (at-below 16 (λ n. eqb (stepped st n) (next (place st) n)) n e h)
+  computed : (st : TextState) → agrees st ≡ true → stepped st n ≡ nextState (place st) n
+  computed st e = eqb-true _ _ (at-below 16 (λ n. eqb (stepped st n) (nextState (place st) n)) n e h)
 
-  still : 0 ≡ next 0 n
+  still : 0 ≡ nextState 0 n
   unfolding place stateAfter textStep
   still = computed Invalid all-invalid
 
@@ -87,19 +87,19 @@ module _ (n : ℕ) (h : n < 16) where
       (λ c. test-case (ltb n 15) (λ d. rw (a, b, c, d)) (λ d. test-case (eqb n 15) (λ f. rw (a, b, c, d, f)) (λ f. rw (a, b, c, d, f))))))
 
   -- the row of n has the same for full eighteens as for no space
-  full : (s : ℕ) → eqb s 0 ≡ false → eqb (s % 18) 0 ≡ true → next 4 n ≡ next (place (Between s)) n
+  full : (s : ℕ) → eqb s 0 ≡ false → eqb (s % 18) 0 ≡ true → nextState 4 n ≡ nextState (place (Between s)) n
   unfolding place
-  full s e f = rw (e, f) (eqb-true _ _ (at-below 16 (λ n. eqb (next 4 n) (next 8 n)) n full-between h))
+  full s e f = rw (e, f) (eqb-true _ _ (at-below 16 (λ n. eqb (nextState 4 n) (nextState 8 n)) n full-between h))
 
-  between-step : (s : ℕ) → stepped (Between s) n ≡ next (place (Between s)) n
+  between-step : (s : ℕ) → stepped (Between s) n ≡ nextState (place (Between s)) n
   between-step s =
       same-between s (s % 18) (omega arith)
       ∙ computed (Between (s % 18)) (at-below 18 (λ s. agrees (Between s)) (s % 18) all-between (omega arith))
       ∙ test-case (eqb s 0) (λ e. let z : s ≡ 0 = eqb-true s 0 e in rw z)
       (λ e. test-case (eqb (s % 18) 0) (λ f. rw (eqb-true (s % 18) 0 f) (unfold place in full s e f))
-      (λ f. ap (λ (p : ℕ). next p n) (same-spaces (s % 18) s (omega arith) (eqb-false (s % 18) 0 f) (eqb-false s 0 e))))
+      (λ f. ap (λ (p : ℕ). nextState p n) (same-spaces (s % 18) s (omega arith) (eqb-false (s % 18) 0 f) (eqb-false s 0 e))))
 
-  run-step : (s : ℕ) → stepped (Run s) n ≡ next (place (Run s)) n
+  run-step : (s : ℕ) → stepped (Run s) n ≡ nextState (place (Run s)) n
   unfolding place stateAfter textStep
   run-step s =
       test-case (eqb (s % 18) 0)
@@ -110,20 +110,20 @@ module _ (n : ℕ) (h : n < 16) where
       ∙ rw (lt-ltb n 16 h) at (computed (Run 0) all-runs)))
       (λ e. rw e still)
 
-  pair-step : (s z : ℕ) → stepped (Pair s z) n ≡ next (place (Pair s z)) n
+  pair-step : (s z : ℕ) → stepped (Pair s z) n ≡ nextState (place (Pair s z)) n
   unfolding place stateAfter textStep
   pair-step s z =
       test-case (ltb z 16)
       (λ e.
       let c = computed (Pair 0 z) (at-below 16 (λ z. agrees (Pair 0 z)) z all-pairs (ltb-true z 16 e)) in
       test-case (eqb (pairByte z n) 0) (λ f. rw f (rw f at c)) (λ f. rw f (rw f at c)))
-      (λ e. rw (no-column z n (ltb-false z 16 e)) (still ∙ ap (λ (p : ℕ). next p n) (sym (beyond pairPlaces z (ltb-false z 16 e)))))
+      (λ e. rw (no-column z n (ltb-false z 16 e)) (still ∙ ap (λ (p : ℕ). nextState p n) (sym (beyond pairPlaces z (ltb-false z 16 e)))))
 
-  escape-step : (s : ℕ) → stepped (Escape s) n ≡ next (place (Escape s)) n
+  escape-step : (s : ℕ) → stepped (Escape s) n ≡ nextState (place (Escape s)) n
   unfolding place stateAfter textStep
   escape-step s = rw (lt-ltb n 16 h) (rw (lt-ltb n 16 h) at (computed (Escape 0) all-escapes))
 
-  half-step : (s z : ℕ) → stepped (Half s z) n ≡ next (place (Half s z)) n
+  half-step : (s z : ℕ) → stepped (Half s z) n ≡ nextState (place (Half s z)) n
   unfolding place stateAfter textStep
   half-step s z =
       test-case (ltb z 16)
@@ -132,9 +132,9 @@ module _ (n : ℕ) (h : n < 16) where
       test-case (ltb n 16 && escapable (z * 16 + n)) (λ f. rw f (rw f at c)) (λ f. rw f (rw f at c)))
       (λ e.
       ap (λ (t : TextStep). place (stateAfter t)) (sym (half-large s z n (ltb-false z 16 e)))
-      ∙ still ∙ ap (λ (p : ℕ). next p n) (sym (beyond halfPlaces z (ltb-false z 16 e))))
+      ∙ still ∙ ap (λ (p : ℕ). nextState p n) (sym (beyond halfPlaces z (ltb-false z 16 e))))
 
-  step-below : (st : TextState) → stepped st n ≡ next (place st) n
+  step-below : (st : TextState) → stepped st n ≡ nextState (place st) n
   step-below (Between s) = between-step s
   step-below (Run s) = run-step s
   step-below (Pair s z) = pair-step s z
@@ -145,9 +145,9 @@ module _ (n : ℕ) (h : n < 16) where
 -- ---- a number over 15: invalid in any state
 
 module _ (n : ℕ) (h : 16 ≤ n) where
-  next-over : (p : ℕ) → next p n ≡ 0
-  unfolding next
-  next-over p = rw (beyond rows n h, zero-div (2 ^ p))
+  next-over : (p : ℕ) → nextState p n ≡ 0
+  unfolding nextState
+  next-over p = rw (beyond stateRows n h, zero-div (2 ^ p))
 
   step-over : (st : TextState) → On Invalid ≡ textStep st n
   unfolding textStep
@@ -158,13 +158,13 @@ module _ (n : ℕ) (h : 16 ≤ n) where
   step-over (Half s z) = half-over s z n h
   step-over Invalid = refl
 
-  place-over : (st : TextState) → stepped st n ≡ next (place st) n
+  place-over : (st : TextState) → stepped st n ≡ nextState (place st) n
   unfolding place stateAfter
   place-over st = ap (λ (t : TextStep). place (stateAfter t)) (sym (step-over st)) ∙ sym (next-over (place st))
 
 -- ---- the law
 
-pub place-step : (st : TextState) (n : ℕ) → place (stateAfter (textStep st n)) ≡ next (place st) n
+pub place-step : (st : TextState) (n : ℕ) → place (stateAfter (textStep st n)) ≡ nextState (place st) n
 place-step st n = test-case (ltb n 16) (λ e. step-below n (ltb-true n 16 e) st) (λ e. place-over n (ltb-false n 16 e) st)
 
 -- a test of the entries of a list, and of 0 beyond them
@@ -233,8 +233,8 @@ none-le : (m n : ℕ) → None m n → m ≤ n
 none-le zero n r = omega arith
 none-le (suc m) n r = let h = none-le m n (r .0) in let e : n ≡ m → ⊥ = r .1 in omega arith
 
-pub beyond-rows : (n : ℕ) → None 16 n → 0 ≡ getD rows n 0
-beyond-rows n r = sym (beyond rows n (none-le 16 n r))
+pub beyond-rows : (n : ℕ) → None 16 n → 0 ≡ getD stateRows n 0
+beyond-rows n r = sym (beyond stateRows n (none-le 16 n r))
 
 pub beyond-pairs : (n : ℕ) → None 12 n → 0 ≡ getD pairRows n 0
 beyond-pairs n r = sym (beyond pairRows n (none-le 12 n r))

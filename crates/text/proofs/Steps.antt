@@ -8,7 +8,7 @@ use borrow.Author.Tests.{lt-ltb, le-ltb, eq-eqb, ne-eqb}
 use Rattle.format.specs.declared.TextState.the-variants.{Between, Run, Pair, Escape, Half, Invalid}
 use Rattle.format.specs.declared.TextStep.the-variants.{On, Plain}
 use Rattle.format.specs.ShipText.{escapable, textStep}
-use Rattle.laws.proofs.Lists.{test-case}
+use Rattle.laws.proofs.Sequences.{test-case}
 
 -- ---- between two codes
 

@@ -5,7 +5,7 @@ use mathlib.Core.Path.{_≡_, sym, _∙_}
 use mathlib.Core.Bool.{Bool}
 use mathlib.Core.List.{List}
 use Rattle.format.specs.ShipText.{textValid, readText}
-use Rattle.laws.proofs.Lists.{true-false}
+use Rattle.laws.proofs.Sequences.{true-false}
 use Rattle.laws.proofs.ShipText.{valid-written, written-valid, text-back, text-bytes, text-trailing, strip-tail, shortest}
 use Rattle.text.specs.Answers.{Writable, Shortest}
 

@@ -25,8 +25,8 @@ place (Half s h) = getD halfPlaces h 0
 place Invalid = 0
 
 -- for each nibble a row: in digits of 16, from the lowest on, the state after the nibble from each state
-abbrev pub rows : List ℕ
-rows =
+abbrev pub stateRows : List ℕ
+stateRows =
     0x110100f011411110 ∷  -- 0
     0x110001f111411110 ∷  -- 1
     0x110001a111411110 ∷  -- 2
@@ -46,8 +46,8 @@ rows =
     []
 
 -- the place after a nibble, from a place
-unfoldable pub next : ℕ → ℕ → ℕ
-next p n = getD rows n 0 * 4 / 2 ^ p / 4 % 16 * 4
+unfoldable pub nextState : ℕ → ℕ → ℕ
+nextState p n = getD stateRows n 0 * 4 / 2 ^ p / 4 % 16 * 4
 
 -- for the low nibble of a pair a row: in digits of 256, from the lowest on, the bytes with the high nibbles 12, 13 and 14
 abbrev pub pairRows : List ℕ

@@ -9,7 +9,7 @@ ghost use Rattle.format.specs.ShipText.{charCode, pairByte, textValid, readText
 ghost use Rattle.format.specs.Calls.{over};
 ghost use Rattle.nibble.specs.View.{view, part};
 ghost use Rattle.text.specs.Answers.{Writable, Shortest};
-ghost use Rattle.text.specs.Rows.{rows, next, pairRows};
+ghost use Rattle.text.specs.Rows.{stateRows, nextState, pairRows};
 ghost use Rattle.text.specs.Codes.{code, codeAt, Begins};
 use nibble::Cursor;
 
@@ -40,7 +40,7 @@ pub fn char_code(b: u8) -> u16
 
 // For each of sixteen states, four bits: the state after a nibble.
 fn row(n: u8) -> u64
-    ensures { λ r. ⌜ (r ≡ getD rows n 0) × (r < 2 ^ 62) ⌝ }
+    ensures { λ r. ⌜ (r ≡ getD stateRows n 0) × (r < 2 ^ 62) ⌝ }
 {
     match n {
         0 => 0x1101_00f0_1141_1110,
@@ -66,7 +66,7 @@ fn row(n: u8) -> u64
 // The state after a nibble, each as its place in a row.
 fn after(st: u64, n: u8) -> u64
     requires { ⌜ st < 64 ⌝ }
-    ensures { λ r. ⌜ r ≡ next st n ⌝ }
+    ensures { λ r. ⌜ r ≡ nextState st n ⌝ }
 {
     ((row(n) * 4) >> st) / 4 % 16 * 4
 }
@@ -213,8 +213,10 @@ fn put_bytes(out: &mut [u8], at: usize, count: usize, b: u8)
 
 // Writes the text, and gives its length.
 pub fn read(s: &[u8], c: Cursor, len: usize, out: &mut [u8]) -> usize
-    requires { ⌜ (c .at + len ≤ length (view (c .packed) (now s))) × (c .at ≤ 2 ^ 32) × (len ≤ 4096) × (length (readText (part (now s) c len)) ≤ length (now out)) × (textValid (part (now s) c len) ≡ true) ⌝ }
-    ensures { λ r. ⌜ (now (out .exit) ≡ over (readText (part (now (s .entry)) c len)) (now (out .entry))) × (r ≡ length (readText (part (now (s .entry)) c len))) × Shortest (readText (part (now (s .entry)) c len)) (part (now (s .entry)) c len) ⌝ }
+    requires { ⌜ (c .at + len ≤ length (view (c .packed) (now s))) × (c .at ≤ 2 ^ 32) × (len ≤ 4096)
+        × (length (readText (part (now s) c len)) ≤ length (now out)) × (textValid (part (now s) c len) ≡ true) ⌝ }
+    ensures { λ r. ⌜ (now (out .exit) ≡ over (readText (part (now (s .entry)) c len)) (now (out .entry))) × (r ≡ length (readText (part (now (s .entry)) c len)))
+        × Shortest (readText (part (now (s .entry)) c len)) (part (now (s .entry)) c len) ⌝ }
 {
     let at = c.at;
     let packed = c.packed;

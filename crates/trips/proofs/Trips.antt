@@ -19,8 +19,9 @@ use Rattle.format.specs.Observation.{Observation, packing, size}
 use Rattle.format.specs.Report.{Verdict, judge, attachmentChecks}
 use Rattle.format.specs.Calls.{Given, Answer, allNibbles, over}
 use Rattle.format.specs.Reply.{refusal}
-use Rattle.format.specs.Whole.{Wrote, wroteBy, Unpacked, unpacked, unpackOn, unpackedBy, unpackChecks, unpackGives, unpack, valueOrZero, presence, tail, bitOutside, packChecks, countIn, packObservation, packOrder, packGives, pack}
-use Rattle.laws.proofs.Lists.{or-false, cond-case}
+use Rattle.format.specs.Whole.{Wrote, wroteBy, Unpacked, unpacked, unpackOn, unpackedBy, unpackChecks, unpackGives, unpack, valueOrZero, presence, tail, bitOutside}
+use Rattle.format.specs.Whole.{packChecks, countIn, packObservation, packOrder, packGives, pack}
+use Rattle.laws.proofs.Sequences.{or-false, cond-case}
 use Rattle.laws.proofs.Order.{first-fits, first-skip, first-nil, first-none, first-append-some, first-append-skip, first-append-none}
 use Rattle.laws.proofs.Report.{size-is}
 use Rattle.laws.proofs.Whole.{pack-outcome, unpack-accepted, pack-unpacked, unpack-after-pack}
@@ -54,7 +55,7 @@ pub record Opened (b : List ℕ) (vs us : List ℤ) (ns ts : List ℕ) (c : Cont
   pub rest : ts ≡ over (tail observation) ns
   pub word : c .word ≡ presence observation
   pub rptin : c .rptin ≡ observation .rptin
-  pub end : c .tail ≡ length (tail observation)
+  pub end : c .nibbles ≡ length (tail observation)
 
 -- the numbers of an answer that gives counts
 abbrev amount : Option ℤ → ℕ
@@ -83,7 +84,7 @@ module _ (b : List ℕ) (vs us : List ℤ) (ns ts : List ℕ) where
       go (Verdict.accepted s) e = inner s (tooShort s vs ns) refl e
 
   numbers-word : (c : Contents) (s : Observation) → Answer.accepted (contentsNumbers c) ≡ Answer.accepted (unpackGives s)
-      → (c .word ≡ presence s) × (c .rptin ≡ s .rptin) × (c .tail ≡ length (tail s))
+      → (c .word ≡ presence s) × (c .rptin ≡ s .rptin) × (c .nibbles ≡ length (tail s))
   unfolding unpackGives
   numbers-word c s e =
       let f : amounts (Answer.accepted (contentsNumbers c)) ≡ amounts (Answer.accepted (unpackGives s)) = ap amounts e in
@@ -117,7 +118,7 @@ module _ (b : List ℕ) (vs us : List ℤ) (ns ts : List ℕ) where
       go (Verdict.accepted s) j e = inner s j (tooShort s vs ns) refl e
 
 -- the tail that was given lies within its output
-pub opened-within : {b : List ℕ} {vs us : List ℤ} {ns ts : List ℕ} {c : Contents} → Opened b vs us ns ts c → c .tail ≤ length ts
+pub opened-within : {b : List ℕ} {vs us : List ℤ} {ns ts : List ℕ} {c : Contents} → Opened b vs us ns ts c → c .nibbles ≤ length ts
 opened-within {ns = ns} o = omega (arith, o .end, ap length (o .rest), length-append (tail (o .observation)) (drop (length (tail (o .observation))) ns))
 
 -- pack accepts what it accepted
@@ -126,13 +127,16 @@ pack-accepted : (values : List ℤ) (word rptin : ℕ) (ns out : List ℕ) (gs :
 unfolding pack
 pack-accepted values word rptin ns out gs o e = go (first (packOrder (length out) values word rptin ns)) e
   where
-    go : (q : Option Refusal) → wroteBy q (packGives (size (packObservation values word rptin ns))) (packing (packObservation values word rptin ns)) out ≡ record { answer = Answer.accepted gs; out = o } → q ≡ none
+    go : (q : Option Refusal)
+        → wroteBy q (packGives (size (packObservation values word rptin ns))) (packing (packObservation values word rptin ns)) out
+        ≡ record { answer = Answer.accepted gs; out = o }
+        → q ≡ none
     go none e = refl
     go (some r) e = refused-accepted _ _ (ap (λ (w : Wrote). w .answer) e)
 
 module _ (b : List ℕ) (bs : Bytes b) (vs us : List ℤ) (ns ts : List ℕ) (c : Contents) (o : Opened b vs us ns ts c) where
   same-pack : (out : List ℕ)
-      → pack us (c .word) (c .rptin) (take (c .tail) ts) out
+      → pack us (c .word) (c .rptin) (take (c .nibbles) ts) out
       ≡ pack (unpack b vs ns .values) (presence (o .observation)) (o .observation .rptin) (take (length (tail (o .observation))) (unpack b vs ns .tail)) out
   same-pack out =
       let is = sym (unpack-accepted b (o .observation) vs ns (o .verdict) (o .long) (o .wide)) in
@@ -141,11 +145,11 @@ module _ (b : List ℕ) (bs : Bytes b) (vs us : List ℤ) (ns ts : List ℕ) (c 
       λ i. pack (u i) (o .word i) (o .rptin i) (take (o .end i) (t i)) out
 
   pack-back : (out : List ℕ) → size (o .observation) ≤ length out
-      → pack us (c .word) (c .rptin) (take (c .tail) ts) out
+      → pack us (c .word) (c .rptin) (take (c .nibbles) ts) out
       ≡ record { answer = Answer.accepted (packGives (size (o .observation))); out = over (take (size (o .observation)) b) out }
   pack-back out h = same-pack out ∙ pack-unpacked b (o .observation) vs ns out bs (o .verdict) (o .long) (o .wide) h
 
-  pub restore-packed : (a : Answer) (out after : List ℕ) → Holds out b → record { answer = a; out = after } ≡ pack us (c .word) (c .rptin) (take (c .tail) ts) out
+  pub restore-packed : (a : Answer) (out after : List ℕ) → Holds out b → record { answer = a; out = after } ≡ pack us (c .word) (c .rptin) (take (c .nibbles) ts) out
       → trip a us ts after ≡ restored b vs ns out
   unfolding restored
   restore-packed a out after holds e =

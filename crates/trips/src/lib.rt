@@ -18,7 +18,7 @@ fn restore_to(s: &[u8], values: &mut [i64], tail: &mut [u8], out: &mut [u8]) -> 
     match u {
         Unpacked::Refused(n, p) => Packed::Refused(n, p),
         Unpacked::Given(c) => {
-            let n = c.tail;
+            let n = c.nibbles;
             pack::pack(values, c.word, c.rptin, &tail[..n], out)
         }
     }
@@ -64,7 +64,8 @@ pub fn recover(
     values_out: &mut [i64],
     tail_out: &mut [u8],
 ) -> Unpacked
-    ensures { λ r. ⌜ trip (unpackAnswer r) (now («values_out» .exit)) (now («tail_out» .exit)) (now (out .exit)) ≡ recovered (now (values .entry)) word rptin (now (tail .entry)) (now (out .entry)) (now («values_out» .entry)) (now («tail_out» .entry)) ⌝ }
+    ensures { λ r. ⌜ trip (unpackAnswer r) (now («values_out» .exit)) (now («tail_out» .exit)) (now (out .exit))
+        ≡ recovered (now (values .entry)) word rptin (now (tail .entry)) (now (out .entry)) (now («values_out» .entry)) (now («tail_out» .entry)) ⌝ }
 {
     let n = room(values_out.len(), tail_out.len(), tail.len(), out.len());
     let p = pack::pack(values, word, rptin, tail, &mut out[..n]);

@@ -8,7 +8,7 @@ use Rattle.unpack.specs.declared.Unpacked.{Unpacked}
 
 -- the presence word, how many fields are present, RPTIN, AC, byte length, the tail's length
 abbrev pub contentsNumbers : Contents → List Given
-contentsNumbers c = contents (c .word) (c .present) (c .rptin) (c .count) (c .size) (c .tail)
+contentsNumbers c = contents (c .word) (c .present) (c .rptin) (c .attachments) (c .bytes) (c .nibbles)
 
 abbrev pub unpackAnswer : Unpacked → Answer
 unpackAnswer (Unpacked.Refused n p) = refusal n p

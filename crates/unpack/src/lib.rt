@@ -3,7 +3,7 @@ ghost use mathlib.Core.Path.{_≡_};
 ghost use Rattle.format.specs.Whole.{unpacked};
 ghost use Rattle.format.specs.Whole as spec;
 ghost use Rattle.unpack.specs.Answers.{unpackAnswer};
-ghost use Rattle.unpack.specs.Steps.{Shown};
+ghost use Rattle.report.specs.Found.{Found};
 use report::Inspected;
 use report::Report;
 
@@ -13,9 +13,9 @@ pub struct Contents {
     pub word: u64,
     pub present: u32,
     pub rptin: u16,
-    pub count: usize,
-    pub size: usize,
-    pub tail: usize,
+    pub attachments: usize,
+    pub bytes: usize,
+    pub nibbles: usize,
 }
 
 pub enum Unpacked {
@@ -26,7 +26,7 @@ pub enum Unpacked {
 
 // Gives what an accepted report holds, r being what judging it found, if the outputs are long enough.
 fn give(s: &[u8], r: Report, values: &mut [i64], tail: &mut [u8]) -> Unpacked
-    requires { ⌜ Shown (now s) r ⌝ }
+    requires { ⌜ Found (now s) 0 r ⌝ }
     ensures { λ u. ⌜ unpacked (unpackAnswer u) (now (values .exit)) (now (tail .exit)) ≡ spec.unpack (now (s .entry)) (now (values .entry)) (now (tail .entry)) ⌝ }
 {
     let n = r.end - 75;
@@ -37,14 +37,14 @@ fn give(s: &[u8], r: Report, values: &mut [i64], tail: &mut [u8]) -> Unpacked
         return Unpacked::Refused(13, 0);
     }
     let presence = read_values::show(s, values);
-    transfer::fetch(s, 75, n, tail);
+    nibble_copy::fetch(s, 75, n, tail);
     Unpacked::Given(Contents {
         word: presence,
         present: u64::count_ones(presence),
         rptin: card::rptin(s),
-        count: r.count,
-        size: r.end / 2 + r.end % 2,
-        tail: n,
+        attachments: r.count,
+        bytes: r.end / 2 + r.end % 2,
+        nibbles: n,
     })
 }
 

@@ -1,2 +1,2 @@
-pub mod Given
+pub mod Lent
 pub mod Tests

@@ -14,7 +14,7 @@ ghost use Rattle.format.specs.Whole.{bitAt};
 ghost use Rattle.card.specs.Answers.{Carded};
 ghost use Rattle.card.specs.Rows.{Row, RowAt, RowsAt};
 ghost use Rattle.card.specs.Runs.{sumRun, Summed};
-ghost use Rattle.write_values.specs.Given.{Packable, given, fielded, Wrote, refusalOf, refusalAt};
+ghost use Rattle.write_values.specs.Lent.{Packable, codesGiven, fielded, CodesWritten, valueRefusal, refusalAt};
 use card::Coding;
 use format::Coded;
 use format::Scaled;
@@ -24,7 +24,7 @@ use format::Scaled;
 // The refusal of field k, whose row is given, by a presence word and a value, or 0.
 pub fn refusal(k: usize, row: u64, word: u64, v: i64) -> u8
     requires { ⌜ (1 ≤ k) × (k ≤ 46) × Row k row ⌝ }
-    ensures { λ r. ⌜ r ≡ refusalOf k word v ⌝ }
+    ensures { λ r. ⌜ r ≡ valueRefusal k word v ⌝ }
 {
     if (word >> k) % 2 == 0 {
         if card::is_required(k) {
@@ -109,7 +109,7 @@ fn code_given(k: usize, row: u64, word: u64, v: i64) -> Coded
 // Writes the field at place i, and adds its coded number to a sum.
 fn write_field(sum: u64, s: &mut [u8], values: &[i64], word: u64, i: usize, row: u64) -> u64
     requires { ⌜ (38 ≤ length (now s)) × Packable (now values) word × (sum < 4294967296) × RowAt i row ⌝ }
-    ensures { λ r. ⌜ Wrote (now (values .entry)) word i 1 (now (s .entry)) (now (s .exit)) sum r ⌝ }
+    ensures { λ r. ⌜ CodesWritten (now (values .entry)) word i 1 (now (s .entry)) (now (s .exit)) sum r ⌝ }
 {
     let c = code_given(i + 1, row, word, values[i]);
     card::store_in(s, row, c);
@@ -120,7 +120,7 @@ fn write_field(sum: u64, s: &mut [u8], values: &[i64], word: u64, i: usize, row:
 // The same of two fields from place i on.
 fn write_two(sum: u64, s: &mut [u8], values: &[i64], word: u64, i: usize, r1: u64, r2: u64) -> u64
     requires { ⌜ (38 ≤ length (now s)) × Packable (now values) word × (sum < 2147483648) × RowAt i r1 × RowAt (i + 1) r2 ⌝ }
-    ensures { λ r. ⌜ Wrote (now (values .entry)) word i 2 (now (s .entry)) (now (s .exit)) sum r ⌝ }
+    ensures { λ r. ⌜ CodesWritten (now (values .entry)) word i 2 (now (s .entry)) (now (s .exit)) sum r ⌝ }
 {
     let sum = write_field(sum, s, values, word, i, r1);
     write_field(sum, s, values, word, i + 1, r2)
@@ -128,7 +128,7 @@ fn write_two(sum: u64, s: &mut [u8], values: &[i64], word: u64, i: usize, r1: u6
 
 fn write_1_to_10(sum: u64, s: &mut [u8], values: &[i64], word: u64) -> u64
     requires { ⌜ (38 ≤ length (now s)) × Packable (now values) word × (sum < 1073741824) ⌝ }
-    ensures { λ r. ⌜ Wrote (now (values .entry)) word 0 10 (now (s .entry)) (now (s .exit)) sum r ⌝ }
+    ensures { λ r. ⌜ CodesWritten (now (values .entry)) word 0 10 (now (s .entry)) (now (s .exit)) sum r ⌝ }
 {
     let sum = write_two(sum, s, values, word, 0, card::BOX10, card::YEAR);
     let sum = write_two(sum, s, values, word, 2, card::MONTH, card::DAY);
@@ -140,7 +140,7 @@ fn write_1_to_10(sum: u64, s: &mut [u8], values: &[i64], word: u64) -> u64
 
 fn write_11_to_20(sum: u64, s: &mut [u8], values: &[i64], word: u64) -> u64
     requires { ⌜ (38 ≤ length (now s)) × Packable (now values) word × (sum < 1073741824) ⌝ }
-    ensures { λ r. ⌜ Wrote (now (values .entry)) word 10 10 (now (s .entry)) (now (s .exit)) sum r ⌝ }
+    ensures { λ r. ⌜ CodesWritten (now (values .entry)) word 10 10 (now (s .entry)) (now (s .exit)) sum r ⌝ }
 {
     let sum = write_two(sum, s, values, word, 10, card::ST, card::QI);
     let sum = write_two(sum, s, values, word, 12, card::DS, card::DC);
@@ -152,7 +152,7 @@ fn write_11_to_20(sum: u64, s: &mut [u8], values: &[i64], word: u64) -> u64
 
 fn write_21_to_30(sum: u64, s: &mut [u8], values: &[i64], word: u64) -> u64
     requires { ⌜ (38 ≤ length (now s)) × Packable (now values) word × (sum < 1073741824) ⌝ }
-    ensures { λ r. ⌜ Wrote (now (values .entry)) word 20 10 (now (s .entry)) (now (s .exit)) sum r ⌝ }
+    ensures { λ r. ⌜ CodesWritten (now (values .entry)) word 20 10 (now (s .entry)) (now (s .exit)) sum r ⌝ }
 {
     let sum = write_two(sum, s, values, word, 20, card::VI, card::VB);
     let sum = write_two(sum, s, values, word, 22, card::PW, card::W1);
@@ -164,7 +164,7 @@ fn write_21_to_30(sum: u64, s: &mut [u8], values: &[i64], word: u64) -> u64
 
 fn write_31_to_40(sum: u64, s: &mut [u8], values: &[i64], word: u64) -> u64
     requires { ⌜ (38 ≤ length (now s)) × Packable (now values) word × (sum < 1073741824) ⌝ }
-    ensures { λ r. ⌜ Wrote (now (values .entry)) word 30 10 (now (s .entry)) (now (s .exit)) sum r ⌝ }
+    ensures { λ r. ⌜ CodesWritten (now (values .entry)) word 30 10 (now (s .entry)) (now (s .exit)) sum r ⌝ }
 {
     let sum = write_two(sum, s, values, word, 30, card::S, card::BI);
     let sum = write_two(sum, s, values, word, 32, card::C, card::NH);
@@ -176,7 +176,7 @@ fn write_31_to_40(sum: u64, s: &mut [u8], values: &[i64], word: u64) -> u64
 
 fn write_41_to_46(sum: u64, s: &mut [u8], values: &[i64], word: u64) -> u64
     requires { ⌜ (38 ≤ length (now s)) × Packable (now values) word × (sum < 1073741824) ⌝ }
-    ensures { λ r. ⌜ Wrote (now (values .entry)) word 40 6 (now (s .entry)) (now (s .exit)) sum r ⌝ }
+    ensures { λ r. ⌜ CodesWritten (now (values .entry)) word 40 6 (now (s .entry)) (now (s .exit)) sum r ⌝ }
 {
     let sum = write_two(sum, s, values, word, 40, card::WP, card::WH);
     let sum = write_two(sum, s, values, word, 42, card::SD, card::SP);
@@ -187,7 +187,8 @@ fn write_41_to_46(sum: u64, s: &mut [u8], values: &[i64], word: u64) -> u64
 // Writes the coded fields of values that are present by a word, and gives their sum.
 fn write_fields(s: &mut [u8], values: &[i64], word: u64) -> u64
     requires { ⌜ (38 ≤ length (now s)) × Packable (now values) word ⌝ }
-    ensures { λ r. ⌜ Carded (now (s .entry)) (now (s .exit)) (fielded (numbersOf (now (s .entry))) (given (now (values .entry)) word) 46) × (r ≡ total (given (now (values .entry)) word)) ⌝ }
+    ensures { λ r. ⌜ Carded (now (s .entry)) (now (s .exit)) (fielded (numbersOf (now (s .entry))) (codesGiven (now (values .entry)) word) 46)
+        × (r ≡ total (codesGiven (now (values .entry)) word)) ⌝ }
 {
     let sum = write_1_to_10(0, s, values, word);
     let sum = write_11_to_20(sum, s, values, word);
@@ -199,7 +200,7 @@ fn write_fields(s: &mut [u8], values: &[i64], word: u64) -> u64
 // Writes a card: RPTIN, the fields of the values that are present, their checksum, and the number of attachments.
 pub fn write(s: &mut [u8], rptin: u16, values: &[i64], word: u64, count: usize)
     requires { ⌜ (38 ≤ length (now s)) × (count < 16) × Packable (now values) word ⌝ }
-    ensures { λ _. ⌜ Carded (now (s .entry)) (now (s .exit)) (rptin ∷ (given (now (values .entry)) word ++ (checksum (given (now (values .entry)) word) ∷ count ∷ []))) ⌝ }
+    ensures { λ _. ⌜ Carded (now (s .entry)) (now (s .exit)) (rptin ∷ (codesGiven (now (values .entry)) word ++ (checksum (codesGiven (now (values .entry)) word) ∷ count ∷ []))) ⌝ }
 {
     let sum = write_fields(s, values, word);
     card::set_checksum(s, sum);

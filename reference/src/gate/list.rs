@@ -1,7 +1,8 @@
 //! A list of calls in its script form.
 
 use crate::call::Call;
-use crate::gate::script::{Ran, record_size, run, script};
+use crate::gate::log::record_size;
+use crate::gate::script::{Ran, run, script};
 
 /// The longest buffer, script and log.
 pub const MOST_BUFFER: usize = 2000;

@@ -10,9 +10,9 @@ use crate::cases::material::*;
 use crate::cases::outside::edge_values;
 use crate::cases::random::random_call;
 use crate::cases::{pairs, reports};
-use crate::gate::head::HEAD;
 use crate::gate::list::{List, MOST_LOG};
-use crate::gate::script::{entry, record_size, run, script};
+use crate::gate::log::{FRONT, HEAD, MARKED, record_size};
+use crate::gate::script::{entry, run, script};
 use crate::gate::sizes::{LONGEST_TAIL, observation_of_tail};
 use crate::judge::judge;
 use crate::observation::Observation;
@@ -470,15 +470,15 @@ fn cut_off_lists() -> Vec<List> {
         Call::SetField { field: 4, value: 9 },
         Call::SetFlag { flag: 3, value: 7 },
     ]);
-    let mut lists = vec![raw(Vec::new(), 40)];
+    let mut lists = vec![raw(Vec::new(), 60)];
     for call in one_of_each() {
         let whole = entry(&call);
         for length in [1, 8, 9, 16, 17, whole.len() - 1] {
             if length < whole.len() {
-                lists.push(raw([&before[..], &whole[..length]].concat(), 40));
+                lists.push(raw([&before[..], &whole[..length]].concat(), 60));
             }
         }
-        lists.push(raw(whole[..whole.len() - 1].to_vec(), 40));
+        lists.push(raw(whole[..whole.len() - 1].to_vec(), 60));
     }
     lists
 }
@@ -512,35 +512,77 @@ fn unknown_kind_lists() -> Vec<List> {
     let calls = script(&one_of_each());
     let mut lists = Vec::new();
     for kind in [0, 12, 13, 128, 255] {
-        lists.push(raw([&[kind][..], &calls].concat(), 40));
-        lists.push(raw([&calls[..], &[kind], &calls].concat(), 40));
+        lists.push(raw([&[kind][..], &calls].concat(), 60));
+        lists.push(raw([&calls[..], &[kind], &calls].concat(), 60));
     }
     lists
 }
 
-/// Logs without room for the last record, and with room for its head but not for
-/// all of its output.
+/// Logs that end in a record: in its head, behind it, in its row, behind that, in
+/// its output and before its last byte; and logs that end with it.
 fn short_log_lists() -> Vec<List> {
     let mut lists = Vec::new();
     let calls = one_of_each();
     let mut written = 0;
     for call in &calls {
-        let needed = written + record_size(call);
-        for room in BTreeSet::from([written + HEAD, needed - 1, needed]) {
+        for cut in cuts(call, &[HEAD / 2, HEAD - 1, HEAD + 1, HEAD + MARKED]) {
             lists.push(List {
-                room,
+                room: written + cut,
                 ..List::of(held_buffer(), &calls)
             });
         }
-        written = needed;
+        written += record_size(call);
     }
+    lists.extend(short_row_lists());
     // A shorter record behind the one that does not fit is not written either.
     let long_first = [fetch(4, 60), Call::ReadField { field: 1 }];
-    for room in [0, 9, 10, 11, 40, 69, 70, 79, 80, 81] {
+    for room in [0, 9, 10, 19, 36, 37, 38, 60, 96, 97, 98, 133, 134, 135] {
         for buffer in [held_buffer(), vec![0; 37]] {
             lists.push(List {
                 room,
                 ..List::of(buffer, &long_first)
+            });
+        }
+    }
+    lists
+}
+
+/// Places in a call's record: the given ones, where its row begins, about where the
+/// row ends, before the last byte, and the end.
+fn cuts(call: &Call, given: &[usize]) -> BTreeSet<usize> {
+    let size = record_size(call);
+    let mut cuts = BTreeSet::from([HEAD, FRONT - 1, FRONT, FRONT + 1, size - 1, size]);
+    cuts.extend(given);
+    cuts.retain(|&cut| cut <= size);
+    cuts
+}
+
+/// Logs that end at or in each number of the row, for calls that give a number,
+/// that give a missing one, that give none, and that are refused.
+fn short_row_lists() -> Vec<List> {
+    let mut lists = Vec::new();
+    for call in [
+        Call::ReadField { field: 2 },
+        Call::ReadField { field: 31 },
+        Call::ReadField { field: 47 },
+        Call::ReadFlag { flag: 3 },
+        Call::ReadFlag { flag: 4 },
+        Call::ReadFlag { flag: 15 },
+        Call::ClearField { field: 31 },
+        Call::ClearField { field: 3 },
+        fetch(5, 3),
+        fetch(5, 0),
+        fetch_text(2),
+        fetch_text(0),
+    ] {
+        let set = Call::SetFlag { flag: 3, value: 7 };
+        let calls = [set, call, Call::Drop { id: 5 }];
+        let before = record_size(&calls[0]);
+        let row = [1, MARKED, MARKED + 4, 2 * MARKED, 2 * MARKED + 1];
+        for cut in cuts(&calls[1], &row.map(|place| HEAD + place)) {
+            lists.push(List {
+                room: before + cut,
+                ..List::of(held_buffer(), &calls)
             });
         }
     }

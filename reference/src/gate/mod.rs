@@ -4,6 +4,7 @@
 pub mod head;
 pub mod list;
 pub mod list_cases;
+pub mod log;
 pub mod record;
 pub mod same_cases;
 pub mod script;

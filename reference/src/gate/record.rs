@@ -1,6 +1,5 @@
 //! A call outside the list as a record, and its answer.
 
-use crate::call::Given;
 use crate::cases::{Case, Outcome};
 use crate::gate::head::head;
 use crate::outside::Unpacked;
@@ -151,32 +150,28 @@ pub fn input(case: &Case) -> Vec<u8> {
 pub fn answer(outcome: &Outcome) -> Vec<u8> {
     match outcome {
         Outcome::Judge(result) => match &**result {
-            Ok(report) => head(Ok(Given::Count(report.bytes))),
+            Ok(report) => head(Ok(Some(report.bytes))),
             Err(refusal) => head(Err(*refusal)),
         },
         Outcome::Lister(lines) => lines
             .iter()
             .flat_map(|line| format!("{line}\n").into_bytes())
             .collect(),
-        Outcome::Fresh { result, output } => {
-            [head(result.map(|()| Given::Nothing)), output.clone()].concat()
-        }
+        Outcome::Fresh { result, output } => [head(result.map(|()| None)), output.clone()].concat(),
         Outcome::Unpack {
             result,
             values,
             tail,
         } => [unpacked(result), numbers(values), tail.clone()].concat(),
-        Outcome::Pack { result, output } => {
-            [head(result.map(Given::Count)), output.clone()].concat()
-        }
-        Outcome::Same(result) => head(result.map(|same| Given::Count(usize::from(same)))),
+        Outcome::Pack { result, output } => [head(result.map(Some)), output.clone()].concat(),
+        Outcome::Same(result) => head(result.map(|same| Some(usize::from(same)))),
         Outcome::Restore {
             result,
             values,
             tail,
             output,
         } => [
-            head(result.map(Given::Count)),
+            head(result.map(Some)),
             numbers(values),
             tail.clone(),
             output.clone(),
@@ -200,7 +195,7 @@ pub fn answer(outcome: &Outcome) -> Vec<u8> {
 
 /// The head, and the six numbers where they are given.
 fn unpacked(result: &Result<Unpacked, Refusal>) -> Vec<u8> {
-    let mut bytes = head(result.map(|_| Given::Nothing));
+    let mut bytes = head(result.map(|_| None));
     if let Ok(given) = result {
         let numbers = [
             given.word,

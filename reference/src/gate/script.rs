@@ -1,7 +1,7 @@
-//! Scripts: the calls of a list as bytes, and the log of their answers.
+//! Scripts: the calls of a list as bytes, and what comes of them.
 
 use crate::call::{Answer, Call};
-use crate::gate::head::{HEAD, head};
+use crate::gate::log::{record, record_size};
 
 const READ_FIELD: u8 = 1;
 const SET_FIELD: u8 = 2;
@@ -116,18 +116,6 @@ fn counted(script: &[u8]) -> Option<(Vec<u8>, &[u8])> {
     let (count, rest) = number(script)?;
     let (bytes, rest) = rest.split_at_checked(usize::try_from(count).ok()?)?;
     Some((bytes.to_vec(), rest))
-}
-
-/// The log's record of a call: the head and the output after the call.
-pub fn record(answer: &Answer) -> Vec<u8> {
-    let mut record = head(answer.result);
-    record.extend(answer.output.iter().flatten());
-    record
-}
-
-/// The bytes that a call's record takes.
-pub fn record_size(call: &Call) -> usize {
-    HEAD + call.output().map_or(0, |output| output.len())
 }
 
 /// What comes of a script beside the buffer.

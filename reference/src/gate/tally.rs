@@ -17,6 +17,8 @@ pub struct Tally {
     pub lists: usize,
     pub lists_on_refused_reports: usize,
     pub lists_ended_early: usize,
+    /// Lists whose log is longer than what is written.
+    pub longer_logs: usize,
 }
 
 impl Tally {
@@ -39,6 +41,7 @@ impl Tally {
         self.lists += 1;
         self.lists_on_refused_reports += usize::from(judge(&list.buffer).is_err());
         self.lists_ended_early += usize::from(ran.taken < list.script.len());
+        self.longer_logs += usize::from(ran.log.len() < list.room);
         for (call, answer) in &ran.calls {
             self.add(name(call), number(&answer.result));
         }
@@ -102,9 +105,10 @@ impl fmt::Display for Tally {
         if self.lists > 0 {
             writeln!(
                 f,
-                "lists {}: on refused reports {}, ended early {}",
-                self.lists, self.lists_on_refused_reports, self.lists_ended_early
+                "lists {}: on refused reports {}, ended early {}, log longer than what is written {}",
+                self.lists, self.lists_on_refused_reports, self.lists_ended_early, self.longer_logs
             )?;
+            writeln!(f, "calls {}", self.counts.values().sum::<usize>())?;
         }
         Ok(())
     }

@@ -5,7 +5,7 @@ use native.Mathlib.Omega.{arith}
 use mathlib.Core.Path.{_≡_, sym, ap}
 use lib.ListN.{getD}
 use Rattle.card.specs.Rows.{rows}
-use Rattle.card.proofs.Rows.{none-lt}
+use Rattle.laws.proofs.Sequences.{none-lt}
 use borrow.Author.Needs.{needs}
 use Rattle.card.proofs.packed_row.Statement.{statement}
 use Rattle.card.proofs.packed_row.Tie as tie

@@ -8,6 +8,9 @@ use borrow.Author.Needs.{needs}
 use Rattle.card.proofs.set_checksum.Statement.{statement}
 use Rattle.card.proofs.set_checksum.Tie as tie
 
+remainder-requires : tie.Need-remainder-requires
+remainder-requires c κs = search needs
+
 write-requires : tie.Need-write-requires
 write-requires c κs = search needs
 
@@ -16,14 +19,14 @@ same-length c = search needs
 
 returns : tie.Need-returns
 returns c =
-    let st = c .before .before .before .before .before in
+    let st = c .before .before .before .before .before .before in
     carded-checksum (now (st .args .s)) (c .before .before .write .last .0) (st .args .sum % 255)
-    (λ j. c .before .before .before .before .slice-known .given j .fits)
+    (λ j. c .before .before .before .before .before .slice-known .given j .fits)
     (λ j. c .slice-known2 .given j .fits)
     (st .pre)
     (c .before .before .write .ensures .1)
     (omega arith)
-    (c .before .before .write .ensures .0)
+    (rw (c .before .before .before .remainder .ensures .0) at (c .before .before .write .ensures .0))
 
 pub set-checksum-spec : {M : Type 1} → statement M
-set-checksum-spec = tie.close (tie.spec write-requires same-length returns)
+set-checksum-spec = tie.close (tie.spec remainder-requires write-requires same-length returns)

@@ -1,9 +1,9 @@
 -- `checks::check` meets its contract.
 -- Assumes nothing.
-use mathlib.Core.Path.{sym, ap, _∙_}
+use mathlib.Core.Path.{ap, _∙_}
 use denote.Ref.{now}
 use Rattle.checks.specs.declared.CardCheck.the-variants.{Checksum}
-use Rattle.checks.proofs.Card.{card-passed, answered, walk-answered}
+use Rattle.checks.proofs.Card.{card-passed}
 use borrow.Author.Needs.{needs}
 use Rattle.checks.proofs.check.Statement.{statement}
 use Rattle.checks.proofs.check.Tie as tie
@@ -41,22 +41,11 @@ returns c =
     ∙ card-passed (now (st .args .s)) (st .pre) (a .result) (b .result) (w .result) (d .result) (e .result) (a .ensures) (b .ensures) (w .ensures) (d .ensures) (e .ensures)
     (c .before .before .faults .ensures (c .before .if1 .taken))
 
-check-requires : tie.Need-check-requires
-check-requires c κs = search needs
-
-enum-known-f : tie.Need-enum-known-f
-enum-known-f c = search needs
-
-enum-known-f-2 : tie.Need-enum-known-f-2
-enum-known-f-2 c = search needs
+walk-requires : tie.Need-walk-requires
+walk-requires c κs = search needs
 
 returns-2 : tie.Need-returns-2
-returns-2 c =
-    sym (ap answered (c .before .f .given .1)) ∙ walk-answered _ _ (c .before .before .before .check .ensures)
-
-returns-3 : tie.Need-returns-3
-returns-3 c =
-    sym (ap answered (c .before .f2 .given .1)) ∙ walk-answered _ _ (c .before .before .before .check .ensures)
+returns-2 c = c .walk .ensures
 
 pub check-spec : {M : Type 1} → statement M
 check-spec =
@@ -70,8 +59,5 @@ check-spec =
     faults-requires
     checksum-requires
     returns
-    check-requires
-    enum-known-f
-    enum-known-f-2
-    returns-2
-    returns-3)
+    walk-requires
+    returns-2)

@@ -1,7 +1,7 @@
 -- `checks::checksum` meets its contract: the masks are those of the field table.
 -- Assumes nothing.
 use Prim.Native.Nat.{ℕ, _%_}
-use mathlib.Core.Path.{ap}
+use mathlib.Core.Path.{ap, _∙_}
 use Rattle.format.specs.Bits.{total}
 use Rattle.format.specs.Field.{table}
 use Rattle.format.specs.Observation.{widths}
@@ -62,15 +62,18 @@ add-t-7 c = search needs
 add-t-8 : tie.Need-add-t-8
 add-t-8 c = search needs
 
+remainder-requires : tie.Need-remainder-requires
+remainder-requires c κs = search needs
+
 returns : tie.Need-returns
 unfolding summed atPlace laid picked partAt total widths table
 returns c =
-    let t = c .before .before .before .before .before .before .before .before .low-places .ensures .0 in
-    let p₄ = at-place 4 (c .before .before .before .before .before .before .before .two .ensures .0) (c .before .before .before .before .before .before .three .ensures .0) in
-    let p₅ = at-place 5 (c .before .before .before .before .before .two2 .ensures .0) (c .before .before .before .before .three2 .ensures .0) in
-    let p₆ = at-place 6 (c .before .before .before .two3 .ensures .0) (c .before .before .three3 .ensures .0) in
-    let p₇ = at-place 7 (c .before .two4 .ensures .0) (c .three4 .ensures .0) in
-    ap (λ (n : ℕ). n % 255) (plus (plus (plus (plus t p₄) p₅) p₆) p₇)
+    let t = c .before .before .before .before .before .before .before .before .before .low-places .ensures .0 in
+    let p₄ = at-place 4 (c .before .before .before .before .before .before .before .before .two .ensures .0) (c .before .before .before .before .before .before .before .three .ensures .0) in
+    let p₅ = at-place 5 (c .before .before .before .before .before .before .two2 .ensures .0) (c .before .before .before .before .before .three2 .ensures .0) in
+    let p₆ = at-place 6 (c .before .before .before .before .two3 .ensures .0) (c .before .before .before .three3 .ensures .0) in
+    let p₇ = at-place 7 (c .before .before .two4 .ensures .0) (c .before .three4 .ensures .0) in
+    c .remainder .ensures .0 ∙ ap (λ (n : ℕ). n % 255) (plus (plus (plus (plus t p₄) p₅) p₆) p₇)
 
 pub checksum-spec : {M : Type 1} → statement M
 checksum-spec =
@@ -93,4 +96,5 @@ checksum-spec =
     three-requires-4
     add-t-7
     add-t-8
+    remainder-requires
     returns)

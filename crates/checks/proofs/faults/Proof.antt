@@ -4,7 +4,7 @@ use mathlib.Core.Path.{sym, _∙_}
 use Rattle.format.specs.Bits.{total}
 use Rattle.format.specs.Field.{table, fieldAt, required}
 use Rattle.format.specs.Observation.{widths}
-use Rattle.checks.specs.Parts.{runA, runB, runC, runD, runE, partAt, picked, laid, tested, Passed}
+use Rattle.checks.specs.Parts.{fieldsA, fieldsB, fieldsC, fieldsD, fieldsE, partAt, picked, laid, tested, Passed}
 use Rattle.checks.proofs.Parts.{or-zero, xor-zero, tested-none}
 use borrow.Author.Needs.{needs}
 use Rattle.checks.proofs.faults.Statement.{statement}
@@ -49,6 +49,8 @@ lacking-requires-2 c κs = search needs
 returns : tie.Need-returns
 unfolding tested laid picked partAt total widths table fieldAt required
 returns c z =
+    let above = c .before .before .before .before .before .before .before .before .before .before .before .above in
+    let above2 = c .before .before .before .before .before .before .before .before .before .before .above2 in
     let p₁₁ = or-zero _ _ z in
     let p₁₀ = or-zero _ _ (p₁₁ .0) in
     let p₉ = or-zero _ _ (p₁₀ .0) in
@@ -61,16 +63,41 @@ returns c z =
     let p₂ = or-zero _ _ (p₃ .0) in
     let p₁ = or-zero _ _ (p₂ .0) in
     let st = c .before .before .before .before .before .before .before .before .before .before .before .before .args in
-    let a : Passed (st .a) runA =
-    record { odds = sym (c .before .before .before .before .before .before .before .before .before .before .before .above .ensures) ∙ p₁ .0; evens = sym (c .before .before .before .before .before .before .before .before .before .before .above2 .ensures) ∙ p₁ .1; odds-present = xor-zero _ _ (sym (c .before .lacking .ensures) ∙ p₁₀ .1); evens-present = xor-zero _ _ (sym (c .lacking2 .ensures) ∙ p₁₁ .1) } in
-    let b : Passed (st .b) runB =
-    record { odds = sym (c .before .before .before .before .before .before .before .before .before .above3 .ensures) ∙ p₂ .1; evens = sym (c .before .before .before .before .before .before .before .before .above4 .ensures) ∙ p₃ .1; odds-present = tested-none (st .b); evens-present = tested-none (st .b) } in
-    let c′ : Passed (st .c) runC =
-    record { odds = sym (c .before .before .before .before .before .before .before .above5 .ensures) ∙ p₄ .1; evens = sym (c .before .before .before .before .before .before .above6 .ensures) ∙ p₅ .1; odds-present = tested-none (st .c); evens-present = tested-none (st .c) } in
-    let d : Passed (st .d) runD =
-    record { odds = sym (c .before .before .before .before .before .above7 .ensures) ∙ p₆ .1; evens = sym (c .before .before .before .before .above8 .ensures) ∙ p₇ .1; odds-present = tested-none (st .d); evens-present = tested-none (st .d) } in
-    let e : Passed (st .e) runE =
-    record { odds = sym (c .before .before .before .above9 .ensures) ∙ p₈ .1; evens = sym (c .before .before .above10 .ensures) ∙ p₉ .1; odds-present = tested-none (st .e); evens-present = tested-none (st .e) } in
+    let a : Passed (st .a) fieldsA =
+    record {
+      odds = sym (above .ensures) ∙ p₁ .0;
+      evens = sym (above2 .ensures) ∙ p₁ .1;
+      odds-present = xor-zero _ _ (sym (c .before .lacking .ensures) ∙ p₁₀ .1);
+      evens-present = xor-zero _ _ (sym (c .lacking2 .ensures) ∙ p₁₁ .1);
+    } in
+    let b : Passed (st .b) fieldsB =
+    record {
+      odds = sym (c .before .before .before .before .before .before .before .before .before .above3 .ensures) ∙ p₂ .1;
+      evens = sym (c .before .before .before .before .before .before .before .before .above4 .ensures) ∙ p₃ .1;
+      odds-present = tested-none (st .b);
+      evens-present = tested-none (st .b);
+    } in
+    let c′ : Passed (st .c) fieldsC =
+    record {
+      odds = sym (c .before .before .before .before .before .before .before .above5 .ensures) ∙ p₄ .1;
+      evens = sym (c .before .before .before .before .before .before .above6 .ensures) ∙ p₅ .1;
+      odds-present = tested-none (st .c);
+      evens-present = tested-none (st .c);
+    } in
+    let d : Passed (st .d) fieldsD =
+    record {
+      odds = sym (c .before .before .before .before .before .above7 .ensures) ∙ p₆ .1;
+      evens = sym (c .before .before .before .before .above8 .ensures) ∙ p₇ .1;
+      odds-present = tested-none (st .d);
+      evens-present = tested-none (st .d);
+    } in
+    let e : Passed (st .e) fieldsE =
+    record {
+      odds = sym (c .before .before .before .above9 .ensures) ∙ p₈ .1;
+      evens = sym (c .before .before .above10 .ensures) ∙ p₉ .1;
+      odds-present = tested-none (st .e);
+      evens-present = tested-none (st .e);
+    } in
     record { first = a; second = b; third = c′; fourth = d; fifth = e }
 
 pub faults-spec : {M : Type 1} → statement M

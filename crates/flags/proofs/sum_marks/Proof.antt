@@ -66,7 +66,15 @@ loop-again c =
     let a = c .before .before .before .before .before .before .before .args in
     let l = c .before .before .before .before .before .loop in
     let e : a .c .at + 2 * l .i + 1 ≡ a .c .at + (2 * l .i + 1) = omega arith in
-    sum-more (part (now (a .s)) (a .c) 14) (l .i) (l .sum) (c .before .mark-of .result) (c .mark-of2 .result) (omega (arith, part-length (now (a .s)) (a .c) 14 (c .before .before .before .before .before .before .before .pre .0))) (l .inv) (c .before .mark-of .ensures .0 ∙ ap mark (c .before .before .before .nibble-at .ensures ∙ sym (part-at (now (a .s)) (a .c) 14 (2 * l .i) (omega arith))), c .before .mark-of .ensures .1) (c .mark-of2 .ensures .0 ∙ ap mark (c .before .before .nibble-at2 .ensures ∙ ap (λ (j : ℕ). getD (view (a .c .packed) (now (a .s))) j 0) e ∙ sym (part-at (now (a .s)) (a .c) 14 (2 * l .i + 1) (omega arith))), c .mark-of2 .ensures .1)
+    sum-more (part (now (a .s)) (a .c) 14) (l .i) (l .sum) (c .before .mark-of .result) (c .mark-of2 .result)
+    (omega (arith, part-length (now (a .s)) (a .c) 14 (c .before .before .before .before .before .before .before .pre .0))) (l .inv) (
+      c .before .mark-of .ensures .0 ∙ ap mark (c .before .before .before .nibble-at .ensures ∙ sym (part-at (now (a .s)) (a .c) 14 (2 * l .i) (omega arith))),
+      c .before .mark-of .ensures .1,
+    ) (
+      c .mark-of2 .ensures .0 ∙ ap mark (c .before .before .nibble-at2 .ensures ∙ ap (λ (j : ℕ). getD (view (a .c .packed) (now (a .s))) j 0) e
+          ∙ sym (part-at (now (a .s)) (a .c) 14 (2 * l .i + 1) (omega arith))),
+      c .mark-of2 .ensures .1,
+    )
 
 returns : tie.Need-returns Inv-loop μ-loop
 returns c =

@@ -48,14 +48,27 @@ code-in-requires c κs = search needs
 
 returns-2 : tie.Need-returns-2
 returns-2 c =
+    let pre = c .before .before .before .before .before .before .before .before .before .pre in
+    let sum-marks = c .before .before .before .before .before .before .sum-marks in
     let a = c .before .before .before .before .before .before .before .before .before .args in
     let e = part-take (now (a .s)) (a .c) 14 (a .len) (omega arith) in
-    coded (part (now (a .s)) (a .c) (a .len)) (a .len) (part-length (now (a .s)) (a .c) (a .len) (c .before .before .before .before .before .before .before .before .before .pre .0)) (c .before .before .before .before .before .before .before .if1 .left) _ _ _ (ap (flagsFit 1) e ∙ all-fit (part (now (a .s)) (a .c) 14) (part-length (now (a .s)) (a .c) 14 (omega (arith, c .before .before .before .before .before .before .before .before .before .pre .0))) _ (c .before .before .before .before .before .before .sum-marks .ensures) (c .before .before .before .before .before .if2 .taken)) (c .before .before .before .wide .ensures .0 ∙ c .before .before .before .before .nibble-at .ensures ∙ sym (part-at (now (a .s)) (a .c) (a .len) 14 (omega arith))) (c .before .wide2 .ensures .0 ∙ c .before .before .nibble-at2 .ensures ∙ sym (part-at (now (a .s)) (a .c) (a .len) 15 (omega arith))) (c .code-in .ensures ∙ code-is (part (now (a .s)) (a .c) 14) (part-length (now (a .s)) (a .c) 14 (omega (arith, c .before .before .before .before .before .before .before .before .before .pre .0))) _ (c .before .before .before .before .before .before .sum-marks .ensures) ∙ ap qualityCode (sym e))
+    coded (part (now (a .s)) (a .c) (a .len)) (a .len) (part-length (now (a .s)) (a .c) (a .len) (pre .0))
+    (c .before .before .before .before .before .before .before .if1 .left) _ _ _
+    (ap (flagsFit 1) e
+    ∙ all-fit (part (now (a .s)) (a .c) 14) (part-length (now (a .s)) (a .c) 14 (omega (arith, pre .0))) _ (sum-marks .ensures)
+    (c .before .before .before .before .before .if2 .taken))
+    (c .before .before .before .wide .ensures .0 ∙ c .before .before .before .before .nibble-at .ensures ∙ sym (part-at (now (a .s)) (a .c) (a .len) 14 (omega arith)))
+    (c .before .wide2 .ensures .0 ∙ c .before .before .nibble-at2 .ensures ∙ sym (part-at (now (a .s)) (a .c) (a .len) 15 (omega arith)))
+    (c .code-in .ensures ∙ code-is (part (now (a .s)) (a .c) 14) (part-length (now (a .s)) (a .c) 14 (omega (arith, pre .0))) _ (sum-marks .ensures)
+    ∙ ap qualityCode (sym e))
 
 returns-3 : tie.Need-returns-3
 returns-3 c =
+    let pre = c .before .before .before .before .pre in
     let a = c .before .before .before .before .args in
-    unfit (part (now (a .s)) (a .c) (a .len)) (a .len) (part-length (now (a .s)) (a .c) (a .len) (c .before .before .before .before .pre .0)) (c .before .before .if1 .left) (ap (flagsFit 1) (part-take (now (a .s)) (a .c) 14 (a .len) (omega arith)) ∙ not-fit (part (now (a .s)) (a .c) 14) (part-length (now (a .s)) (a .c) 14 (omega (arith, c .before .before .before .before .pre .0))) _ (c .before .sum-marks .ensures) (c .if2 .left))
+    unfit (part (now (a .s)) (a .c) (a .len)) (a .len) (part-length (now (a .s)) (a .c) (a .len) (pre .0)) (c .before .before .if1 .left)
+    (ap (flagsFit 1) (part-take (now (a .s)) (a .c) 14 (a .len) (omega arith))
+    ∙ not-fit (part (now (a .s)) (a .c) 14) (part-length (now (a .s)) (a .c) 14 (omega (arith, pre .0))) _ (c .before .sum-marks .ensures) (c .if2 .left))
 
 pub valid-spec : {M : Type 1} → statement M
 valid-spec =

@@ -31,7 +31,11 @@ loop-less : tie.Need-loop-less Inv-loop μ-loop
 loop-less c = omega arith
 
 loop-again : tie.Need-loop-again Inv-loop μ-loop
-loop-again c = (omega arith, clears (now (c .before .before .args .out)) _ _ (omega (arith, c .before .before .pre, c .loop-test .taken)) (c .before .loop .inv .1), length-set (c .before .loop .out) (c .before .loop .i) 0 ∙ c .before .loop .inv .2)
+loop-again c = (
+  omega arith,
+  clears (now (c .before .before .args .out)) _ _ (omega (arith, c .before .before .pre, c .loop-test .taken)) (c .before .loop .inv .1),
+  length-set (c .before .loop .out) (c .before .loop .i) 0 ∙ c .before .loop .inv .2,
+)
 
 same-length : tie.Need-same-length Inv-loop μ-loop
 same-length c = c .before .loop .inv .2

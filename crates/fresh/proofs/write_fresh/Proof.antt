@@ -5,7 +5,7 @@ use mathlib.Core.List.{List}
 use lib.ListN.{set}
 use denote.Ref.{now}
 use Rattle.format.specs.Report.{numbersOf}
-use Rattle.card.proofs.Given.{carded-then}
+use Rattle.card.proofs.Laid.{carded-then}
 use Rattle.fresh.proofs.Five.{five-carded}
 use borrow.Author.Needs.{needs}
 use Rattle.fresh.proofs.write_fresh.Statement.{statement}
@@ -64,21 +64,30 @@ same-length c = search needs
 
 returns : tie.Need-returns
 returns c =
-    let a : ℕ = c .before .before .before .before .before .before .before .before .before .before .before .before .before .before .before .before .before .before .before .before .before .before .before .before .before .before .before .before .before .args .box10 .0 in
-    let b : ℕ = c .before .before .before .before .before .before .before .before .before .before .before .before .before .before .before .before .before .before .before .before .before .before .before .before .before .before .before .before .before .args .year .0 in
-    let m : ℕ = c .before .before .before .before .before .before .before .before .before .before .before .before .before .before .before .before .before .before .before .before .before .before .before .before .before .before .before .before .before .args .month .0 in
-    let x : ℕ = c .before .before .before .before .before .before .before .before .before .before .before .before .before .before .before .before .before .before .before .before .before .before .before .before .before .before .before .before .before .args .x .0 in
-    let z : List ℕ = c .before .before .before .before .before .before .before .before .before .before .before .before .before .before .before .before .before .before .before .before .before .before .before .before .before .before .clear-card .last .0 in
+    let args = c .before .before .before .before .before .before .before .before .before .before .before .before .before .before .before .before .before .before .before .before .before
+    .before .before .before .before .before .before .before .before .args in
+    let clear-card = c .before .before .before .before .before .before .before .before .before .before .before .before .before .before .before .before .before .before .before .before .before
+    .before .before .before .before .before .clear-card in
+    let store = c .before .before .before .before .before .before .before .before .before .before .before .before .before .before .before .before .before .before .before .before .before
+    .before .store in
+    let store2 = c .before .before .before .before .before .before .before .before .before .before .before .before .before .before .before .before .before .before .store2 in
+    let store3 = c .before .before .before .before .before .before .before .before .before .before .before .before .before .before .store3 in
+    let store4 = c .before .before .before .before .before .before .before .before .before .before .store4 in
+    let a : ℕ = args .box10 .0 in
+    let b : ℕ = args .year .0 in
+    let m : ℕ = args .month .0 in
+    let x : ℕ = args .x .0 in
+    let z : List ℕ = clear-card .last .0 in
     let n1 : List ℕ = set (numbersOf z) 1 a in
     let n2 : List ℕ = set n1 2 b in
     let n3 : List ℕ = set n2 3 m in
     let n6 : List ℕ = set n3 6 x in
-    let w2 = carded-then z _ _ n1 2 _ (c .before .before .before .before .before .before .before .before .before .before .before .before .before .before .before .before .before .before .before .before .before .before .store .ensures) (c .before .before .before .before .before .before .before .before .before .before .before .before .before .before .before .before .before .before .store2 .ensures) in
-    let w3 = carded-then z _ _ n2 3 _ w2 (c .before .before .before .before .before .before .before .before .before .before .before .before .before .before .store3 .ensures) in
-    let w6 = carded-then z _ _ n3 6 _ w3 (c .before .before .before .before .before .before .before .before .before .before .store4 .ensures) in
+    let w2 = carded-then z _ _ n1 2 _ (store .ensures) (store2 .ensures) in
+    let w3 = carded-then z _ _ n2 3 _ w2 (store3 .ensures) in
+    let w6 = carded-then z _ _ n3 6 _ w3 (store4 .ensures) in
     let w7 = carded-then z _ _ n6 7 _ w6 (c .before .before .before .before .before .before .store5 .ensures) in
-    five-carded a b m x (c .before .before .before .before .before .before .before .before .before .before .before .before .before .before .before .before .before .before .before .before .before .before .before .before .before .before .before .before .before .args .y .0) (now (c .before .before .before .before .before .before .before .before .before .before .before .before .before .before .before .before .before .before .before .before .before .before .before .before .before .before .before .before .before .args .out)) z _ (c .before .before .before .before .before .before .before .before .before .before .before .before .before .before .before .before .before .before .before .before .before .before .before .before .before .before .clear-card .ensures)
-    (carded-then z _ _ (set n6 7 (c .before .before .before .before .before .before .before .before .before .before .before .before .before .before .before .before .before .before .before .before .before .before .before .before .before .before .before .before .before .args .y .0)) 47 _ w7 (c .before .before .set-checksum .ensures))
+    five-carded a b m x (args .y .0) (now (args .out)) z _ (clear-card .ensures)
+    (carded-then z _ _ (set n6 7 (args .y .0)) 47 _ w7 (c .before .before .set-checksum .ensures))
 
 pub write-fresh-spec : {M : Type 1} → statement M
 write-fresh-spec =

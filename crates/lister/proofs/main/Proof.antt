@@ -1,7 +1,7 @@
 -- `lister::main` meets its contract: what is written stands in the output.
 -- Assumes nothing.
 use borrow.Author.Needs.{needs}
-use Rattle.listing.proofs.Lines.{listed-within, listed-taken}
+use Rattle.lister_lines.proofs.Lines.{listed-within, listed-taken}
 use Rattle.lister.proofs.main.Statement.{statement}
 use Rattle.lister.proofs.main.Tie as tie
 

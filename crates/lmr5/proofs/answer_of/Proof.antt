@@ -4,6 +4,7 @@ use mathlib.Core.Path.{sym, ap, subst, _∙_}
 use Rattle.format.specs.Reply.{answerOf}
 use Rattle.format.specs.declared.Reply.{Reply}
 use Rattle.laws.proofs.Bounds.{AnswerFits}
+use Rattle.script.specs.Labels.{quantityLabel, labels}
 use Rattle.lmr5.specs.Numbered.{numbered}
 use Rattle.lmr5.proofs.Calls.{number-given, count-given}
 use borrow.Author.Needs.{needs}
@@ -31,8 +32,8 @@ given-requires c κs = search needs
 enum-told-2 : tie.Need-enum-told-2
 enum-told-2 c = search needs
 
-missing-requires : tie.Need-missing-requires
-missing-requires c κs = search needs
+given-requires-2 : tie.Need-given-requires-2
+given-requires-2 c κs = search needs
 
 enum-known-r-3 : tie.Need-enum-known-r-3
 enum-known-r-3 c = search needs
@@ -40,14 +41,14 @@ enum-known-r-3 c = search needs
 cast-given : tie.Need-cast-given
 cast-given c = search needs
 
-given-requires-2 : tie.Need-given-requires-2
-given-requires-2 c κs = search needs
+given-requires-3 : tie.Need-given-requires-3
+given-requires-3 c κs = search needs
 
 enum-told-3 : tie.Need-enum-told-3
 enum-told-3 c = search needs
 
-missing-requires-2 : tie.Need-missing-requires-2
-missing-requires-2 c κs = search needs
+given-requires-4 : tie.Need-given-requires-4
+given-requires-4 c κs = search needs
 
 enum-known-r-4 : tie.Need-enum-known-r-4
 enum-known-r-4 c = search needs
@@ -62,18 +63,23 @@ returns-2 : tie.Need-returns-2
 returns-2 c = search needs
 
 returns-3 : tie.Need-returns-3
-returns-3 c = c .given .ensures ∙ number-given _ (search needs) ∙ ap (λ (r : Reply). numbered (answerOf r)) (sym (c .before .before .before .r2 .given .1))
+unfolding labels quantityLabel
+returns-3 c = c .given .ensures ∙ number-given _ _ (search needs) ∙ ap (λ (r : Reply). numbered (answerOf r)) (sym (c .before .before .before .r2 .given .1))
 
 returns-4 : tie.Need-returns-4
-returns-4 c = search needs
+unfolding labels quantityLabel
+returns-4 c = c .given2 .ensures ∙ ap (λ (r : Reply). numbered (answerOf r)) (sym (c .before .enum-told2 .given .1))
 
 returns-5 : tie.Need-returns-5
-returns-5 c = count-given _ _ (search needs) (c .given2 .ensures) ∙ ap (λ (r : Reply). numbered (answerOf r)) (sym (c .before .before .r3 .given .1))
+unfolding labels quantityLabel
+returns-5 c = count-given _ _ _ (search needs) (c .given3 .ensures) ∙ ap (λ (r : Reply). numbered (answerOf r)) (sym (c .before .before .r3 .given .1))
 
 returns-6 : tie.Need-returns-6
-returns-6 c = search needs
+unfolding labels quantityLabel
+returns-6 c = c .given4 .ensures ∙ ap (λ (r : Reply). numbered (answerOf r)) (sym (c .before .enum-told3 .given .1))
 
 returns-7 : tie.Need-returns-7
+unfolding labels quantityLabel
 returns-7 c = c .counted .ensures ∙ ap (λ (r : Reply). numbered (answerOf r)) (sym (c .before .before .r4 .given .1))
 
 pub answer-of-spec : {M : Type 1} → statement M
@@ -87,12 +93,12 @@ answer-of-spec =
     enum-known-r-2
     given-requires
     enum-told-2
-    missing-requires
+    given-requires-2
     enum-known-r-3
     cast-given
-    given-requires-2
+    given-requires-3
     enum-told-3
-    missing-requires-2
+    given-requires-4
     enum-known-r-4
     counted-requires
     returns

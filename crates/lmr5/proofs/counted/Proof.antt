@@ -12,7 +12,7 @@ given-requires : tie.Need-given-requires
 given-requires c κs = search needs
 
 returns : tie.Need-returns
-returns c = count-given _ _ (search needs) (c .given .ensures)
+returns c = count-given _ _ _ (search needs) (c .given .ensures)
 
 pub counted-spec : {M : Type 1} → statement M
 counted-spec = tie.close (tie.spec cast-given given-requires returns)

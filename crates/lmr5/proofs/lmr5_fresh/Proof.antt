@@ -57,13 +57,17 @@ same-length : tie.Need-same-length
 same-length c = search needs
 
 returns : tie.Need-returns
-returns c = wrote-numbered _ _ _ _ (c .before .before .before .before .before .before .fresh .ensures ∙ held (c .before .before .before .before .before .before)) (c .refused .ensures ∙ ap (λ (f : Started). numbered (freshAnswer f)) (sym (c .before .before .f .given .1)))
+returns c =
+    wrote-numbered _ _ _ _ (c .before .before .before .before .before .before .fresh .ensures ∙ held (c .before .before .before .before .before .before))
+    (c .refused .ensures ∙ ap (λ (f : Started). numbered (freshAnswer f)) (sym (c .before .before .f .given .1)))
 
 same-length-2 : tie.Need-same-length-2
 same-length-2 c = search needs
 
 returns-2 : tie.Need-returns-2
-returns-2 c = wrote-numbered _ _ _ _ (c .before .before .before .before .before .fresh .ensures ∙ held (c .before .before .before .before .before)) (c .done .ensures ∙ ap (λ (f : Started). numbered (freshAnswer f)) (sym (c .before .enum-told .given .1)))
+returns-2 c =
+    wrote-numbered _ _ _ _ (c .before .before .before .before .before .fresh .ensures ∙ held (c .before .before .before .before .before))
+    (c .done .ensures ∙ ap (λ (f : Started). numbered (freshAnswer f)) (sym (c .before .enum-told .given .1)))
 
 pub lmr5-fresh-spec : {M : Type 1} → statement M
 lmr5-fresh-spec =

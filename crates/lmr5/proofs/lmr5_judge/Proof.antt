@@ -2,6 +2,7 @@
 -- Assumes nothing.
 use native.Mathlib.Omega.{arith}
 use Rattle.lmr5.proofs.Calls.{judge-numbered}
+use Rattle.script.specs.Labels.{quantityLabel, labels}
 use borrow.Author.Needs.{needs}
 use Rattle.lmr5.proofs.lmr5_judge.Statement.{statement}
 use Rattle.lmr5.proofs.lmr5_judge.Tie as tie
@@ -25,6 +26,7 @@ returns : tie.Need-returns
 returns c = judge-numbered _ _ _ _ (c .before .before .before .before .judge .ensures .0) (c .before .before .j .given .1) (c .refused .ensures)
 
 returns-2 : tie.Need-returns-2
+unfolding labels quantityLabel
 returns-2 c = judge-numbered _ _ _ _ (c .before .before .before .before .judge .ensures .0) (c .before .before .j2 .given .1) (c .counted .ensures)
 
 pub lmr5-judge-spec : {M : Type 1} → statement M

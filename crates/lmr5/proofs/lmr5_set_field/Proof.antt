@@ -5,7 +5,7 @@ use lib.IntN.{ℤ}
 use mir.Syntax.{w64}
 use mir.ValLaws.{toZ-ofZ}
 use Rattle.format.specs.Field.{scaled}
-use Rattle.format.specs.Calls.{setField}
+use Rattle.format.specs.Calls.{edits, setField}
 use Rattle.format.specs.Buffer.{effect}
 use Rattle.lmr5.proofs.Calls.{call-fits, call-numbered}
 use borrow.Author.Needs.{needs}
@@ -22,7 +22,12 @@ same-length : tie.Need-same-length
 same-length c = search needs
 
 returns : tie.Need-returns
-returns c = call-numbered _ _ _ _ _ (c .before .before .before .set-field .ensures ∙ ap (λ (v : ℤ). effect (c .before .before .before .before .before .before .args .report .now) (setField (c .before .before .before .before .before .before .args .field) (scaled v))) (toZ-ofZ w64 (c .before .before .before .before .before .before .args .value) (search needs))) (c .answer-of .ensures)
+returns c =
+    let args = c .before .before .before .before .before .before .args in
+    call-numbered _ _ _ _ _
+    (c .before .before .before .set-field .ensures
+    ∙ ap (λ (v : ℤ). effect (args .report .now) (edits (setField (args .field) (scaled v)))) (toZ-ofZ w64 (args .value) (search needs)))
+    (c .answer-of .ensures)
 
 pub lmr5-set-field-spec : {M : Type 1} → statement M
 lmr5-set-field-spec =

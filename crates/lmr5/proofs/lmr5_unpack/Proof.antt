@@ -31,7 +31,9 @@ same-length-2 : tie.Need-same-length-2
 same-length-2 c = search needs
 
 returns : tie.Need-returns
-returns c = unpack-numbered _ _ _ _ _ _ (rw (c .before .before .u .given .1) at (c .before .before .before .before .before .before .before .unpack .ensures)) (unpack-refused _ _ _ _ _ _ (c .refused .ensures))
+returns c =
+    unpack-numbered _ _ _ _ _ _ (rw (c .before .before .u .given .1) at (c .before .before .before .before .before .before .before .unpack .ensures))
+    (unpack-refused _ _ _ _ _ _ (c .refused .ensures))
 
 same-length-3 : tie.Need-same-length-3
 same-length-3 c = search needs
@@ -40,7 +42,11 @@ same-length-4 : tie.Need-same-length-4
 same-length-4 c = search needs
 
 returns-2 : tie.Need-returns-2
-returns-2 c = unpack-numbered _ _ _ _ _ _ (rw (c .before .before .before .before .u2 .given .1) at (c .before .before .before .before .before .before .before .before .before .unpack .ensures)) (unpack-given (contentsNumbers (c .before .before .before .before .u2 .given .0 .0)) _ _ (c .before .before .before .before .before .before .before .before .before .before .before .before .before .before .args .contents .now) _ _ (c .before .store .ensures) (c .done .ensures))
+returns-2 c =
+    let args = c .before .before .before .before .before .before .before .before .before .before .before .before .before .before .args in
+    let u2 = c .before .before .before .before .u2 in
+    unpack-numbered _ _ _ _ _ _ (rw (u2 .given .1) at (c .before .before .before .before .before .before .before .before .before .unpack .ensures))
+    (unpack-given (contentsNumbers (u2 .given .0 .0)) _ _ (args .contents .now) _ _ (c .before .store .ensures) (c .done .ensures))
 
 pub lmr5-unpack-spec : {M : Type 1} → statement M
 lmr5-unpack-spec =

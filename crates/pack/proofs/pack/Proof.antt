@@ -25,10 +25,18 @@ enum-told : tie.Need-enum-told
 enum-told c = search needs
 
 pack-tail-requires : tie.Need-pack-tail-requires
-pack-tail-requires c κs = record { long = c .before .before .before .before .before .before .if1 .left; inside = bits-inside _ (c .before .before .before .before .before .if2 .left) (c .before .before .before .before .if3 .left); fields = says-passed _ _ _ (c .before .before .before .check-fields .ensures) (c .before .enum-told .given .1) }
+pack-tail-requires c κs =
+    record {
+      long = c .before .before .before .before .before .before .if1 .left;
+      inside = bits-inside _ (c .before .before .before .before .before .if2 .left) (c .before .before .before .before .if3 .left);
+      fields = says-passed _ _ _ (c .before .before .before .check-fields .ensures) (c .before .enum-told .given .1);
+    }
 
 returns-4 : tie.Need-returns-4
-returns-4 c = field-refused _ _ _ _ _ (c .before .before .before .before .before .before .if1 .left) _ _ (bits-inside _ (c .before .before .before .before .before .if2 .left) (c .before .before .before .before .if3 .left)) (says-refused _ _ _ (c .before .before .before .check-fields .ensures) _ _ (c .before .f .given .1))
+returns-4 c =
+    field-refused _ _ _ _ _ (c .before .before .before .before .before .before .if1 .left) _ _
+    (bits-inside _ (c .before .before .before .before .before .if2 .left) (c .before .before .before .before .if3 .left))
+    (says-refused _ _ _ (c .before .before .before .check-fields .ensures) _ _ (c .before .f .given .1))
 
 same-length : tie.Need-same-length
 same-length c = search needs

@@ -9,7 +9,7 @@ use lib.IntN.{ℤ, pos}
 use denote.Ref.{now}
 use mir.Syntax.{w64}
 use mir.ValLaws.{toZ-ofZ}
-use Rattle.write_values.specs.Given.{refusalOf}
+use Rattle.write_values.specs.Lent.{valueRefusal}
 use Rattle.pack.proofs.Checks.{left, field-refused, field-passed, fields-passed}
 use borrow.Author.Needs.{needs}
 use Rattle.pack.proofs.walk_fields.Statement.{statement}
@@ -24,13 +24,13 @@ abbrev μ-loop : tie.MeasureT-loop
 -- the refusal of the field at place i
 found : (c : tie.After-refusal Inv-loop μ-loop)
     → c .refusal .result
-    ≡ refusalOf (c .before .before .before .before .loop .i + 1) (c .before .before .before .before .before .args .word)
+    ≡ valueRefusal (c .before .before .before .before .loop .i + 1) (c .before .before .before .before .before .args .word)
     (getD (now (c .before .before .before .before .before .args .values)) (c .before .before .before .before .loop .i) (pos 0))
 found c =
     let i = c .before .before .before .before .loop .i in
     let v : ℤ = getD (now (c .before .before .before .before .before .args .values)) i (pos 0) in
     c .refusal .ensures
-    ∙ ap (λ (z : ℤ). refusalOf (c .before .before .before .before .loop .i + 1) (c .before .before .before .before .before .args .word) z)
+    ∙ ap (λ (z : ℤ). valueRefusal (c .before .before .before .before .loop .i + 1) (c .before .before .before .before .before .args .word) z)
     (toZ-ofZ w64 v (record { sfits = c .before .refusal-arg .given }))
 
 loop-holds : tie.Need-loop-holds Inv-loop μ-loop
@@ -52,13 +52,26 @@ refusal-requires : tie.Need-refusal-requires Inv-loop μ-loop
 refusal-requires c κs = search needs
 
 returns : tie.Need-returns Inv-loop μ-loop
-returns c = field-refused (now (c .before .before .before .before .before .before .args .values)) (c .before .before .before .before .before .before .args .word) (c .before .before .before .before .before .loop .i) (c .before .refusal .result) (c .before .before .before .before .before .before .pre) (c .before .before .before .before .loop-test .taken) (found (c .before)) (c .if1 .taken) (c .before .before .before .before .before .loop .inv .1)
+returns c =
+    let args = c .before .before .before .before .before .before .args in
+    let pre = c .before .before .before .before .before .before .pre in
+    let loop = c .before .before .before .before .before .loop in
+    let loop-test = c .before .before .before .before .loop-test in
+    field-refused (now (args .values)) (args .word) (loop .i) (c .before .refusal .result) pre (loop-test .taken) (found (c .before)) (c .if1 .taken) (loop .inv .1)
 
 loop-less : tie.Need-loop-less Inv-loop μ-loop
 loop-less c = search needs
 
 loop-again : tie.Need-loop-again Inv-loop μ-loop
-loop-again c = (omega arith, rw add-one (sym (field-passed (now (c .before .before .before .before .before .before .args .values)) (c .before .before .before .before .before .before .args .word) (c .before .before .before .before .before .loop .i) (c .before .refusal .result) (c .before .before .before .before .before .before .pre) (c .before .before .before .before .loop-test .taken) (found (c .before)) (c .if1 .left)) ∙ c .before .before .before .before .before .loop .inv .1))
+loop-again c =
+    let args = c .before .before .before .before .before .before .args in
+    let pre = c .before .before .before .before .before .before .pre in
+    let loop = c .before .before .before .before .before .loop in
+    let loop-test = c .before .before .before .before .loop-test in (
+      omega arith,
+      rw add-one (sym (field-passed (now (args .values)) (args .word) (loop .i) (c .before .refusal .result) pre (loop-test .taken) (found (c .before))
+          (c .if1 .left)) ∙ loop .inv .1),
+    )
 
 returns-2 : tie.Need-returns-2 Inv-loop μ-loop
 returns-2 c = fields-passed (now (c .before .before .args .values)) (c .before .before .args .word) (c .before .loop .i) (omega arith) (c .before .loop .inv .1)

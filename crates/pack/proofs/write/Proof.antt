@@ -15,22 +15,52 @@ add-size : tie.Need-add-size
 add-size c = search needs
 
 returns : tie.Need-returns
-returns c = short-out (now (c .before .before .before .args .values)) (c .before .before .before .args .word) (c .before .before .before .args .rptin) (now (c .before .before .before .args .tail)) (now (c .before .before .before .args .out)) (c .before .before .before .pre .0) (c .if1 .taken)
+returns c =
+    short-out (now (c .before .before .before .args .values)) (c .before .before .before .args .word) (c .before .before .before .args .rptin)
+    (now (c .before .before .before .args .tail)) (now (c .before .before .before .args .out)) (c .before .before .before .pre .0) (c .if1 .taken)
 
 lay-requires : tie.Need-lay-requires
-lay-requires c κs = let f = few (now (c .before .before .before .before .args .values)) (c .before .before .before .before .args .word) (c .before .before .before .before .args .rptin) (now (c .before .before .before .before .args .tail)) (now (c .before .before .before .before .args .out)) (c .before .before .before .before .pre .0) in (omega (arith, c .before .if1 .left), omega (arith, f .1), all-nibbles _ (c .before .before .before .before .pre .0 .nibbles))
+lay-requires c κs =
+    let args = c .before .before .before .before .args in
+    let pre = c .before .before .before .before .pre in
+    let f = few (now (args .values)) (args .word) (args .rptin) (now (args .tail)) (now (args .out)) (pre .0) in
+    (omega (arith, c .before .if1 .left), omega (arith, f .1), all-nibbles _ (pre .0 .nibbles))
 
 pad-requires : tie.Need-pad-requires
-pad-requires c κs = let f = few (now (c .before .before .before .before .before .before .before .before .args .values)) (c .before .before .before .before .before .before .before .before .args .word) (c .before .before .before .before .before .before .before .before .args .rptin) (now (c .before .before .before .before .before .before .before .before .args .tail)) (now (c .before .before .before .before .before .before .before .before .args .out)) (c .before .before .before .before .before .before .before .before .pre .0) in (omega (arith, c .before .before .before .before .before .if1 .left, c .before .before .before .lay .ensures .1), omega (arith, f .1))
+pad-requires c κs =
+    let args = c .before .before .before .before .before .before .before .before .args in
+    let f =
+    few (now (args .values)) (args .word) (args .rptin) (now (args .tail)) (now (args .out)) (c .before .before .before .before .before .before .before .before .pre .0) in
+    (omega (arith, c .before .before .before .before .before .if1 .left, c .before .before .before .lay .ensures .1), omega (arith, f .1))
 
 write-requires : tie.Need-write-requires
-write-requires c κs = let f = few (now (c .before .before .before .before .before .before .before .before .before .before .before .before .args .values)) (c .before .before .before .before .before .before .before .before .before .before .before .before .args .word) (c .before .before .before .before .before .before .before .before .before .before .before .before .args .rptin) (now (c .before .before .before .before .before .before .before .before .before .before .before .before .args .tail)) (now (c .before .before .before .before .before .before .before .before .before .before .before .before .args .out)) (c .before .before .before .before .before .before .before .before .before .before .before .before .pre .0) in (omega (arith, c .before .before .before .before .before .before .before .before .before .if1 .left, c .before .before .before .before .before .before .before .lay .ensures .1, c .before .before .before .pad .ensures .1), omega (arith, f .0, c .before .before .before .before .before .before .before .before .before .before .before .before .pre .1), record { many = c .before .before .before .before .before .before .before .before .before .before .before .before .pre .0 .passed .long; fair = c .before .before .before .before .before .before .before .before .before .before .before .before .pre .0 .passed .fields })
+write-requires c κs =
+    let args = c .before .before .before .before .before .before .before .before .before .before .before .before .args in
+    let pre = c .before .before .before .before .before .before .before .before .before .before .before .before .pre in
+    let f = few (now (args .values)) (args .word) (args .rptin) (now (args .tail)) (now (args .out)) (pre .0) in (
+      omega (
+        arith,
+        c .before .before .before .before .before .before .before .before .before .if1 .left,
+        c .before .before .before .before .before .before .before .lay .ensures .1,
+        c .before .before .before .pad .ensures .1,
+      ),
+      omega (arith, f .0, pre .1),
+      record { many = pre .0 .passed .long; fair = pre .0 .passed .fields },
+    )
 
 same-length : tie.Need-same-length
 same-length c = search needs
 
 returns-2 : tie.Need-returns-2
-returns-2 c = written (now (c .before .before .before .before .before .before .before .before .before .before .before .before .before .before .before .args .values)) (c .before .before .before .before .before .before .before .before .before .before .before .before .before .before .before .args .word) (c .before .before .before .before .before .before .before .before .before .before .before .before .before .before .before .args .rptin) (now (c .before .before .before .before .before .before .before .before .before .before .before .before .before .before .before .args .tail)) (now (c .before .before .before .before .before .before .before .before .before .before .before .before .before .before .before .args .out)) (c .before .before .before .before .before .before .before .before .before .before .before .before .before .before .before .pre .0) (c .before .before .before .before .before .before .before .before .before .before .lay .last .0) (c .before .before .before .before .before .before .pad .last .0) (c .before .before .write .last .0) (c .before .before .before .before .before .before .before .before .before .before .before .before .before .before .before .args .count) (c .before .before .before .before .before .before .before .before .before .before .before .before .if1 .left) (λ i. omega (arith, c .slice-known4 .given i)) (c .before .before .before .before .before .before .before .before .before .before .before .before .before .before .before .pre .1) (c .before .before .before .before .before .before .before .before .before .before .lay .ensures .0) (c .before .before .before .before .before .before .before .before .before .before .lay .ensures .1) (c .before .before .before .before .before .before .pad .ensures .0) (c .before .before .before .before .before .before .pad .ensures .1) (c .before .before .write .ensures)
+returns-2 c =
+    let args = c .before .before .before .before .before .before .before .before .before .before .before .before .before .before .before .args in
+    let pre = c .before .before .before .before .before .before .before .before .before .before .before .before .before .before .before .pre in
+    let if1 = c .before .before .before .before .before .before .before .before .before .before .before .before .if1 in
+    let lay = c .before .before .before .before .before .before .before .before .before .before .lay in
+    let pad = c .before .before .before .before .before .before .pad in
+    written (now (args .values)) (args .word) (args .rptin) (now (args .tail)) (now (args .out)) (pre .0) (lay .last .0) (pad .last .0)
+    (c .before .before .write .last .0) (args .count) (if1 .left) (λ i. omega (arith, c .slice-known4 .given i)) (pre .1) (lay .ensures .0) (lay .ensures .1)
+    (pad .ensures .0) (pad .ensures .1) (c .before .before .write .ensures)
 
 pub write-spec : {M : Type 1} → statement M
 write-spec =

@@ -1,7 +1,7 @@
 -- `read_values::show` meets its contract: the runs are all fields.
 -- Assumes nothing.
-use Rattle.card.proofs.Runs.{ran-then}
-use Rattle.read_values.proofs.Shown.{shown-all}
+use Rattle.card.proofs.Runs.{both-then}
+use Rattle.read_values.proofs.Values.{read-all}
 use borrow.Author.Needs.{needs}
 use Rattle.read_values.proofs.show.Statement.{statement}
 use Rattle.read_values.proofs.show.Tie as tie
@@ -23,10 +23,11 @@ same-length c = search needs
 
 returns : tie.Need-returns
 returns c =
+    let pre = c .before .before .before .before .before .before .before .before .before .before .before .before .before .pre in
     let r1 = c .before .before .before .before .before .before .before .before .before .before .show-1-to-15 .ensures in
-    let r2 = ran-then r1 (c .before .before .before .before .before .before .before .show-16-to-30 .ensures) in
-    let r3 = ran-then r2 (c .before .before .before .before .show-31-to-45 .ensures) in
-    shown-all _ _ _ _ (c .before .before .before .before .before .before .before .before .before .before .before .before .before .pre .1) (ran-then r3 (c .before .show-field .ensures))
+    let r2 = both-then r1 (c .before .before .before .before .before .before .before .show-16-to-30 .ensures) in
+    let r3 = both-then r2 (c .before .before .before .before .show-31-to-45 .ensures) in
+    read-all _ _ _ _ (pre .1) (both-then r3 (c .before .show-field .ensures))
 
 pub show-spec : {M : Type 1} → statement M
 show-spec =

@@ -1,6 +1,6 @@
 -- `read_values::show_1_to_15` meets its contract: one run after the other.
 -- Assumes nothing.
-use Rattle.card.proofs.Runs.{ran-then}
+use Rattle.card.proofs.Runs.{both-then}
 use borrow.Author.Needs.{needs}
 use Rattle.read_values.proofs.show_1_to_15.Statement.{statement}
 use Rattle.read_values.proofs.show_1_to_15.Tie as tie
@@ -22,11 +22,12 @@ show-three-requires-5 c κs = search needs
 
 returns : tie.Need-returns
 returns c =
+    let show-three2 = c .before .before .before .before .before .before .before .before .before .before .show-three2 in
     let r1 = c .before .before .before .before .before .before .before .before .before .before .before .before .before .show-three .ensures in
-    let r2 = ran-then r1 (c .before .before .before .before .before .before .before .before .before .before .show-three2 .ensures) in
-    let r3 = ran-then r2 (c .before .before .before .before .before .before .before .show-three3 .ensures) in
-    let r4 = ran-then r3 (c .before .before .before .before .show-three4 .ensures) in
-    ran-then r4 (c .before .show-three5 .ensures)
+    let r2 = both-then r1 (show-three2 .ensures) in
+    let r3 = both-then r2 (c .before .before .before .before .before .before .before .show-three3 .ensures) in
+    let r4 = both-then r3 (c .before .before .before .before .show-three4 .ensures) in
+    both-then r4 (c .before .show-three5 .ensures)
 
 same-length : tie.Need-same-length
 same-length c = returns c .long

@@ -6,7 +6,7 @@ use denote.Ref.{now}
 use mir.Syntax.{w64}
 use mir.Val.{toZ, ofZ}
 use Rattle.card.proofs.Rows.{row-here, row-window}
-use Rattle.read_values.proofs.Shown.{bit-here, bit-small, shown-one}
+use Rattle.read_values.proofs.Values.{bit-here, bit-small, read-one}
 use borrow.Author.Needs.{needs}
 use Rattle.read_values.proofs.show_field.Statement.{statement}
 use Rattle.read_values.proofs.show_field.Tie as tie
@@ -36,14 +36,16 @@ presence-bit-requires c κs = search needs
 
 add-result : tie.Need-add-result
 add-result c =
+    let code-in = c .before .before .code-in in
     let st = c .before .before .before .before in
-    let e = bit-here (now (st .args .s)) (st .args .i) (st .args .row) (c .before .before .code-in .result) (st .pre .3) (c .before .before .code-in .ensures) (c .presence-bit .result) (c .presence-bit .ensures) in
+    let e = bit-here (now (st .args .s)) (st .args .i) (st .args .row) (code-in .result) (st .pre .3) (code-in .ensures) (c .presence-bit .result)
+    (c .presence-bit .ensures) in
     record { fits = omega (arith, st .pre .2, e, bit-small (now (st .args .s)) (st .args .i) (st .pre .3 .place)) }
 
 returns : tie.Need-returns
 returns c =
     let st = c .before .before .before .before in
-    shown-one (now (st .args .s)) (st .args .i) (st .args .row) (c .before .before .code-in .result) (st .pre .3) (c .before .before .code-in .ensures) (now (st .args .out)) _ (st .args .word)
+    read-one (now (st .args .s)) (st .args .i) (st .args .row) (c .before .before .code-in .result) (st .pre .3) (c .before .before .code-in .ensures) (now (st .args .out)) _ (st .args .word)
     (c .presence-bit .result) (held (c .before) ∙ c .before .value-or-zero .ensures) (c .presence-bit .ensures)
 
 same-length : tie.Need-same-length

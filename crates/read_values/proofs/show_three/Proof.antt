@@ -1,6 +1,6 @@
 -- `read_values::show_three` meets its contract: one field after the other.
 -- Assumes nothing.
-use Rattle.card.proofs.Runs.{ran-then}
+use Rattle.card.proofs.Runs.{both-then}
 use borrow.Author.Needs.{needs}
 use Rattle.read_values.proofs.show_three.Statement.{statement}
 use Rattle.read_values.proofs.show_three.Tie as tie
@@ -23,8 +23,8 @@ show-field-requires-3 c κs = search needs
 returns : tie.Need-returns
 returns c =
     let r1 = c .before .before .before .before .before .before .before .show-field .ensures in
-    let r2 = ran-then r1 (c .before .before .before .before .show-field2 .ensures) in
-    ran-then r2 (c .before .show-field3 .ensures)
+    let r2 = both-then r1 (c .before .before .before .before .show-field2 .ensures) in
+    both-then r2 (c .before .show-field3 .ensures)
 
 same-length : tie.Need-same-length
 same-length c = returns c .long

@@ -19,7 +19,9 @@ shared-slice-read-if2 : tie.Need-shared-slice-read-if2
 shared-slice-read-if2 c = let p = c .before .before .front .ensures .passes (c .before .if1 .left) in omega (arith, p .long)
 
 returns-2 : tie.Need-returns-2
-returns-2 c = card-alone _ _ (c .before .before .before .front .ensures .passes (c .before .before .if1 .left)) (λ i. c .before .before .before .before .shared-slice-known .given i .fits) (c .if2 .taken)
+returns-2 c =
+    card-alone _ _ (c .before .before .before .front .ensures .passes (c .before .before .if1 .left))
+    (λ i. c .before .before .before .before .shared-slice-known .given i .fits) (c .if2 .taken)
 
 inspect-tail-requires : tie.Need-inspect-tail-requires
 inspect-tail-requires c κs = c .before .before .before .front .ensures .passes (c .before .before .if1 .left)

@@ -34,7 +34,9 @@ last-requires c κs =
     (omega (arith, end, within .0), omega (arith, end, within .1))
 
 returns : tie.Need-returns
-returns c = attachment-refused _ _ (c .before .before .before .before .before .before .pre) _ _ (tail-refused _ _ _ _ (c .before .before .before .before .count .ensures .0) (c .before .before .before .walk .ensures) _ _ (c .before .w .given .1))
+returns c =
+    attachment-refused _ _ (c .before .before .before .before .before .before .pre) _ _
+    (tail-refused _ _ _ _ (c .before .before .before .before .count .ensures .0) (c .before .before .before .walk .ensures) _ _ (c .before .w .given .1))
 
 returns-2 : tie.Need-returns-2
 returns-2 c =

@@ -24,8 +24,9 @@ shared-slice-read-if2 c = let p = c .before .before .front .ensures .passes (c .
 
 returns-2 : tie.Need-returns-2
 returns-2 c =
-    let e = judged-fine _ 0 _ (card-alone _ _ (c .before .before .before .front .ensures .passes (c .before .before .if1 .left)) (λ i. c .before .before .before .before .shared-slice-known .given i .fits) (c .if2 .taken)) _ refl in
-    (e, sizes _ (λ i. c .before .before .before .before .shared-slice-known .given i .fits) _ e)
+    let shared-slice-known = c .before .before .before .before .shared-slice-known in
+    let e = judged-fine _ 0 _ (card-alone _ _ (c .before .before .before .front .ensures .passes (c .before .before .if1 .left)) (λ i. shared-slice-known .given i .fits) (c .if2 .taken)) _ refl in
+    (e, sizes _ (λ i. shared-slice-known .given i .fits) _ e)
 
 inspect-tail-requires : tie.Need-inspect-tail-requires
 inspect-tail-requires c κs = c .before .before .before .front .ensures .passes (c .before .before .if1 .left)
@@ -46,8 +47,9 @@ returns-3 c =
 
 returns-4 : tie.Need-returns-4
 returns-4 c =
+    let shared-slice-known = c .before .before .before .before .before .before .before .before .before .before .shared-slice-known in
     let e = judged-fine _ _ _ (c .before .before .before .before .before .inspect-tail .ensures) _ (c .before .before .before .i2 .given .1) in
-    (e, sizes _ (λ i. c .before .before .before .before .before .before .before .before .before .before .shared-slice-known .given i .fits) _ e)
+    (e, sizes _ (λ i. shared-slice-known .given i .fits) _ e)
 
 pub judge-spec : {M : Type 1} → statement M
 judge-spec =

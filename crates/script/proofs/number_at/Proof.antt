@@ -38,7 +38,10 @@ loop-less : tie.Need-loop-less Inv-loop μ-loop
 loop-less c = search needs
 
 loop-again : tie.Need-loop-again Inv-loop μ-loop
-loop-again c = (read-more _ _ _ _ (c .before .before .before .loop .inv .0) _ (c .before .before .before .loop .inv .1) (c .before .before .loop-test .taken) (c .wide .ensures .0) (c .wide .ensures .1), c .before .before .before .loop .inv .1)
+loop-again c = (
+  read-more _ _ _ _ (c .before .before .before .loop .inv .0) _ (c .before .before .before .loop .inv .1) (c .before .before .loop-test .taken) (c .wide .ensures .0) (c .wide .ensures .1),
+  c .before .before .before .loop .inv .1,
+)
 
 returns : tie.Need-returns Inv-loop μ-loop
 returns c = read-end _ _ _ _ (c .before .loop .inv .0) (c .loop-test .left)

@@ -18,17 +18,17 @@ part-put-number-end c = search needs
 put-number-requires : tie.Need-put-number-requires
 put-number-requires c κs = search needs
 
-slice-write-log : tie.Need-slice-write-log
-slice-write-log c = search needs
+slice-write-to : tie.Need-slice-write-to
+slice-write-to c = search needs
 
-slice-write-log-2 : tie.Need-slice-write-log-2
-slice-write-log-2 c = simp length-set (search needs)
+slice-write-to-2 : tie.Need-slice-write-to-2
+slice-write-to-2 c = simp length-set (search needs)
 
 same-length : tie.Need-same-length
 same-length c = search needs
 
 returns : tie.Need-returns
-returns c = head-set (c .before .before .before .before .before .args .log .now) _ _ _ _ (c .before .before .before .before .before .pre) (c .before .before .put-number .ensures)
+returns c = head-set (c .before .before .before .before .before .args .to .now) _ _ _ _ (c .before .before .before .before .before .pre) (c .before .before .put-number .ensures)
 
 pub put-head-spec : {M : Type 1} → statement M
 put-head-spec =
@@ -38,7 +38,7 @@ put-head-spec =
     part-put-number-start
     part-put-number-end
     put-number-requires
-    slice-write-log
-    slice-write-log-2
+    slice-write-to
+    slice-write-to-2
     same-length
     returns)

@@ -51,19 +51,24 @@ returns-4 : tie.Need-returns-4
 returns-4 c =
     let a = c .before .before .before .before .before .before .before .before .before .args in
     let h = ltb-true (a .c .at + a .al - 1) (length (view (a .c .packed) (now (a .s)))) (sym (c .before .before .before .inside .ensures) ∙ c .before .before .if4 .taken) in
-    judged-body (now (a .s)) (a .c) (a .al) (a .id) (a .mask) (c .before .before .before .before .before .before .if1 .left) (c .before .before .before .before .before .if2 .left) (ne-eqb _ _ (c .before .before .before .before .if3 .left)) true (omega (arith, from-length (now (a .s)) (a .c))) (sym (c .if5 .taken) ∙ c .before .body-valid .ensures)
+    judged-body (now (a .s)) (a .c) (a .al) (a .id) (a .mask) (c .before .before .before .before .before .before .if1 .left)
+    (c .before .before .before .before .before .if2 .left) (ne-eqb _ _ (c .before .before .before .before .if3 .left)) true
+    (omega (arith, from-length (now (a .s)) (a .c))) (sym (c .if5 .taken) ∙ c .before .body-valid .ensures)
 
 returns-5 : tie.Need-returns-5
 returns-5 c =
     let a = c .before .before .before .before .before .before .before .before .before .args in
     let h = ltb-true (a .c .at + a .al - 1) (length (view (a .c .packed) (now (a .s)))) (sym (c .before .before .before .inside .ensures) ∙ c .before .before .if4 .taken) in
-    judged-body (now (a .s)) (a .c) (a .al) (a .id) (a .mask) (c .before .before .before .before .before .before .if1 .left) (c .before .before .before .before .before .if2 .left) (ne-eqb _ _ (c .before .before .before .before .if3 .left)) false (omega (arith, from-length (now (a .s)) (a .c))) (sym (c .if5 .left) ∙ c .before .body-valid .ensures)
+    judged-body (now (a .s)) (a .c) (a .al) (a .id) (a .mask) (c .before .before .before .before .before .before .if1 .left)
+    (c .before .before .before .before .before .if2 .left) (ne-eqb _ _ (c .before .before .before .before .if3 .left)) false
+    (omega (arith, from-length (now (a .s)) (a .c))) (sym (c .if5 .left) ∙ c .before .body-valid .ensures)
 
 returns-6 : tie.Need-returns-6
 returns-6 c =
     let a = c .before .before .before .before .before .before .before .args in
     let h = ltb-false (a .c .at + a .al - 1) (length (view (a .c .packed) (now (a .s)))) (sym (c .before .inside .ensures) ∙ c .if4 .left) in
-    long-data (now (a .s)) (a .c) (a .al) (a .id) (a .mask) (c .before .before .before .before .if1 .left) (c .before .before .before .if2 .left) (ne-eqb _ _ (c .before .before .if3 .left)) (omega (arith, from-length (now (a .s)) (a .c)))
+    long-data (now (a .s)) (a .c) (a .al) (a .id) (a .mask) (c .before .before .before .before .if1 .left) (c .before .before .before .if2 .left)
+    (ne-eqb _ _ (c .before .before .if3 .left)) (omega (arith, from-length (now (a .s)) (a .c)))
 
 pub judged-spec : {M : Type 1} → statement M
 judged-spec =

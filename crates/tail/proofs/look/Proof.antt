@@ -9,7 +9,9 @@ use Rattle.tail.proofs.Checks.{look-short, look-judged}
 use Rattle.tail.proofs.look.Statement.{statement}
 use Rattle.tail.proofs.look.Tie as tie
 
-head : (c : tie.After-known-told) → IsHead (now (c .before .before .before .before .before .args .s)) (c .before .before .before .before .before .args .c) (c .before .h .given .0 .0) (c .before .h .given .0 .1 .0) (c .before .h .given .0 .1 .1 .0)
+head : (c : tie.After-known-told)
+    → IsHead (now (c .before .before .before .before .before .args .s)) (c .before .before .before .before .before .args .c) (c .before .h .given .0 .0)
+    (c .before .h .given .0 .1 .0) (c .before .h .given .0 .1 .1 .0)
 head c = is-head _ _ _ _ _ (sym (c .before .before .before .header .ensures) ∙ c .before .h .given .1)
 
 header-requires : tie.Need-header-requires

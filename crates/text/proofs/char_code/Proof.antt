@@ -66,7 +66,11 @@ returns-11 : tie.Need-returns-11
 returns-11 c = code-s-z _ (c .before .if5 .left) (c .if6 .taken)
 
 returns-12 : tie.Need-returns-12
-returns-12 c = ⊎-elim (λ w. code-other _ (c .before .match .rest) (under 48 57 _ 47 (w .taken) (lit≤ tt)) (under 65 90 _ 47 (w .taken) (lit≤ tt))) (⊎-elim (λ w. code-other _ (c .before .match .rest) (beyond 48 57 _ (w .1 .left)) (under 65 90 _ 65 (w .2 .taken) (lit≤ tt))) (λ w. code-other _ (c .before .match .rest) (beyond 48 57 _ (w .1 .left)) (beyond 65 90 _ (w .5 .left)))) (c .if1 .came)
+returns-12 c =
+    ⊎-elim (λ w. code-other _ (c .before .match .rest) (under 48 57 _ 47 (w .taken) (lit≤ tt)) (under 65 90 _ 47 (w .taken) (lit≤ tt)))
+    (⊎-elim (λ w. code-other _ (c .before .match .rest) (beyond 48 57 _ (w .1 .left)) (under 65 90 _ 65 (w .2 .taken) (lit≤ tt)))
+    (λ w. code-other _ (c .before .match .rest) (beyond 48 57 _ (w .1 .left)) (beyond 65 90 _ (w .5 .left))))
+    (c .if1 .came)
 
 pub char-code-spec : {M : Type 1} → statement M
 char-code-spec =

@@ -18,13 +18,17 @@ coded-requires : tie.Need-coded-requires
 coded-requires c κs = search needs
 
 returns : tie.Need-returns
-returns c = c .coded .ensures ∙ code-digit (view (c .before .before .before .before .args .packed) (c .before .before .before .before .args .s .now)) (c .before .before .before .before .args .at) _ (c .before .before .nibble-at .ensures) (c .before .if1 .taken)
+returns c =
+    let args = c .before .before .before .before .args in
+    c .coded .ensures ∙ code-digit (view (args .packed) (args .s .now)) (args .at) _ (c .before .before .nibble-at .ensures) (c .before .if1 .taken)
 
 coded-requires-2 : tie.Need-coded-requires-2
 coded-requires-2 c κs = search needs
 
 returns-2 : tie.Need-returns-2
-returns-2 c = c .coded2 .ensures ∙ code-space (view (c .before .before .before .before .before .args .packed) (c .before .before .before .before .before .args .s .now)) (c .before .before .before .before .before .args .at) _ (c .before .before .before .nibble-at .ensures) (c .before .if2 .taken)
+returns-2 c =
+    let args = c .before .before .before .before .before .args in
+    c .coded2 .ensures ∙ code-space (view (args .packed) (args .s .now)) (args .at) _ (c .before .before .before .nibble-at .ensures) (c .before .if2 .taken)
 
 add-nibble-at : tie.Need-add-nibble-at
 add-nibble-at c = search needs
@@ -42,7 +46,11 @@ coded-requires-3 : tie.Need-coded-requires-3
 coded-requires-3 c κs = search needs
 
 returns-3 : tie.Need-returns-3
-returns-3 c = c .coded3 .ensures ∙ code-run (view (c .before .before .before .before .before .before .before .args .packed) (c .before .before .before .before .before .before .before .args .s .now)) (c .before .before .before .before .before .before .before .args .at) _ (c .before .before .before .before .before .nibble-at .ensures) (c .before .before .before .before .if1 .left) (c .before .before .before .if2 .left) _ (c .before .before .nibble-at2 .ensures) (c .before .if3 .taken)
+returns-3 c =
+    let args = c .before .before .before .before .before .before .before .args in
+    c .coded3 .ensures
+    ∙ code-run (view (args .packed) (args .s .now)) (args .at) _ (c .before .before .before .before .before .nibble-at .ensures)
+    (c .before .before .before .before .if1 .left) (c .before .before .before .if2 .left) _ (c .before .before .nibble-at2 .ensures) (c .before .if3 .taken)
 
 pair-byte-requires : tie.Need-pair-byte-requires
 pair-byte-requires c κs = search needs
@@ -51,25 +59,52 @@ coded-requires-4 : tie.Need-coded-requires-4
 coded-requires-4 c κs = search needs
 
 returns-4 : tie.Need-returns-4
-returns-4 c = c .coded4 .ensures ∙ code-pair (view (c .before .before .before .before .before .before .before .before .before .args .packed) (c .before .before .before .before .before .before .before .before .before .args .s .now)) (c .before .before .before .before .before .before .before .before .before .args .at) _ (c .before .before .before .before .before .before .before .nibble-at .ensures) (c .before .before .before .before .before .before .if1 .left) (c .before .before .before .before .before .if2 .left) _ (c .before .before .before .before .nibble-at2 .ensures) (c .before .before .before .if3 .left) (c .before .before .if4 .taken) _ (c .before .pair-byte .ensures)
+returns-4 c =
+    let args = c .before .before .before .before .before .before .before .before .before .args in
+    c .coded4 .ensures
+    ∙ code-pair (view (args .packed) (args .s .now)) (args .at) _ (c .before .before .before .before .before .before .before .nibble-at .ensures)
+    (c .before .before .before .before .before .before .if1 .left) (c .before .before .before .before .before .if2 .left) _
+    (c .before .before .before .before .nibble-at2 .ensures) (c .before .before .before .if3 .left) (c .before .before .if4 .taken) _ (c .before .pair-byte .ensures)
 
 add-nibble-at-2 : tie.Need-add-nibble-at-2
 add-nibble-at-2 c = search needs
 
 nibble-at-requires-3 : tie.Need-nibble-at-requires-3
-nibble-at-requires-3 c κs = third-inside _ _ _ (c .before .before .before .before .before .nibble-at .ensures) (c .before .before .before .before .if1 .left) (c .before .before .before .if2 .left) _ (c .before .before .nibble-at2 .ensures) (c .before .if3 .left) (c .if4 .left) (c .before .before .before .before .before .before .before .pre .0)
+nibble-at-requires-3 c κs =
+    third-inside _ _ _ (c .before .before .before .before .before .nibble-at .ensures) (c .before .before .before .before .if1 .left)
+    (c .before .before .before .if2 .left) _ (c .before .before .nibble-at2 .ensures) (c .before .if3 .left) (c .if4 .left)
+    (c .before .before .before .before .before .before .before .pre .0)
 
 mul-coded : tie.Need-mul-coded
-mul-coded c = omega (arith, escape-byte (view (c .before .before .before .before .before .before .before .before .args .packed) (c .before .before .before .before .before .before .before .before .args .s .now)) (c .before .before .before .before .before .before .before .before .args .at) _ (c .before .before .before .before .before .before .nibble-at .ensures) (c .before .before .before .before .before .if1 .left) (c .before .before .before .before .if2 .left) _ (c .before .before .before .nibble-at2 .ensures) (c .before .before .if3 .left) (c .before .if4 .left) _ (c .nibble-at3 .ensures) (c .before .before .before .before .before .before .before .before .pre .0))
+mul-coded c =
+    let args = c .before .before .before .before .before .before .before .before .args in
+    omega (
+      arith,
+      escape-byte (view (args .packed) (args .s .now)) (args .at) _ (c .before .before .before .before .before .before .nibble-at .ensures)
+          (c .before .before .before .before .before .if1 .left) (c .before .before .before .before .if2 .left) _ (c .before .before .before .nibble-at2 .ensures)
+          (c .before .before .if3 .left) (c .before .if4 .left) _ (c .nibble-at3 .ensures) (c .before .before .before .before .before .before .before .before .pre .0),
+    )
 
 add-coded-3 : tie.Need-add-coded-3
-add-coded-3 c = omega (arith, escape-byte (view (c .before .before .before .before .before .before .before .before .args .packed) (c .before .before .before .before .before .before .before .before .args .s .now)) (c .before .before .before .before .before .before .before .before .args .at) _ (c .before .before .before .before .before .before .nibble-at .ensures) (c .before .before .before .before .before .if1 .left) (c .before .before .before .before .if2 .left) _ (c .before .before .before .nibble-at2 .ensures) (c .before .before .if3 .left) (c .before .if4 .left) _ (c .nibble-at3 .ensures) (c .before .before .before .before .before .before .before .before .pre .0))
+add-coded-3 c =
+    let args = c .before .before .before .before .before .before .before .before .args in
+    omega (
+      arith,
+      escape-byte (view (args .packed) (args .s .now)) (args .at) _ (c .before .before .before .before .before .before .nibble-at .ensures)
+          (c .before .before .before .before .before .if1 .left) (c .before .before .before .before .if2 .left) _ (c .before .before .before .nibble-at2 .ensures)
+          (c .before .before .if3 .left) (c .before .if4 .left) _ (c .nibble-at3 .ensures) (c .before .before .before .before .before .before .before .before .pre .0),
+    )
 
 coded-requires-5 : tie.Need-coded-requires-5
 coded-requires-5 c κs = search needs
 
 returns-5 : tie.Need-returns-5
-returns-5 c = c .coded5 .ensures ∙ code-escape (view (c .before .before .before .before .before .before .before .before .before .args .packed) (c .before .before .before .before .before .before .before .before .before .args .s .now)) (c .before .before .before .before .before .before .before .before .before .args .at) _ (c .before .before .before .before .before .before .before .nibble-at .ensures) (c .before .before .before .before .before .before .if1 .left) (c .before .before .before .before .before .if2 .left) _ (c .before .before .before .before .nibble-at2 .ensures) (c .before .before .before .if3 .left) (c .before .before .if4 .left) _ (c .before .nibble-at3 .ensures)
+returns-5 c =
+    let args = c .before .before .before .before .before .before .before .before .before .args in
+    c .coded5 .ensures
+    ∙ code-escape (view (args .packed) (args .s .now)) (args .at) _ (c .before .before .before .before .before .before .before .nibble-at .ensures)
+    (c .before .before .before .before .before .before .if1 .left) (c .before .before .before .before .before .if2 .left) _
+    (c .before .before .before .before .nibble-at2 .ensures) (c .before .before .before .if3 .left) (c .before .before .if4 .left) _ (c .before .nibble-at3 .ensures)
 
 pub code-at-spec : {M : Type 1} → statement M
 code-at-spec =

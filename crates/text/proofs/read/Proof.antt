@@ -26,25 +26,63 @@ code-at-requires : tie.Need-code-at-requires Inv-loop μ-loop
 code-at-requires c κs = (code-begins _ _ _ (c .before .before .before .before .pre .4) (c .before .before .before .before .pre .0) _ _ (c .before .loop .inv .0) (c .loop-test .taken), omega arith)
 
 put-bytes-requires : tie.Need-put-bytes-requires Inv-loop μ-loop
-put-bytes-requires c κs = omega (arith, code-fits _ _ _ (c .before .before .before .before .before .before .pre .4) (c .before .before .before .before .before .before .pre .0) _ _ (c .before .before .before .loop .inv .0) (c .before .before .loop-test .taken) _ (c .before .code-at .ensures), c .before .before .before .before .before .before .pre .3, laid-room _ _ _ _ _ (c .before .before .before .loop .inv .1))
+put-bytes-requires c κs =
+    let pre = c .before .before .before .before .before .before .pre in
+    omega (
+      arith,
+      code-fits _ _ _ (pre .4) (pre .0) _ _ (c .before .before .before .loop .inv .0) (c .before .before .loop-test .taken) _ (c .before .code-at .ensures),
+      pre .3,
+      laid-room _ _ _ _ _ (c .before .before .before .loop .inv .1),
+    )
 
 add-count : tie.Need-add-count Inv-loop μ-loop
-add-count c = omega (arith, code-small _ _ _ (c .before .before .before .before .before .before .before .before .before .before .pre .4) (c .before .before .before .before .before .before .before .before .before .before .pre .0) _ _ (c .before .before .before .before .before .before .before .loop .inv .0) (c .before .before .before .before .before .before .loop-test .taken) _ (c .before .before .before .before .before .code-at .ensures))
+add-count c =
+    let pre = c .before .before .before .before .before .before .before .before .before .before .pre in
+    omega (
+      arith,
+      code-small _ _ _ (pre .4) (pre .0) _ _ (c .before .before .before .before .before .before .before .loop .inv .0)
+          (c .before .before .before .before .before .before .loop-test .taken) _ (c .before .before .before .before .before .code-at .ensures),
+    )
 
 add-i : tie.Need-add-i Inv-loop μ-loop
-add-i c = omega (arith, code-inside _ _ _ (c .before .before .before .before .before .before .before .before .before .before .before .pre .4) (c .before .before .before .before .before .before .before .before .before .before .before .pre .0) _ _ (c .before .before .before .before .before .before .before .before .loop .inv .0) (c .before .before .before .before .before .before .before .loop-test .taken) _ (c .before .before .before .before .before .before .code-at .ensures) .1)
+add-i c =
+    let pre = c .before .before .before .before .before .before .before .before .before .before .before .pre in
+    omega (
+      arith,
+      code-inside _ _ _ (pre .4) (pre .0) _ _ (c .before .before .before .before .before .before .before .before .loop .inv .0)
+          (c .before .before .before .before .before .before .before .loop-test .taken) _ (c .before .before .before .before .before .before .code-at .ensures) .1,
+    )
 
 loop-less : tie.Need-loop-less Inv-loop μ-loop
-loop-less c = omega (arith, code-inside _ _ _ (c .before .before .before .before .before .before .before .before .before .before .before .pre .4) (c .before .before .before .before .before .before .before .before .before .before .before .pre .0) _ _ (c .before .before .before .before .before .before .before .before .loop .inv .0) (c .before .before .before .before .before .before .before .loop-test .taken) _ (c .before .before .before .before .before .before .code-at .ensures) .0)
+loop-less c =
+    let pre = c .before .before .before .before .before .before .before .before .before .before .before .pre in
+    omega (
+      arith,
+      code-inside _ _ _ (pre .4) (pre .0) _ _ (c .before .before .before .before .before .before .before .before .loop .inv .0)
+          (c .before .before .before .before .before .before .before .loop-test .taken) _ (c .before .before .before .before .before .before .code-at .ensures) .0,
+    )
 
 loop-again : tie.Need-loop-again Inv-loop μ-loop
-loop-again c = (parse-more _ _ _ (c .before .before .before .before .before .before .before .before .before .before .before .pre .4) (c .before .before .before .before .before .before .before .before .before .before .before .pre .0) _ _ (c .before .before .before .before .before .before .before .before .loop .inv .0) (c .before .before .before .before .before .before .before .loop-test .taken) _ (c .before .before .before .before .before .before .code-at .ensures), store-code _ _ _ (c .before .before .before .before .before .before .before .before .before .before .before .pre .4) (c .before .before .before .before .before .before .before .before .before .before .before .pre .0) _ _ (c .before .before .before .before .before .before .before .before .loop .inv .0) (c .before .before .before .before .before .before .before .loop-test .taken) _ (c .before .before .before .before .before .before .code-at .ensures) _ _ _ (c .before .before .before .before .before .before .before .before .loop .inv .1) (c .before .before .before .before .put-bytes .ensures))
+loop-again c =
+    let pre = c .before .before .before .before .before .before .before .before .before .before .before .pre in
+    let loop = c .before .before .before .before .before .before .before .before .loop in
+    let loop-test = c .before .before .before .before .before .before .before .loop-test in
+    let code-at = c .before .before .before .before .before .before .code-at in (
+      parse-more _ _ _ (pre .4) (pre .0) _ _ (loop .inv .0) (loop-test .taken) _ (code-at .ensures),
+      store-code _ _ _ (pre .4) (pre .0) _ _ (loop .inv .0) (loop-test .taken) _ (code-at .ensures) _ _ _ (loop .inv .1)
+          (c .before .before .before .before .put-bytes .ensures),
+    )
 
 same-length : tie.Need-same-length Inv-loop μ-loop
 same-length c = laid-room _ _ _ _ _ (c .before .loop .inv .1)
 
 returns : tie.Need-returns Inv-loop μ-loop
-returns c = (store-end _ _ _ (c .before .before .before .before .pre .4) _ _ _ _ (c .before .loop .inv .0) (c .loop-test .left) (c .before .before .before .before .pre .3) (c .before .loop .inv .1), count-end _ _ _ (c .before .before .before .before .pre .4) _ _ (c .before .loop .inv .0) (c .loop-test .left), read-shortest _)
+returns c =
+    let pre = c .before .before .before .before .pre in (
+      store-end _ _ _ (pre .4) _ _ _ _ (c .before .loop .inv .0) (c .loop-test .left) (pre .3) (c .before .loop .inv .1),
+      count-end _ _ _ (pre .4) _ _ (c .before .loop .inv .0) (c .loop-test .left),
+      read-shortest _,
+    )
 
 pub read-spec : {M : Type 1} → statement M
 read-spec =

@@ -23,16 +23,24 @@ code-at-requires : tie.Need-code-at-requires Inv-loop μ-loop
 code-at-requires c κs = (code-begins _ _ _ (c .before .before .before .pre .3) (c .before .before .before .pre .0) _ _ (c .before .loop .inv) (c .loop-test .taken), omega arith)
 
 add-count : tie.Need-add-count Inv-loop μ-loop
-add-count c = omega (arith, code-small _ _ _ (c .before .before .before .before .before .pre .3) (c .before .before .before .before .before .pre .0) _ _ (c .before .before .before .loop .inv) (c .before .before .loop-test .taken) _ (c .before .code-at .ensures))
+add-count c =
+    let pre = c .before .before .before .before .before .pre in
+    omega (arith, code-small _ _ _ (pre .3) (pre .0) _ _ (c .before .before .before .loop .inv) (c .before .before .loop-test .taken) _ (c .before .code-at .ensures))
 
 add-i : tie.Need-add-i Inv-loop μ-loop
-add-i c = omega (arith, code-inside _ _ _ (c .before .before .before .before .before .before .pre .3) (c .before .before .before .before .before .before .pre .0) _ _ (c .before .before .before .before .loop .inv) (c .before .before .before .loop-test .taken) _ (c .before .before .code-at .ensures) .1)
+add-i c =
+    let pre = c .before .before .before .before .before .before .pre in
+    omega (arith, code-inside _ _ _ (pre .3) (pre .0) _ _ (c .before .before .before .before .loop .inv) (c .before .before .before .loop-test .taken) _ (c .before .before .code-at .ensures) .1)
 
 loop-less : tie.Need-loop-less Inv-loop μ-loop
-loop-less c = omega (arith, code-inside _ _ _ (c .before .before .before .before .before .before .pre .3) (c .before .before .before .before .before .before .pre .0) _ _ (c .before .before .before .before .loop .inv) (c .before .before .before .loop-test .taken) _ (c .before .before .code-at .ensures) .0)
+loop-less c =
+    let pre = c .before .before .before .before .before .before .pre in
+    omega (arith, code-inside _ _ _ (pre .3) (pre .0) _ _ (c .before .before .before .before .loop .inv) (c .before .before .before .loop-test .taken) _ (c .before .before .code-at .ensures) .0)
 
 loop-again : tie.Need-loop-again Inv-loop μ-loop
-loop-again c = parse-more _ _ _ (c .before .before .before .before .before .before .pre .3) (c .before .before .before .before .before .before .pre .0) _ _ (c .before .before .before .before .loop .inv) (c .before .before .before .loop-test .taken) _ (c .before .before .code-at .ensures)
+loop-again c =
+    let pre = c .before .before .before .before .before .before .pre in
+    parse-more _ _ _ (pre .3) (pre .0) _ _ (c .before .before .before .before .loop .inv) (c .before .before .before .loop-test .taken) _ (c .before .before .code-at .ensures)
 
 returns : tie.Need-returns Inv-loop μ-loop
 returns c = count-end _ _ _ (c .before .before .before .pre .3) _ _ (c .before .loop .inv) (c .loop-test .left)

@@ -39,7 +39,10 @@ after-requires : tie.Need-after-requires Inv-loop μ-loop
 after-requires c κs = stand-low _ _ _ _ _ (c .before .before .before .loop .inv)
 
 after-requires-2 : tie.Need-after-requires-2 Inv-loop μ-loop
-after-requires-2 c κs = stand-low _ _ _ _ _ (stand-more _ _ _ (c .before .before .before .before .before .before .pre .0) _ _ (c .before .before .before .before .loop .inv) _ _ (omega arith) (c .before .before .nibble-at .ensures) (c .after .ensures))
+after-requires-2 c κs =
+    stand-low _ _ _ _ _
+    (stand-more _ _ _ (c .before .before .before .before .before .before .pre .0) _ _ (c .before .before .before .before .loop .inv) _ _ (omega arith)
+    (c .before .before .nibble-at .ensures) (c .after .ensures))
 
 add-i : tie.Need-add-i Inv-loop μ-loop
 add-i c = omega arith
@@ -48,7 +51,10 @@ loop-less : tie.Need-loop-less Inv-loop μ-loop
 loop-less c = omega arith
 
 loop-again : tie.Need-loop-again Inv-loop μ-loop
-loop-again c = stand-two _ _ _ (c .before .before .before .before .before .before .before .pre .0) _ _ _ _ _ _ (c .before .before .before .before .before .loop .inv) (c .before .before .before .before .loop-test .taken) (c .before .before .before .nibble-at .ensures) (c .before .before .nibble-at2 .ensures) (c .before .after .ensures) (c .after2 .ensures)
+loop-again c =
+    stand-two _ _ _ (c .before .before .before .before .before .before .before .pre .0) _ _ _ _ _ _ (c .before .before .before .before .before .loop .inv)
+    (c .before .before .before .before .loop-test .taken) (c .before .before .before .nibble-at .ensures) (c .before .before .nibble-at2 .ensures)
+    (c .before .after .ensures) (c .after2 .ensures)
 
 add-nibble-at-4 : tie.Need-add-nibble-at-4 Inv-loop μ-loop
 add-nibble-at-4 c = omega arith
@@ -60,7 +66,13 @@ after-requires-3 : tie.Need-after-requires-3 Inv-loop μ-loop
 after-requires-3 c κs = stand-low _ _ _ _ _ (c .before .before .before .loop .inv)
 
 returns : tie.Need-returns Inv-loop μ-loop
-returns c = let e = stand-end _ _ _ _ _ (stand-more _ _ _ (c .before .before .before .before .before .before .pre .0) _ _ (c .before .before .before .before .loop .inv) _ _ (c .before .before .if1 .taken) (c .before .nibble-at3 .ensures) (c .after3 .ensures)) (omega arith) in (e, writable _ _ e)
+returns c =
+    let e =
+    stand-end _ _ _ _ _
+    (stand-more _ _ _ (c .before .before .before .before .before .before .pre .0) _ _ (c .before .before .before .before .loop .inv) _ _ (c .before .before .if1 .taken)
+    (c .before .nibble-at3 .ensures) (c .after3 .ensures))
+    (omega arith) in
+    (e, writable _ _ e)
 
 returns-2 : tie.Need-returns-2 Inv-loop μ-loop
 returns-2 c = let e = stand-end _ _ _ _ _ (c .before .before .loop .inv) (c .if1 .left) in (e, writable _ _ e)

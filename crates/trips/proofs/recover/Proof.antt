@@ -13,7 +13,9 @@ use Rattle.trips.proofs.recover.Tie as tie
 
 -- what pack is lent is a part of the output
 within : (c : tie.After-room) → c .room .result ≤ length (now (c .before .before .before .before .args .out))
-within c = let a = c .before .before .before .before .args in lent-within (now (a .values)) (a .word) (a .rptin) (now (a .tail)) (now (a .out)) (now (a .values-out)) (now (a .tail-out)) _ (c .room .ensures)
+within c =
+    let a = c .before .before .before .before .args in
+    lent-within (now (a .values)) (a .word) (a .rptin) (now (a .tail)) (now (a .out)) (now (a .values-out)) (now (a .tail-out)) _ (c .room .ensures)
 
 room-requires : tie.Need-room-requires
 room-requires c κs = search needs
@@ -40,7 +42,10 @@ same-length : tie.Need-same-length
 same-length c = search needs
 
 returns : tie.Need-returns
-returns c = let a = c .before .before .before .before .before .before .before .before .before .before .before .args in recover-refused _ _ _ _ _ (now (a .values-out)) (now (a .tail-out)) _ (c .before .before .before .before .before .before .before .room .ensures) _ _ _ (rw (c .before .p .given .1) at (c .before .before .before .before .before .pack .ensures))
+returns c =
+    let a = c .before .before .before .before .before .before .before .before .before .before .before .args in
+    recover-refused _ _ _ _ _ (now (a .values-out)) (now (a .tail-out)) _ (c .before .before .before .before .before .before .before .room .ensures) _ _ _
+    (rw (c .before .p .given .1) at (c .before .before .before .before .before .pack .ensures))
 
 same-length-2 : tie.Need-same-length-2
 same-length-2 c = search needs
@@ -52,7 +57,11 @@ same-length-4 : tie.Need-same-length-4
 same-length-4 c = search needs
 
 returns-2 : tie.Need-returns-2
-returns-2 c = recover-written _ _ _ _ _ _ _ _ (c .before .before .before .before .before .before .before .before .before .before .before .before .before .room .ensures) _ _ (rw (c .before .before .before .before .before .before .before .enum-told .given .1) at (c .before .before .before .before .before .before .before .before .before .before .before .pack .ensures)) (omega arith) _ _ _ (c .before .before .before .unpack .ensures)
+returns-2 c =
+    let room = c .before .before .before .before .before .before .before .before .before .before .before .before .before .room in
+    let pack = c .before .before .before .before .before .before .before .before .before .before .before .pack in
+    recover-written _ _ _ _ _ _ _ _ (room .ensures) _ _ (rw (c .before .before .before .before .before .before .before .enum-told .given .1) at (pack .ensures))
+    (omega arith) _ _ _ (c .before .before .before .unpack .ensures)
 
 pub recover-spec : {M : Type 1} → statement M
 recover-spec =

@@ -42,7 +42,9 @@ same-length-2 : tie.Need-same-length-2
 same-length-2 c = search needs
 
 returns : tie.Need-returns
-returns c = restore-refused _ _ _ _ _ _ _ (now (c .before .before .before .before .before .before .before .before .before .before .before .before .args .out)) (rw (c .before .u .given .1) at (c .before .before .before .before .before .before .unpack .ensures))
+returns c =
+    let args = c .before .before .before .before .before .before .before .before .before .before .before .before .args in
+    restore-refused _ _ _ _ _ _ _ (now (args .out)) (rw (c .before .u .given .1) at (c .before .before .before .before .before .before .unpack .ensures))
 
 same-length-3 : tie.Need-same-length-3
 same-length-3 c = search needs
@@ -54,7 +56,12 @@ same-length-5 : tie.Need-same-length-5
 same-length-5 c = search needs
 
 returns-2 : tie.Need-returns-2
-returns-2 c = restore-packed _ (λ i. omega (arith, c .before .before .before .before .before .before .before .before .before .before .before .before .before .before .before .before .before .shared-slice-known .given i)) _ _ _ _ _ (found (c .before .before .before .before .before .before .before .before .before .before .before .before) _ (c .before .before .before .before .before .before .before .u2 .given .1)) _ _ _ (c .before .before .before .before .before .before .before .before .before .before .before .before .before .before .before .before .before .before .pre) (c .before .before .pack .ensures)
+returns-2 c =
+    let pre = c .before .before .before .before .before .before .before .before .before .before .before .before .before .before .before .before .before .before .pre in
+    let shared-slice-known = c .before .before .before .before .before .before .before .before .before .before .before .before .before .before .before .before .before .shared-slice-known in
+    let after-unpack = c .before .before .before .before .before .before .before .before .before .before .before .before in
+    restore-packed _ (λ i. omega (arith, shared-slice-known .given i)) _ _ _ _ _
+    (found after-unpack _ (c .before .before .before .before .before .before .before .u2 .given .1)) _ _ _ pre (c .before .before .pack .ensures)
 
 pub restore-to-spec : {M : Type 1} → statement M
 restore-to-spec =

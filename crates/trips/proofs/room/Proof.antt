@@ -1,7 +1,6 @@
 -- `trips::room` meets its contract.
 -- Assumes nothing.
 use borrow.Author.Tests.{lt-ltb, le-ltb}
-use borrow.Author.Needs.{needs}
 use Rattle.trips.proofs.room.Statement.{statement}
 use Rattle.trips.proofs.room.Tie as tie
 

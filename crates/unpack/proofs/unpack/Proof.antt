@@ -1,6 +1,7 @@
 -- `unpack::unpack` meets its contract.
 -- Assumes nothing.
-use Rattle.unpack.proofs.Given.{unpack-refused, shown}
+use Rattle.report.proofs.Found.{inspect-found}
+use Rattle.unpack.proofs.Outcomes.{unpack-refused}
 use borrow.Author.Needs.{needs}
 use Rattle.unpack.proofs.unpack.Statement.{statement}
 use Rattle.unpack.proofs.unpack.Tie as tie
@@ -15,7 +16,7 @@ enum-known-i-2 : tie.Need-enum-known-i-2
 enum-known-i-2 c = search needs
 
 give-requires : tie.Need-give-requires
-give-requires c κs = shown _ _ _ (c .before .before .before .before .before .inspect .ensures) (c .before .before .before .i2 .given .1)
+give-requires c κs = inspect-found _ _ _ (c .before .before .before .before .before .inspect .ensures) _ (c .before .before .before .i2 .given .1)
 
 returns : tie.Need-returns
 returns c = unpack-refused _ _ _ _ _ _ (c .before .before .before .inspect .ensures) (c .before .i .given .1)

@@ -10,10 +10,10 @@ use mir.Val.{toZ, ofZ}
 use borrow.Author.Tests.{eq-eqb, ne-eqb}
 use Rattle.format.specs.Field.{Field, fieldAt, scaled, inRange, codeOf}
 use Rattle.format.specs.Whole.{bitAt}
-use Rattle.laws.proofs.Lists.{true-false}
+use Rattle.laws.proofs.Sequences.{true-false}
 use Rattle.card.specs.Answers.{codingOf}
 use Rattle.card.proofs.Rows.{field-row}
-use Rattle.card.proofs.Given.{coding-outside, coding-code}
+use Rattle.card.proofs.Laid.{coding-outside, coding-code}
 use borrow.Author.Needs.{needs}
 use Rattle.write_values.proofs.code_given.Statement.{statement}
 use Rattle.write_values.proofs.code_given.Tie as tie

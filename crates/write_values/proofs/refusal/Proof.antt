@@ -12,7 +12,7 @@ use Rattle.format.specs.Field.{Field, fieldAt, scaled}
 use Rattle.format.specs.Whole.{bitAt}
 use Rattle.card.specs.Answers.{codingOf}
 use Rattle.card.proofs.Rows.{field-row}
-use Rattle.card.proofs.Given.{coding-outside, coding-inside}
+use Rattle.card.proofs.Laid.{coding-outside, coding-inside}
 use Rattle.write_values.proofs.Tests.{refusal-missing, refusal-absent, refusal-outside, refusal-fine}
 use borrow.Author.Needs.{needs}
 use Rattle.write_values.proofs.refusal.Statement.{statement}
@@ -40,10 +40,14 @@ is-required-requires : tie.Need-is-required-requires
 is-required-requires c κs = search needs
 
 returns : tie.Need-returns
-returns c = refusal-missing (c .before .before .before .args .k) (c .before .before .before .args .word) (c .before .before .before .args .v) (absent (c .before .before)) (sym (c .before .is-required .ensures) ∙ c .if2 .taken)
+returns c =
+    refusal-missing (c .before .before .before .args .k) (c .before .before .before .args .word) (c .before .before .before .args .v) (absent (c .before .before))
+    (sym (c .before .is-required .ensures) ∙ c .if2 .taken)
 
 returns-2 : tie.Need-returns-2
-returns-2 c = refusal-absent (c .before .before .before .args .k) (c .before .before .before .args .word) (c .before .before .before .args .v) (absent (c .before .before)) (sym (c .before .is-required .ensures) ∙ c .if2 .left)
+returns-2 c =
+    refusal-absent (c .before .before .before .args .k) (c .before .before .before .args .word) (c .before .before .before .args .v) (absent (c .before .before))
+    (sym (c .before .is-required .ensures) ∙ c .if2 .left)
 
 coded-in-requires : tie.Need-coded-in-requires
 coded-in-requires c κs = search needs
@@ -55,10 +59,16 @@ enum-told-2 : tie.Need-enum-told-2
 enum-told-2 c = search needs
 
 returns-3 : tie.Need-returns-3
-returns-3 c = refusal-outside (c .before .before .before .before .args .k) (c .before .before .before .before .args .word) (c .before .before .before .before .args .v) (present (c .before .before .before)) (coding-outside (fieldAt (c .before .before .before .before .args .k)) (scaled (c .before .before .before .before .args .v)) (sym (c .enum-told .given .1) ∙ answer (c .before .before)))
+returns-3 c =
+    let args = c .before .before .before .before .args in
+    refusal-outside (args .k) (args .word) (args .v) (present (c .before .before .before))
+    (coding-outside (fieldAt (args .k)) (scaled (args .v)) (sym (c .enum-told .given .1) ∙ answer (c .before .before)))
 
 returns-4 : tie.Need-returns-4
-returns-4 c = refusal-fine (c .before .before .before .before .args .k) (c .before .before .before .before .args .word) (c .before .before .before .before .args .v) (present (c .before .before .before)) (coding-inside (fieldAt (c .before .before .before .before .args .k)) (scaled (c .before .before .before .before .args .v)) _ (sym (c .enum-told2 .given .1) ∙ answer (c .before .before)))
+returns-4 c =
+    let args = c .before .before .before .before .args in
+    refusal-fine (args .k) (args .word) (args .v) (present (c .before .before .before))
+    (coding-inside (fieldAt (args .k)) (scaled (args .v)) _ (sym (c .enum-told2 .given .1) ∙ answer (c .before .before)))
 
 pub refusal-spec : {M : Type 1} → statement M
 refusal-spec =

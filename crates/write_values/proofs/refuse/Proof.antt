@@ -8,7 +8,7 @@ use lib.IntN.{ℤ, pos}
 use denote.Ref.{now}
 use mir.Syntax.{w64}
 use mir.ValLaws.{toZ-ofZ}
-use Rattle.write_values.specs.Given.{refusalOf, refusalAt}
+use Rattle.write_values.specs.Lent.{valueRefusal, refusalAt}
 use Rattle.card.proofs.Rows.{row-here}
 use Rattle.card.proofs.Runs.{sum-one}
 use Rattle.write_values.proofs.Tests.{refusal-le}
@@ -40,7 +40,7 @@ returns : tie.Need-returns
 returns c =
     let st = c .before .before in
     let v : ℤ = getD (now (st .args .values)) (st .args .i) (pos 0) in
-    let e = c .refusal .ensures ∙ ap (λ (z : ℤ). refusalOf (st .args .i + 1) (st .args .word) z) (toZ-ofZ w64 v (record { sfits = c .before .refusal-arg .given })) in
+    let e = c .refusal .ensures ∙ ap (λ (z : ℤ). valueRefusal (st .args .i + 1) (st .args .word) z) (toZ-ofZ w64 v (record { sfits = c .before .refusal-arg .given })) in
     sum-one {g = refusalAt (now (st .args .values)) (st .args .word)} (st .args .i) (st .args .sum) _ (ap (λ (n : ℕ). st .args .sum + n) e) (refusal-le (st .args .i + 1) (st .args .word) v)
 
 pub refuse-spec : {M : Type 1} → statement M

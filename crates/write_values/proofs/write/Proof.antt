@@ -7,9 +7,9 @@ use denote.Ref.{now}
 use Rattle.format.specs.Report.{numbersOf}
 use Rattle.format.specs.Observation.{checksum}
 use Rattle.card.specs.Answers.{Carded}
-use Rattle.card.proofs.Given.{carded-then}
-use Rattle.write_values.specs.Given.{given, fielded}
-use Rattle.write_values.proofs.Given.{given-length, carded-whole}
+use Rattle.card.proofs.Laid.{carded-then}
+use Rattle.write_values.specs.Lent.{codesGiven, fielded}
+use Rattle.write_values.proofs.Lent.{given-length, carded-whole}
 use borrow.Author.Needs.{needs}
 use Rattle.write_values.proofs.write.Statement.{statement}
 use Rattle.write_values.proofs.write.Tie as tie
@@ -38,7 +38,7 @@ returns c =
     let f = k .before .before .before .before in
     let st = f .before .before .before in
     let s : List ℕ = now (st .args .s) in
-    let cs : List ℕ = given (now (st .args .values)) (st .args .word) in
+    let cs : List ℕ = codesGiven (now (st .args .values)) (st .args .word) in
     let sum : ℕ = f .write-fields .result in
     let a₁ = carded-then s (f .write-fields .last .0) (k .set-checksum .last .0) (fielded (numbersOf s) cs 46) 47 (sum % 255) (f .write-fields .ensures .0) (k .set-checksum .ensures) in
     let a₂ = carded-then s (k .set-checksum .last .0) (n .set-count .last .0) _ 48 (st .args .count) a₁ (n .set-count .ensures) in

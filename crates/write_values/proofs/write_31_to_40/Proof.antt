@@ -2,7 +2,7 @@
 -- Assumes nothing.
 use native.Mathlib.Omega.{arith}
 use Rattle.card.proofs.Rows.{row-listed}
-use Rattle.write_values.proofs.Given.{wrote-then}
+use Rattle.write_values.proofs.Lent.{written-then}
 use borrow.Author.Needs.{needs}
 use Rattle.write_values.proofs.write_31_to_40.Statement.{statement}
 use Rattle.write_values.proofs.write_31_to_40.Tie as tie
@@ -24,11 +24,13 @@ write-two-requires-5 c κs = (search needs, search needs, search needs, row-list
 
 returns : tie.Need-returns
 returns c =
+    let write-two2 = c .before .before .before .before .before .before .before .before .before .before .before .before .before .before .write-two2 in
+    let write-two3 = c .before .before .before .before .before .before .before .before .before .before .write-two3 in
     let r1 = c .before .before .before .before .before .before .before .before .before .before .before .before .before .before .before .before .before .before .write-two .ensures in
-    let r2 = wrote-then r1 (c .before .before .before .before .before .before .before .before .before .before .before .before .before .before .write-two2 .ensures) in
-    let r3 = wrote-then r2 (c .before .before .before .before .before .before .before .before .before .before .write-two3 .ensures) in
-    let r4 = wrote-then r3 (c .before .before .before .before .before .before .write-two4 .ensures) in
-    wrote-then r4 (c .before .before .write-two5 .ensures)
+    let r2 = written-then r1 (write-two2 .ensures) in
+    let r3 = written-then r2 (write-two3 .ensures) in
+    let r4 = written-then r3 (c .before .before .before .before .before .before .write-two4 .ensures) in
+    written-then r4 (c .before .before .write-two5 .ensures)
 
 same-length : tie.Need-same-length
 same-length c = returns c .long

@@ -2,7 +2,7 @@
 -- Assumes nothing.
 use native.Mathlib.Omega.{arith}
 use Rattle.card.proofs.Rows.{row-listed}
-use Rattle.write_values.proofs.Given.{wrote-then}
+use Rattle.write_values.proofs.Lent.{written-then}
 use borrow.Author.Needs.{needs}
 use Rattle.write_values.proofs.write_41_to_46.Statement.{statement}
 use Rattle.write_values.proofs.write_41_to_46.Tie as tie
@@ -19,8 +19,8 @@ write-two-requires-3 c κs = (search needs, search needs, search needs, row-list
 returns : tie.Need-returns
 returns c =
     let r1 = c .before .before .before .before .before .before .before .before .before .before .write-two .ensures in
-    let r2 = wrote-then r1 (c .before .before .before .before .before .before .write-two2 .ensures) in
-    wrote-then r2 (c .before .before .write-two3 .ensures)
+    let r2 = written-then r1 (c .before .before .before .before .before .before .write-two2 .ensures) in
+    written-then r2 (c .before .before .write-two3 .ensures)
 
 same-length : tie.Need-same-length
 same-length c = returns c .long

@@ -15,7 +15,7 @@ use Rattle.format.specs.Field.{fieldAt, scaled, inRange, codeOf}
 use Rattle.format.specs.Whole.{bitAt}
 use Rattle.card.proofs.Rows.{row-here, row-window}
 use Rattle.card.proofs.Numbers.{row-lt}
-use Rattle.write_values.proofs.Given.{given-fits, wrote-one}
+use Rattle.write_values.proofs.Lent.{given-fits, written-one}
 use borrow.Author.Needs.{needs}
 use Rattle.write_values.proofs.write_field.Statement.{statement}
 use Rattle.write_values.proofs.write_field.Tie as tie
@@ -68,7 +68,7 @@ returns c =
     let g = w .before .before in
     let st = g .before .before .before in
     let k : ℕ = st .args .i + 1 in
-    wrote-one (now (st .args .values)) (st .args .word) (st .args .i) (st .args .row) (st .pre .1) (st .pre .3) (now (st .args .s)) (w .store-in .last .0) (g .code-given .result) (st .args .sum)
+    written-one (now (st .args .values)) (st .args .word) (st .args .i) (st .args .row) (st .pre .1) (st .pre .3) (now (st .args .s)) (w .store-in .last .0) (g .code-given .result) (st .args .sum)
     (λ j. g .before .before .slice-known .given j .fits) (λ j. c .slice-known2 .given j .fits) (st .pre .0) (small g)
     (g .code-given .ensures .0 ∙ ap (λ (z : ℤ). codeOf (fieldAt k) (cond (bitAt (st .args .word) k) (some (scaled z)) none)) (held (g .before))) (g .code-given .ensures .1)
     (w .store-in .ensures .0) (w .store-in .ensures .1)

@@ -1,6 +1,6 @@
 -- `write_values::write_two` meets its contract: one field after the other.
 -- Assumes nothing.
-use Rattle.write_values.proofs.Given.{wrote-then}
+use Rattle.write_values.proofs.Lent.{written-then}
 use borrow.Author.Needs.{needs}
 use Rattle.write_values.proofs.write_two.Statement.{statement}
 use Rattle.write_values.proofs.write_two.Tie as tie
@@ -17,7 +17,7 @@ write-field-requires-2 c κs = search needs
 returns : tie.Need-returns
 returns c =
     let r1 = c .before .before .before .before .before .before .write-field .ensures in
-    wrote-then r1 (c .before .before .write-field2 .ensures)
+    written-then r1 (c .before .before .write-field2 .ensures)
 
 same-length : tie.Need-same-length
 same-length c = returns c .long

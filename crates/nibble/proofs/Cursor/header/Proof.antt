@@ -45,11 +45,11 @@ nibble-at-requires-3 c κs = omega (arith, fits (c .before .before .before .befo
 wide-requires-3 : tie.Need-wide-requires-3
 wide-requires-3 c κs = search needs
 
-mul-t11 : tie.Need-mul-t11
-mul-t11 c = search needs
+mul-t12 : tie.Need-mul-t12
+mul-t12 c = search needs
 
-add-t12 : tie.Need-add-t12
-add-t12 c = search needs
+add-t13 : tie.Need-add-t13
+add-t13 c = search needs
 
 skip-requires : tie.Need-skip-requires
 skip-requires c κs = search needs
@@ -57,7 +57,11 @@ skip-requires c κs = search needs
 returns : tie.Need-returns
 returns c =
     let a = c .before .before .before .before .before .before .before .before .before .before .args in
-    header-is (now (a .s)) (a .self) _ _ _ _ (fits (c .before .before .before .before .before .before .before)) (c .before .before .before .before .before .wide .ensures .0 ∙ c .before .before .before .before .before .before .nibble-at .ensures) (c .before .before .before .wide2 .ensures .0 ∙ c .before .before .before .before .nibble-at2 .ensures) (c .before .wide3 .ensures .0 ∙ c .before .before .nibble-at3 .ensures) (c .skip .ensures)
+    let x = c .before .before .before .before .before in
+    let y = c .before .before .before in
+    header-is (now (a .s)) (a .self) _ _ _ _ (fits (c .before .before .before .before .before .before .before))
+    (x .wide .ensures .0 ∙ x .before .nibble-at .ensures) (y .wide2 .ensures .0 ∙ y .before .nibble-at2 .ensures)
+    (c .before .wide3 .ensures .0 ∙ c .before .before .nibble-at3 .ensures) (c .skip .ensures)
 
 returns-2 : tie.Need-returns-2
 returns-2 c =
@@ -80,8 +84,8 @@ header-spec =
     add-nibble-at-2
     nibble-at-requires-3
     wide-requires-3
-    mul-t11
-    add-t12
+    mul-t12
+    add-t13
     skip-requires
     returns
     returns-2)

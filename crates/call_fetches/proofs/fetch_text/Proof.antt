@@ -1,0 +1,41 @@
+-- `call_fetches::fetch_text` meets its contract.
+-- Assumes nothing.
+use Rattle.format.specs.Calls.{fetches, fetchText, outputsOf}
+use Rattle.report.proofs.Found.{inspect-refused, inspect-found}
+use borrow.Author.Needs.{needs}
+use Rattle.call_fetches.proofs.fetch_text.Statement.{statement}
+use Rattle.call_fetches.proofs.fetch_text.Tie as tie
+
+inspect-requires : tie.Need-inspect-requires
+inspect-requires c κs = search needs
+
+enum-known-i : tie.Need-enum-known-i
+enum-known-i c = search needs
+
+enum-known-i-2 : tie.Need-enum-known-i-2
+enum-known-i-2 c = search needs
+
+fetch-text-found-requires : tie.Need-fetch-text-found-requires
+fetch-text-found-requires c κs = inspect-found _ _ _ (c .before .before .before .before .inspect .ensures) _ (c .before .before .i2 .given .1)
+
+returns : tie.Need-returns
+unfolding outputsOf
+returns c = inspect-refused _ _ _ (c .before .before .before .inspect .ensures) _ _ (fetches (fetchText (c .before .before .before .before .before .before .args .out .now))) (c .before .i .given .1)
+
+same-length : tie.Need-same-length
+same-length c = search needs
+
+returns-2 : tie.Need-returns-2
+returns-2 c = search needs
+
+pub fetch-text-spec : {M : Type 1} → statement M
+fetch-text-spec =
+    tie.close
+    (tie.spec
+    inspect-requires
+    enum-known-i
+    enum-known-i-2
+    fetch-text-found-requires
+    returns
+    same-length
+    returns-2)

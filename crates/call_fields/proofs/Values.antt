@@ -1,0 +1,137 @@
+-- Fields: what is read of one, and the layout that a code stored in one leaves.
+-- Assumes nothing.
+use Prim.Native.Nat.{ℕ, _+_, _-_, _%_, _≤_, _<_}
+use native.Mathlib.Omega.{arith}
+use mathlib.Core.Path.{_≡_, refl, sym, ap, _∙_}
+use mathlib.Core.Bool.{Bool, true, false, cond, not}
+use lib.Dec.{eqb}
+use borrow.Author.Tests.{eqb-true, eqb-false}
+use mathlib.Core.List.{List, [], _∷_}
+use mathlib.Core.Option.{Option, none, some}
+use lib.ListN.{length, getD, set}
+use Rattle.format.specs.Bits.{total, Bytes}
+use Rattle.format.specs.Field.{Field, table, fieldAt, isField, required, inRange, coded, scaledOf, codedOf, entryOf, codeOf, entries, codes}
+use Rattle.format.specs.Observation.{checksum, cardNumbers, size}
+use Rattle.format.specs.Report.{codesOf, observationOf}
+use Rattle.format.specs.Calls.{reads, edits, made, readField, setField, clearField, valueAt, withValue, valueNumber, fieldNumberCheck, valueCheck, requiredCheck}
+use Rattle.format.specs.Calls.{callChecks, Quantity, given, gives, outputsOf, Answer}
+use Rattle.format.specs.Reply.{refusal, answerOf}
+use Rattle.format.specs.declared.Reply.the-variants.{Done, Value, MissingValue}
+use Rattle.format.specs.Buffer.{layout, after, effect}
+use Rattle.format.specs.declared.Coded.{Coded}
+use Rattle.format.specs.declared.Scaled.{Scaled}
+use Rattle.laws.proofs.Fields.{table-length, codes-entries}
+use Rattle.laws.proofs.Report.{numbers-taken, same-within}
+use Rattle.laws.proofs.Effects.{call-refuses, read-done, edit-done}
+use Rattle.laws.proofs.Laid.{field-laid, value-numbers, total-set}
+use Rattle.card.specs.Answers.{Carded, codingOf}
+use Rattle.card.proofs.Numbers.{codes-length}
+use Rattle.card.proofs.Entries.{entry-missing, entry-there, entry-is, entries-length}
+use Rattle.card.proofs.Laid.{coding-outside, coding-code}
+use Rattle.card.specs.declared.Coding.the-variants.{Outside, Code}
+use Rattle.laws.proofs.Order.{between-in, number-passes, first-nil, no-check}
+use Rattle.report.specs.Found.{Accepted}
+use Rattle.call_fields.specs.Replaced.{replaced}
+
+-- the value of field k is the entry of its code
+value-is : (b : List ℕ) (k : ℕ) (c : Coded) → 1 ≤ k → k ≤ 46 → c .0 ≡ getD (codesOf b) (k - 1) 0 → valueAt (observationOf b) k ≡ entryOf (fieldAt k) c
+unfolding observationOf
+value-is b k c l h e =
+    let at : k - 1 + 1 ≡ k = omega arith in
+    entry-is b (k - 1) c (omega arith) e ∙ ap (λ (n : ℕ). entryOf (fieldAt n) c) at
+
+codes-back : (b : List ℕ) → codes table (entries table (codesOf b)) ≡ codesOf b
+codes-back b = codes-entries table (codesOf b) (codes-length b ∙ sym table-length)
+
+-- ---- the code of a value
+
+coding-in : (f : Field) (v : Scaled) (c : Coded) → Code c ≡ codingOf f v → inRange f v ≡ true
+unfolding codingOf
+coding-in f v c = go (inRange f v)
+  where
+    go : (t : Bool) → Code c ≡ cond t (Code (codedOf f v)) Outside → t ≡ true
+    go true e = refl
+    go false e = let z : _≡_ {A = ℕ} 0 1 = cc in absurd (omega arith)
+
+-- ---- a code stored
+
+module _ (b : List ℕ) (bs : Bytes b) (k : ℕ) (low : 1 ≤ k) (high : k ≤ 46) where
+  -- it is that of the entry e: the buffer is the layout of the observation with e
+  value-laid : (d : List ℕ) (e : Option Scaled) (c : Coded) → Accepted b → Bytes d → c ≡ codeOf (fieldAt k) e
+      → Carded b d (replaced b k (c .0)) → d ≡ layout b (size (observationOf b)) (withValue (observationOf b) k e)
+  unfolding observationOf
+  value-laid d e c j bd is r =
+      let long : length (entries table (codesOf b)) ≡ 46 = entries-length b in
+      let code : c .0 ≡ codeOf (fieldAt k) e .0 = ap (λ (x : Coded). x .0) is in
+      let card : replaced b k (c .0) ≡ cardNumbers (withValue (observationOf b) k e) =
+      sym (value-numbers (observationOf b) k e long low high
+      ∙ rw (← code, codes-back b, numbers-taken b (observationOf b) bs j) refl) in
+      field-laid b d (observationOf b) (withValue (observationOf b) k e) bs j refl bd (r .long) (r .card ∙ card) (r .behind)
+
+-- ---- the returns of the calls on fields, where k is a field
+
+module _ (b : List ℕ) (bs : Bytes b) (j : Accepted b) (k : ℕ) (t : Bool) (is : t ≡ isField k) (h : not t ≡ false) where
+  known : (1 ≤ k) × (k ≤ 46)
+  known = between-in 1 46 k t is h
+
+  known-passes : not (isField k) ≡ false
+  known-passes = number-passes 1 46 k t is h
+
+  field-gives : (c : Coded) → c .0 ≡ getD (codesOf b) (k - 1) 0 → (e : Option Scaled) → entryOf (fieldAt k) c ≡ e
+      → after (Answer.accepted (given Quantity.value (valueNumber e) ∷ [])) b [] ≡ effect b (reads (readField k))
+  unfolding callChecks gives
+  field-gives c at e there =
+      ap (λ (x : Option Scaled). after (Answer.accepted (given Quantity.value (valueNumber x) ∷ [])) b []) (sym (value-is b k c (known .0) (known .1) at ∙ there))
+      ∙ read-done b (observationOf b) bs j (readField k) (no-check (fieldNumberCheck k) [] known-passes first-nil)
+
+  module _ (c : Coded) (at : c .0 ≡ getD (codesOf b) (k - 1) 0) (m : Bool) (missing : m ≡ eqb (c .0) 0) where
+    pub field-missing : m ≡ true → after (answerOf MissingValue) b [] ≡ effect b (reads (readField k))
+    field-missing e = field-gives c at none (entry-missing (fieldAt k) c (eqb-true (c .0) 0 (sym missing ∙ e)))
+
+    pub field-read : m ≡ false → (v : Scaled) → v ≡ scaledOf (fieldAt k) c → after (answerOf (Value v)) b [] ≡ effect b (reads (readField k))
+    field-read e v is = field-gives c at (some v) (entry-there (fieldAt k) c (eqb-false (c .0) 0 (sym missing ∙ e)) ∙ ap some (sym is))
+
+  -- set and clear: a code stored, and the checks before 13 passed
+  module _ (d : List ℕ) (bd : Bytes d) where
+    pub field-set : (v : Scaled) (c : Coded) → Code c ≡ codingOf (fieldAt k) v → Carded b d (replaced b k (c .0))
+        → after (answerOf Done) d [] ≡ effect b (edits (setField k v))
+    unfolding callChecks made gives codeOf
+    field-set v c e r =
+        let q = coding-code (fieldAt k) v c e in
+        edit-done b (observationOf b) bs j (setField k v) d
+        (no-check (fieldNumberCheck k) (valueCheck k v ∷ []) known-passes (no-check (valueCheck k v) [] (ap not (coding-in (fieldAt k) v c e)) first-nil))
+        (same-within b (observationOf b) bs j (withValue (observationOf b) k (some v)) refl)
+        (value-laid b bs k (known .0) (known .1) d (some v) c j bd (q .0) r)
+
+    pub field-cleared : (q : Bool) → q ≡ required k → q ≡ false → (c : Coded) → c ≡ coded 0 → Carded b d (replaced b k (c .0))
+        → after (answerOf Done) d [] ≡ effect b (edits (clearField k))
+    unfolding callChecks made gives codeOf
+    field-cleared q eq free c e r =
+        edit-done b (observationOf b) bs j (clearField k) d
+        (no-check (fieldNumberCheck k) (requiredCheck k ∷ []) known-passes (no-check (requiredCheck k) [] (sym eq ∙ free) first-nil))
+        (same-within b (observationOf b) bs j (withValue (observationOf b) k none) refl)
+        (value-laid b bs k (known .0) (known .1) d none c j bd e r)
+
+  pub field-outside : (v : Scaled) → Outside ≡ codingOf (fieldAt k) v → after (refusal 9 k) b [] ≡ effect b (edits (setField k v))
+  unfolding callChecks outputsOf
+  field-outside v e =
+      call-refuses b (observationOf b) (edits (setField k v)) bs j (fieldNumberCheck k ∷ []) (valueCheck k v) [] refl
+      (no-check (fieldNumberCheck k) [] known-passes first-nil) (ap not (coding-outside (fieldAt k) v e))
+
+  pub field-required : (q : Bool) → q ≡ required k → q ≡ true → after (refusal 10 k) b [] ≡ effect b (edits (clearField k))
+  unfolding callChecks outputsOf
+  field-required q eq must =
+      call-refuses b (observationOf b) (edits (clearField k)) bs j (fieldNumberCheck k ∷ []) (requiredCheck k) [] refl
+      (no-check (fieldNumberCheck k) [] known-passes first-nil) (sym eq ∙ must)
+
+-- ---- the new checksum
+
+module _ (b : List ℕ) (n k : ℕ) (h : n ≡ checksum (codesOf b)) where
+  -- the checksum less the old code and more the new one, by a multiple of 255 above 0
+  pub new-checksum : 1 ≤ k → k ≤ 46 → (o c : Coded) → o .0 ≡ getD (codesOf b) (k - 1) 0 → o .0 < 65536
+      → (n + 65535 - o .0 + c .0) % 255 ≡ checksum (set (codesOf b) (k - 1) (c .0))
+  unfolding checksum
+  new-checksum low high o c e l =
+      let t : total (set (codesOf b) (k - 1) (c .0)) + getD (codesOf b) (k - 1) 0 ≡ total (codesOf b) + c .0 =
+      total-set (codesOf b) (k - 1) (c .0) (rw (codes-length b) (omega arith)) in
+      omega (arith, h)

@@ -1,0 +1,108 @@
+// The calls on flags of the report that a buffer begins with: read, set, clear. Each judges the report first.
+ghost use mathlib.Core.Path.{_≡_};
+ghost use mathlib.Core.List.{[]};
+ghost use Prim.Native.Nat.{_+_, _*_, _≤_, _<_, _^_};
+ghost use lib.ListN.{length};
+ghost use Rattle.format.specs.Nibbles.{nibbles};
+ghost use Rattle.format.specs.Calls.{reads, edits, readFlag, setFlag, clearFlag};
+ghost use Rattle.format.specs.Buffer.{after, effect};
+ghost use Rattle.format.specs.Reply.{answerOf};
+ghost use Rattle.call_flags.specs.Flags.{FlagsAt, flagged};
+use format::Reply;
+use nibble::Cursor;
+use report::Inspected;
+
+// The value of flag j, where id 1 stands at a place, or nowhere.
+fn flag_of(s: &[u8], j: usize, place: usize) -> Reply
+    requires { ⌜ FlagsAt (now s) place ⌝ }
+    ensures { λ r. ⌜ after (answerOf r) (now (s .entry)) [] ≡ effect (now (s .entry)) (reads (readFlag j)) ⌝ }
+{
+    if !numbers::within(1, 14, j) {
+        return Reply::Refused(8, 0);
+    }
+    if place == 0 {
+        return Reply::Refused(11, 0);
+    }
+    let v = nibble::packed_at(s, place + 3 + (j - 1));
+    if v == 0 {
+        return Reply::MissingFlag;
+    }
+    Reply::Flag(v)
+}
+
+// The value of flag j, or that it is missing.
+pub fn read_flag(s: &[u8], j: usize) -> Reply
+    ensures { λ r. ⌜ after (answerOf r) (now (s .entry)) [] ≡ effect (now (s .entry)) (reads (readFlag j)) ⌝ }
+{
+    let i = report::inspect(&*s, 1);
+    match i {
+        Inspected::Refused(n, p) => Reply::Refused(n, p),
+        Inspected::Fine(r) => flag_of(&*s, j, r.place),
+    }
+}
+
+// Stores flag j of the body at a place, and the quality code of the fourteen.
+fn store_flag(s: &mut [u8], at: usize, j: usize, v: u8)
+    requires { ⌜ (at + 16 ≤ 2 * length (now s)) × (at + 16 ≤ 2 ^ 32) × (1 ≤ j) × (j ≤ 14) × (v < 16) ⌝ }
+    ensures { λ _. ⌜ (nibbles (now (s .exit)) ≡ flagged (nibbles (now (s .entry))) at j v) × (length (now (s .exit)) ≡ length (now (s .entry))) ⌝ }
+{
+    nibble_edit::put(s, at + (j - 1), v);
+    let q = flags::quality(s, Cursor { at, packed: true });
+    nibble_edit::put(s, at + 14, q / 16);
+    nibble_edit::put(s, at + 15, q % 16);
+}
+
+// Sets flag j, where id 1 stands at a place, or nowhere.
+fn set_flag_of(s: &mut [u8], j: usize, v: usize, place: usize) -> Reply
+    requires { ⌜ FlagsAt (now s) place ⌝ }
+    ensures { λ r. ⌜ after (answerOf r) (now (s .exit)) [] ≡ effect (now (s .entry)) (edits (setFlag j v)) ⌝ }
+{
+    if !numbers::within(1, 14, j) {
+        return Reply::Refused(8, 0);
+    }
+    if !numbers::within(1, 10, v) {
+        return Reply::Refused(9, j);
+    }
+    if place == 0 {
+        return Reply::Refused(11, 0);
+    }
+    store_flag(s, place + 3, j, v as u8);
+    Reply::Done
+}
+
+// Sets flag j to v, and the quality code.
+pub fn set_flag(s: &mut [u8], j: usize, v: usize) -> Reply
+    ensures { λ r. ⌜ after (answerOf r) (now (s .exit)) [] ≡ effect (now (s .entry)) (edits (setFlag j v)) ⌝ }
+{
+    let i = report::inspect(s, 1);
+    match i {
+        Inspected::Refused(n, p) => Reply::Refused(n, p),
+        Inspected::Fine(r) => set_flag_of(s, j, v, r.place),
+    }
+}
+
+// Clears flag j, where id 1 stands at a place, or nowhere.
+fn clear_flag_of(s: &mut [u8], j: usize, place: usize) -> Reply
+    requires { ⌜ FlagsAt (now s) place ⌝ }
+    ensures { λ r. ⌜ after (answerOf r) (now (s .exit)) [] ≡ effect (now (s .entry)) (edits (clearFlag j)) ⌝ }
+{
+    if !numbers::within(1, 14, j) {
+        return Reply::Refused(8, 0);
+    }
+    if place == 0 {
+        return Reply::Refused(11, 0);
+    }
+    store_flag(s, place + 3, j, 0);
+    Reply::Done
+}
+
+// Makes flag j missing, and sets the quality code.
+pub fn clear_flag(s: &mut [u8], j: usize) -> Reply
+    ensures { λ r. ⌜ after (answerOf r) (now (s .exit)) [] ≡ effect (now (s .entry)) (edits (clearFlag j)) ⌝ }
+{
+    let i = report::inspect(s, 1);
+    match i {
+        Inspected::Refused(n, p) => Reply::Refused(n, p),
+        Inspected::Fine(r) => clear_flag_of(s, j, r.place),
+    }
+}

@@ -1,0 +1,46 @@
+-- `call_puts::put_front` meets its contract.
+-- Assumes nothing.
+use mathlib.Core.Path.{sym, ap, subst, _∙_}
+use mathlib.Core.List.{List}
+use Prim.Native.Nat.{ℕ}
+use Rattle.format.specs.Nibbles.{attachment}
+use Rattle.laws.proofs.Attachments.{FineAt}
+use Rattle.call_attachments.specs.Edit.{putting}
+use Rattle.call_puts.proofs.Contents.{front-part}
+use borrow.Author.Needs.{needs}
+use Rattle.call_puts.proofs.put_front.Statement.{statement}
+use Rattle.call_puts.proofs.put_front.Tie as tie
+
+sub-put-nibbles : tie.Need-sub-put-nibbles
+sub-put-nibbles c = search needs
+
+part-put-nibbles-start : tie.Need-part-put-nibbles-start
+part-put-nibbles-start c = search needs
+
+part-put-nibbles-end : tie.Need-part-put-nibbles-end
+part-put-nibbles-end c = search needs
+
+put-nibbles-requires : tie.Need-put-nibbles-requires
+put-nibbles-requires c κs =
+    let pre = c .before .before .before .before .pre in
+    let args = c .before .before .before .before .args in
+    (pre .0, subst (λ (l : List ℕ). FineAt (attachment 4 l)) (sym (front-part (args .n) (args .ns .now))) (pre .2))
+
+same-length : tie.Need-same-length
+same-length c = search needs
+
+returns : tie.Need-returns
+returns c =
+    let args = c .before .before .before .before .before .before .before .args in
+    c .before .before .put-nibbles .ensures ∙ ap (putting (args .s .now) 4) (front-part (args .n) (args .ns .now))
+
+pub put-front-spec : {M : Type 1} → statement M
+put-front-spec =
+    tie.close
+    (tie.spec
+    sub-put-nibbles
+    part-put-nibbles-start
+    part-put-nibbles-end
+    put-nibbles-requires
+    same-length
+    returns)

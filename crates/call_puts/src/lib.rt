@@ -1,0 +1,120 @@
+// The calls that put to the report that a buffer begins with: a content, the ship text. Each judges the report first, then
+// what is put.
+ghost use mathlib.Core.Path.{_≡_};
+ghost use mathlib.Core.Bool.{_&&_};
+ghost use mathlib.Core.List.{[]};
+ghost use Prim.Native.Nat.{_≤_};
+ghost use lib.ListN.{length, take};
+ghost use Rattle.format.specs.Nibbles.{attachment};
+ghost use Rattle.format.specs.Report.{bodyValid};
+ghost use Rattle.format.specs.Calls.{allNibbles};
+ghost use Rattle.format.specs.Calls as call;
+ghost use Rattle.format.specs.Buffer.{after, effect};
+ghost use Rattle.format.specs.Reply.{answerOf};
+ghost use Rattle.laws.proofs.Attachments.{FineAt};
+ghost use Rattle.report.specs.Found.{Found};
+ghost use Rattle.call_attachments.specs.Edit.{putting};
+use format::Reply;
+use nibble::Cursor;
+use report::Inspected;
+use report::Report;
+use text_writer::Written;
+
+// ---- a content
+
+// Whether these bytes may stand under an id.
+fn content_valid(id: usize, content: &[u8]) -> bool
+    requires { ⌜ length (now content) ≤ 255 ⌝ }
+    ensures { λ r. ⌜ r ≡ allNibbles (now (content .entry)) && bodyValid id (now (content .entry)) ⌝ }
+{
+    if nibble::all_nibbles(content) {
+        return tail::body_valid(
+            content,
+            Cursor {
+                at: 0,
+                packed: false,
+            },
+            id,
+            content.len(),
+        );
+    }
+    false
+}
+
+// Puts to a report that was inspected.
+fn put_found(s: &mut [u8], id: usize, found: Report, content: &[u8]) -> Reply
+    requires { ⌜ Found (now s) id found ⌝ }
+    ensures { λ r. ⌜ after (answerOf r) (now (s .exit)) [] ≡ effect (now (s .entry)) (call.edits (call.put id (now (content .entry)))) ⌝ }
+{
+    if !numbers::within(1, 15, id) {
+        return Reply::Refused(8, 0);
+    }
+    if content.len() < 1 {
+        return Reply::Refused(12, 0);
+    }
+    if 255 < content.len() {
+        return Reply::Refused(12, 0);
+    }
+    if content_valid(id, content) {
+        return call_attachments::put_nibbles(s, id, found, content);
+    }
+    Reply::Refused(14, 0)
+}
+
+// Replaces the content of an id, or appends the attachment.
+pub fn put(s: &mut [u8], id: usize, content: &[u8]) -> Reply
+    ensures { λ r. ⌜ after (answerOf r) (now (s .exit)) [] ≡ effect (now (s .entry)) (call.edits (call.put id (now (content .entry)))) ⌝ }
+{
+    let i = report::inspect(s, id);
+    match i {
+        Inspected::Refused(n, p) => Reply::Refused(n, p),
+        Inspected::Fine(found) => put_found(s, id, found, content),
+    }
+}
+
+// ---- the ship text
+
+// Puts the first n of these nibbles as ship text.
+fn put_front(s: &mut [u8], found: Report, ns: &[u8], n: usize) -> Reply
+    requires { ⌜ Found (now s) 4 found × (n ≤ length (now ns)) × FineAt (attachment 4 (take n (now ns))) ⌝ }
+    ensures { λ r. ⌜ after (answerOf r) (now (s .exit)) [] ≡ putting (now (s .entry)) 4 (take n (now (ns .entry))) ⌝ }
+{
+    call_attachments::put_nibbles(s, 4, found, &ns[0..n])
+}
+
+// The same, of an array.
+fn put_written(s: &mut [u8], found: Report, ns: &[u8; 255], n: usize) -> Reply
+    requires { ⌜ Found (now s) 4 found × (n ≤ length (now ns)) × FineAt (attachment 4 (take n (now ns))) ⌝ }
+    ensures { λ r. ⌜ after (answerOf r) (now (s .exit)) [] ≡ putting (now (s .entry)) 4 (take n (now (ns .entry))) ⌝ }
+{
+    put_front(s, found, ns, n)
+}
+
+// Puts the ship text to a report that was inspected.
+fn put_text_found(s: &mut [u8], found: Report, text: &[u8]) -> Reply
+    requires { ⌜ Found (now s) 4 found ⌝ }
+    ensures { λ r. ⌜ after (answerOf r) (now (s .exit)) [] ≡ effect (now (s .entry)) (call.edits (call.putText (now (text .entry)))) ⌝ }
+{
+    let mut ns = [0u8; 255];
+    let w = text_writer::write(text, &mut ns);
+    match w {
+        Written::TooLong => Reply::Refused(12, 0),
+        Written::Fits(n) => {
+            if n < 1 {
+                return Reply::Refused(12, 0);
+            }
+            put_written(s, found, &ns, n)
+        }
+    }
+}
+
+// Puts the ship text.
+pub fn put_text(s: &mut [u8], text: &[u8]) -> Reply
+    ensures { λ r. ⌜ after (answerOf r) (now (s .exit)) [] ≡ effect (now (s .entry)) (call.edits (call.putText (now (text .entry)))) ⌝ }
+{
+    let i = report::inspect(s, 4);
+    match i {
+        Inspected::Refused(n, p) => Reply::Refused(n, p),
+        Inspected::Fine(found) => put_text_found(s, found, text),
+    }
+}

@@ -1,0 +1,260 @@
+// Runs the calls on whole reports over vectors of the unrelated implementation.
+use format::Scaled;
+use fresh::Started;
+use pack::Packed;
+use report::Compared;
+use report::Judged;
+use test_io::Kind;
+use unpack::Unpacked;
+
+fn judge_in(s: &[u8]) {
+    let j = report::judge(s);
+    match j {
+        Judged::Refused(number, place) => test_io::put_refused(number, place),
+        Judged::Accepted(size) => test_io::put_head(2, 0, size as u64),
+    }
+}
+
+fn list_in(s: &[u8]) {
+    let mut lines = [0u8; 512];
+    let n = lister_lines::list(s, &mut lines);
+    test_io::put_bytes(&lines[..n]);
+}
+
+fn same_second(a: &[u8], b: &mut [u8]) {
+    test_io::get_bytes(b);
+    let c = report::same(a, b);
+    match c {
+        Compared::Refused(number, place) => test_io::put_refused(number, place),
+        Compared::Same => test_io::put_head(2, 0, 1),
+        Compared::Different => test_io::put_head(2, 0, 0),
+    }
+}
+
+fn same_in(a: &[u8]) {
+    let mut b = [0u8; 2000];
+    let n = test_io::get_length(2000);
+    same_second(a, &mut b[..n]);
+}
+
+fn put_started(r: Started) {
+    match r {
+        Started::Refused(number, place) => test_io::put_refused(number, place),
+        Started::Written => test_io::put_head(1, 0, 0),
+    }
+}
+
+fn fresh_in(box10: Scaled, year: Scaled, month: Scaled, x: Scaled, y: Scaled, out: &mut [u8]) {
+    test_io::get_bytes(out);
+    put_started(fresh::fresh(box10, year, month, x, y, out));
+    test_io::put_bytes(out);
+}
+
+fn fresh_one() {
+    let box10 = Scaled(test_io::get_signed());
+    let year = Scaled(test_io::get_signed());
+    let month = Scaled(test_io::get_signed());
+    let x = Scaled(test_io::get_signed());
+    let y = Scaled(test_io::get_signed());
+    let mut out = [0u8; 2000];
+    let n = test_io::get_length(2000);
+    fresh_in(box10, year, month, x, y, &mut out[..n]);
+}
+
+fn get_values(values: &mut [i64]) {
+    let mut i = 0;
+    while i < values.len() {
+        values[i] = test_io::get_signed();
+        i += 1;
+    }
+}
+
+fn put_values(values: &[i64]) {
+    let mut i = 0;
+    while i < values.len() {
+        test_io::put_signed(values[i]);
+        i += 1;
+    }
+}
+
+fn put_unpacked(r: Unpacked) {
+    match r {
+        Unpacked::Refused(number, place) => test_io::put_refused(number, place),
+        Unpacked::Given(c) => {
+            test_io::put_head(1, 0, 0);
+            test_io::put8(c.word);
+            test_io::put8(c.present as u64);
+            test_io::put8(c.rptin as u64);
+            test_io::put8(c.attachments as u64);
+            test_io::put8(c.bytes as u64);
+            test_io::put8(c.nibbles as u64);
+        }
+    }
+}
+
+fn put_packed(r: Packed) {
+    match r {
+        Packed::Refused(number, place) => test_io::put_refused(number, place),
+        Packed::Written(size) => test_io::put_head(2, 0, size as u64),
+    }
+}
+
+fn put_lent(values: &[i64], tail: &[u8], out: &[u8]) {
+    put_values(values);
+    test_io::put_bytes(tail);
+    test_io::put_bytes(out);
+}
+
+fn restore_out(s: &[u8], values: &mut [i64], tail: &mut [u8], out: &mut [u8]) {
+    test_io::get_bytes(out);
+    put_packed(trips::restore(s, values, tail, out));
+    put_lent(values, tail, out);
+}
+
+fn restore_tail(s: &[u8], values: &mut [i64], tail: &mut [u8]) {
+    let mut out = [0u8; 2000];
+    let n = test_io::get_length(2000);
+    restore_out(s, values, tail, &mut out[..n]);
+}
+
+fn unpack_tail(s: &[u8], values: &mut [i64], tail: &mut [u8], trip: bool) {
+    test_io::get_bytes(tail);
+    if trip {
+        restore_tail(s, values, tail);
+        return;
+    }
+    put_unpacked(unpack::unpack(s, values, tail));
+    put_values(values);
+    test_io::put_bytes(tail);
+}
+
+fn unpack_values(s: &[u8], values: &mut [i64], trip: bool) {
+    get_values(values);
+    let mut tail = [0u8; 4200];
+    let n = test_io::get_length(4200);
+    unpack_tail(s, values, &mut tail[..n], trip);
+}
+
+// A report unpacked; with trip, packed again.
+fn unpack_in(s: &[u8], trip: bool) {
+    let mut values = [0i64; 60];
+    let n = test_io::get_length(60);
+    unpack_values(s, &mut values[..n], trip);
+}
+
+fn report_in(kind: u8, s: &mut [u8]) {
+    test_io::get_bytes(s);
+    match kind {
+        1 => judge_in(s),
+        2 => list_in(s),
+        6 => same_in(s),
+        _ => unpack_in(s, kind == 7),
+    }
+}
+
+// A vector that begins with a report.
+fn report_one(kind: u8) {
+    let mut s = [0u8; 2000];
+    let n = test_io::get_length(2000);
+    report_in(kind, &mut s[..n]);
+}
+
+fn recover_tail(
+    values: &[i64],
+    word: u64,
+    rptin: u16,
+    tail: &[u8],
+    out: &mut [u8],
+    values_out: &mut [i64],
+    tail_out: &mut [u8],
+) {
+    test_io::get_bytes(tail_out);
+    put_unpacked(trips::recover(values, word, rptin, tail, out, values_out, tail_out));
+    put_lent(values_out, tail_out, out);
+}
+
+fn recover_values(
+    values: &[i64],
+    word: u64,
+    rptin: u16,
+    tail: &[u8],
+    out: &mut [u8],
+    values_out: &mut [i64],
+) {
+    get_values(values_out);
+    let mut tail_out = [0u8; 4200];
+    let n = test_io::get_length(4200);
+    recover_tail(
+        values,
+        word,
+        rptin,
+        tail,
+        out,
+        values_out,
+        &mut tail_out[..n],
+    );
+}
+
+fn recover_out(values: &[i64], word: u64, rptin: u16, tail: &[u8], out: &mut [u8]) {
+    let mut values_out = [0i64; 60];
+    let n = test_io::get_length(60);
+    recover_values(values, word, rptin, tail, out, &mut values_out[..n]);
+}
+
+fn pack_out(values: &[i64], word: u64, rptin: u16, tail: &[u8], out: &mut [u8], trip: bool) {
+    test_io::get_bytes(out);
+    if trip {
+        recover_out(values, word, rptin, tail, out);
+        return;
+    }
+    put_packed(pack::pack(values, word, rptin, tail, out));
+    test_io::put_bytes(out);
+}
+
+fn pack_tail(values: &[i64], word: u64, rptin: u16, tail: &mut [u8], trip: bool) {
+    test_io::get_bytes(tail);
+    let mut out = [0u8; 2000];
+    let n = test_io::get_length(2000);
+    pack_out(values, word, rptin, tail, &mut out[..n], trip);
+}
+
+fn pack_in(values: &mut [i64], trip: bool) {
+    get_values(values);
+    let word = test_io::get8();
+    let rptin = (test_io::get2() % 65536) as u16;
+    let mut tail = [0u8; 4200];
+    let n = test_io::get_length(4200);
+    pack_tail(values, word, rptin, &mut tail[..n], trip);
+}
+
+// Values packed; with trip, unpacked again.
+fn pack_one(trip: bool) {
+    let mut values = [0i64; 60];
+    let n = test_io::get_length(60);
+    pack_in(&mut values[..n], trip);
+}
+
+// One vector; false at the end of the input.
+fn one() -> bool {
+    let k = test_io::next();
+    let Kind::Byte(kind) = k else {
+        return false;
+    };
+    match kind {
+        1 | 2 | 4 | 6 | 7 => report_one(kind),
+        3 => fresh_one(),
+        5 | 8 => pack_one(kind == 8),
+        _ => return false,
+    }
+    true
+}
+
+fn main() {
+    let mut left: usize = 100000;
+    while 0 < left {
+        if !one() {
+            return;
+        }
+        left -= 1;
+    }
+}

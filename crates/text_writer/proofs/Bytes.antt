@@ -1,0 +1,102 @@
+-- The writer: one byte, and its loop.
+-- Assumes nothing.
+use Prim.Native.Nat.{ℕ, _+_, _≤_, _<_}
+use native.Mathlib.Omega.{arith}
+use native.Mathlib.Numerals.{add-one}
+use mathlib.Core.Path.{_≡_, refl, sym, ap, ap₂, _∙_}
+use mathlib.Core.List.{List, [], _∷_, _++_, map, append-assoc, append-nil}
+use lib.ListN.{length, getD, drop, length-append, drop-of-length-le}
+use lib.Seq.{drop-cons, sets}
+use lib.Dec.{eqb}
+use borrow.Author.Tests.{eq-eqb, ne-eqb, le-leb, lt-leb}
+use Rattle.format.specs.ShipText.{charCode, codeNibbles, classify, spaceRun, writeFrom, writeText}
+use Rattle.laws.proofs.Sequences.{cond-case}
+use Rattle.laws.proofs.ShipText.{piece, waiting, write-byte}
+use Rattle.text_writer.specs.Answers.{writtenOf, Writes}
+use Rattle.text_writer.specs.declared.Written.the-variants.{Fits, TooLong}
+use Rattle.laws.proofs.Stores.{stores, stores-length, stores-over}
+
+-- ---- one byte
+
+pub byte-space : (at s b : ℕ) (d : List ℕ) → b ≡ 32 → (at ≡ at + length (piece s b)) × (s + 1 ≡ waiting s b) × (d ≡ sets d at (piece s b))
+unfolding piece waiting
+byte-space at s b d e = rw (eq-eqb b 32 e) (omega arith, refl, refl)
+
+pub byte-code : (at s b a x : ℕ) (d o p : List ℕ) → (b ≡ 32 → ⊥) → (a ≡ at + length (spaceRun s)) × (o ≡ sets d at (spaceRun s))
+    → (x ≡ a + length (codeNibbles (charCode b))) × (p ≡ sets o a (codeNibbles (charCode b)))
+    → (x ≡ at + length (piece s b)) × (0 ≡ waiting s b) × (p ≡ sets d at (piece s b))
+unfolding piece waiting
+byte-code at s b a x d o p n f g =
+    rw (ne-eqb b 32 n)
+    (omega (arith, f .0, g .0, length-append (spaceRun s) (codeNibbles (charCode b))), refl, stores d o p (spaceRun s) (codeNibbles (charCode b)) at a (f .1) (f .0) (g .1))
+
+-- ---- the loop
+
+waiting-bound : (s b : ℕ) → waiting s b ≤ s + 1
+unfolding waiting
+waiting-bound s b = cond-case (λ (k : ℕ). k ≤ s + 1) (eqb b 32) (s + 1) 0 (λ _. omega arith) (λ _. omega arith)
+
+-- the nibbles of i bytes stand in front, s spaces wait
+pub record Writing (t d : List ℕ) (at s i : ℕ) (out : List ℕ) : Type 0 where
+  pub inside : i ≤ length t
+  pub few : s ≤ i
+  pub room : at ≤ 255
+  pub done : List ℕ
+  pub place : at ≡ length done
+  pub rest : writeText t ≡ done ++ writeFrom s (map classify (drop i t))
+  pub laid : out ≡ sets d 0 done
+
+module _ (t d : List ℕ) where
+  pub writing-none : Writing t d 0 0 0 d
+  unfolding writeText
+  writing-none = record { inside = omega arith; few = omega arith; room = omega arith; done = []; place = refl; rest = refl; laid = refl }
+
+  pub writing-length : (at s i : ℕ) (out : List ℕ) → Writing t d at s i out → length out ≡ length d
+  writing-length at s i out w = stores-length d out (w .done) 0 (w .laid)
+
+  module _ (at s i x z b : ℕ) (out o : List ℕ) (w : Writing t d at s i out) (h : i < length t) (e : b ≡ getD t i 0) (k : b < 256)
+      (f : (x ≡ at + length (piece s b)) × (z ≡ waiting s b) × (o ≡ sets out at (piece s b))) where
+    step-rest : writeText t ≡ (w .done ++ piece s b) ++ writeFrom z (map classify (drop (i + 1) t))
+    step-rest =
+        w .rest
+        ∙ ap (λ (l : List ℕ). w .done ++ writeFrom s (map classify l)) (drop-cons t i 0 h ∙ ap₂ _∷_ (sym e) (ap (λ (m : ℕ). drop m t) (sym (add-one i))))
+        ∙ ap (λ (l : List ℕ). w .done ++ l) (write-byte s b (map classify (drop (i + 1) t)) k)
+        ∙ sym (append-assoc (w .done) (piece s b) (writeFrom (waiting s b) (map classify (drop (i + 1) t))))
+        ∙ ap (λ (m : ℕ). (w .done ++ piece s b) ++ writeFrom m (map classify (drop (i + 1) t))) (sym (f .1))
+
+    step-place : x ≡ length (w .done ++ piece s b)
+    step-place = omega (arith, f .0, w .place, length-append (w .done) (piece s b))
+
+    pub writing-more : x ≤ 255 → Writing t d x z (i + 1) o
+    writing-more r =
+        let p : at ≡ 0 + length (w .done) = omega (arith, w .place) in
+        record {
+          inside = omega arith;
+          few = omega (arith, f .1, waiting-bound s b, w .few);
+          room = r;
+          done = w .done ++ piece s b;
+          place = step-place;
+          rest = step-rest;
+          laid = stores d out o (w .done) (piece s b) 0 at (w .laid) p (f .2);
+        }
+
+    pub writing-long : 255 < x → Writes t d o TooLong
+    unfolding writtenOf
+    writing-long r =
+        let l : 255 < length (writeText t) = omega (arith, step-place, ap length step-rest, length-append (w .done ++ piece s b) (writeFrom z (map classify (drop (i + 1) t)))) in
+        record { answer = rw (lt-leb (length (writeText t)) 255 l); nibbles = λ n. absurd (omega arith) }
+
+  pub writing-end : (at s i : ℕ) (out : List ℕ) → Writing t d at s i out → length t ≤ i → length d ≡ 255 → Writes t d out (Fits at)
+  unfolding writtenOf
+  writing-end at s i out w h n =
+      let e : writeText t ≡ w .done =
+      w .rest ∙ ap (λ (l : List ℕ). w .done ++ writeFrom s (map classify l)) (drop-of-length-le t {i = i} h) ∙ ap (λ (l : List ℕ). w .done ++ l) (none s) ∙ append-nil (w .done) in
+      let p : at ≡ length (writeText t) = w .place ∙ ap length (sym e) in
+      let l : length (writeText t) ≤ 255 = omega (arith, w .room) in
+      record {
+        answer = rw (le-leb (length (writeText t)) 255 l) (ap Fits p);
+        nibbles = λ _. stores-over d out (writeText t) (omega arith) (w .laid ∙ ap (sets d 0) (sym e));
+      }
+    where
+      none : (m : ℕ) → writeFrom m (map classify []) ≡ []
+      none m = unfold writeFrom in refl
