@@ -1,35 +1,55 @@
-.PHONY: test list lib header-test example vectors reference-test differential differential-test bench
+.PHONY: help test list lib header-test example vectors reference-test differential differential-test bench
 
-# The same as the gate.
+# The first target: plain `make` starts nothing that takes long.
+help:
+	@echo 'make list < report     lists a report: its fields, checksum and attachment count, or its refusal'
+	@echo 'make test              the gate: proves every crate, tries every must-fail edit, runs every program'
+	@echo 'make lib               the library for C and Rust: lib/liblmr5.a and lib/liblmr5.so'
+	@echo 'make example           corrects a sample report by a C program over the library'
+	@echo 'make header-test       compares include/lmr5.h with the code'
+	@echo 'make differential      the unrelated implementation beside the library, on random cases'
+	@echo 'make differential-test what the differential test has to find'
+	@echo 'make reference-test    the tests of the unrelated implementation'
+	@echo 'make vectors           makes the test vectors of the gate anew from the unrelated implementation'
+	@echo 'make bench             measures each call beside Rust written for speed'
+
+# $(call needs,NAME,TOOLS): says which tool is missing for `make NAME`.
+needs = @for tool in $(2); do command -v $$tool >/dev/null || { echo "make $(1): $$tool is not on the PATH" >&2; exit 2; }; done
+
+# The same as the gate, with how far it is on standard error.
 test:
-	.ci/run
+	$(call needs,test,rt)
+	@scripts/progress 'make test' all .ci/run
 
 # Lists the report that standard input begins with: make list < report
 list:
-	@command -v rt >/dev/null || { echo 'make list: the Rattle toolchain (rt) is not on the PATH' >&2; exit 1; }
-	@said=$$(rt check lister 2>&1 </dev/null) || { printf '%s\n' "$$said" >&2; exit 1; }
+	$(call needs,list,rt)
+	@[ ! -t 0 ] || { echo 'make list: no report on standard input; try: make list < crates/lister/stdin' >&2; exit 2; }
+	@scripts/progress 'make list' lister rt check lister >/dev/null
 	@target/bin/lister
 
-# The library for C and Rust programs: lib/liblmr5.a and lib/liblmr5.so, for include/lmr5.h.
-lib:
-	@for tool in rt gcc cargo; do command -v $$tool >/dev/null || { echo "make lib: $$tool is not on the PATH" >&2; exit 1; }; done
-	rt staticlib lmr5
-	mkdir -p lib
-	cp target/staticlib/liblmr5.a lib/liblmr5.a
-	gcc -shared -Wl,-soname,liblmr5.so -o lib/liblmr5.so -Wl,--whole-archive lib/liblmr5.a -Wl,--no-whole-archive
-	$(MAKE) --no-print-directory header-test
-	gcc -std=c99 -Wall -Wextra -pedantic -Werror -Iinclude -o lib/refusals header/refusals.c lib/liblmr5.a
+# The library for C and Rust programs, for include/lmr5.h, made anew where a source is newer.
+lib: lib/liblmr5.a
+	@echo 'make lib: lib/liblmr5.a and lib/liblmr5.so are up to date' >&2
+
+lib/liblmr5.a: crates.txt include/lmr5.h $(shell find crates -name '*.rt' -o -name '*.antt') $(shell find header -name '*.rs' -o -name '*.c')
+	$(call needs,lib,rt gcc cargo)
+	@scripts/progress 'make lib' lmr5 sh -c 'rt check $(shell sed -n 's/^lmr5://p' crates.txt) && rt staticlib lmr5' >/dev/null
+	@echo 'make lib: linking, and comparing the header with the code' >&2
+	@mkdir -p lib
+	@cp target/staticlib/liblmr5.a lib/made.a
+	gcc -shared -Wl,-soname,liblmr5.so -o lib/liblmr5.so -Wl,--whole-archive lib/made.a -Wl,--no-whole-archive
+	@$(MAKE) --no-print-directory header-test
+	gcc -std=c99 -Wall -Wextra -pedantic -Werror -Iinclude -o lib/refusals header/refusals.c lib/made.a
 	lib/refusals
+	@mv lib/made.a lib/liblmr5.a
 
 # Compares the header with what crates/lmr5 exports and with the definitions, and compiles it as C99 and, with g++, as C++.
 header-test:
-	@for tool in gcc cargo; do command -v $$tool >/dev/null || { echo "make header-test: $$tool is not on the PATH" >&2; exit 1; }; done
+	$(call needs,header-test,gcc cargo)
 	cd header && cargo test --quiet && cargo run --quiet -- ..
 	gcc -std=c99 -Wall -Wextra -pedantic -Werror -fsyntax-only -x c include/lmr5.h
 	! command -v g++ >/dev/null || g++ -Wall -Wextra -pedantic -Werror -fsyntax-only -x c++ include/lmr5.h
-
-lib/liblmr5.a:
-	$(MAKE) --no-print-directory lib
 
 # Builds examples/correct.c over the library, and corrects the sample report with it.
 example: lib/liblmr5.a
@@ -38,29 +58,29 @@ example: lib/liblmr5.a
 
 # Makes the test vectors of the gate anew, byte for byte, from the unrelated implementation.
 vectors:
-	@command -v cargo >/dev/null || { echo 'make vectors: cargo is not on the PATH' >&2; exit 1; }
+	$(call needs,vectors,cargo)
 	cd reference && cargo run --release --quiet --bin gate-reports -- ../crates/test_reports
 	cd reference && cargo run --release --quiet --bin gate-scripts -- ../crates/test_scripts
 
 # The tests of the unrelated implementation.
 reference-test:
-	@command -v cargo >/dev/null || { echo 'make reference-test: cargo is not on the PATH' >&2; exit 1; }
+	$(call needs,reference-test,cargo)
 	cd reference && cargo test --release
 
 # The unrelated implementation beside lib/liblmr5.a: make differential SEED=.. CALLS=.., or ONLY=.. for one case.
 SEED = 1
 CALLS = 2000000
 ONLY =
-differential: lib
-	@command -v cargo >/dev/null || { echo 'make differential: cargo is not on the PATH' >&2; exit 1; }
+differential: lib/liblmr5.a
+	$(call needs,differential,cargo)
 	@cd differential && cargo run --release --quiet -- $(SEED) $(CALLS) $(ONLY)
 
 # What the differential test has to find, tried with a stand-in for the library.
 differential-test:
-	@command -v cargo >/dev/null || { echo 'make differential-test: cargo is not on the PATH' >&2; exit 1; }
+	$(call needs,differential-test,cargo)
 	cd differential && cargo test --release --lib
 
 # Measures each call beside plain Rust written for speed, or one call: make bench BENCH=judge
-bench: lib
-	@command -v cargo >/dev/null || { echo 'make bench: cargo is not on the PATH' >&2; exit 1; }
+bench: lib/liblmr5.a
+	$(call needs,bench,cargo)
 	cd bench && cargo run --release --quiet -- $(BENCH)

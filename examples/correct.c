@@ -26,7 +26,7 @@ static const char *const refusals[] = {
     "the checksum differs",
     "an attachment is empty, has id 0 or repeats an id",
     "the flags or the ship text are invalid",
-    "the odd last nibble is not 0",
+    "the padding nibble is not 0",
     "no such field, flag or id",
     "the value is out of range",
     "the field is required",

@@ -48,7 +48,7 @@ static void by_the_report(void) {
     see("another checksum", with(36, 0xff, 0xff), LMR5_REFUSED_CHECKSUM, 0);
     see("id 0", with_id(0), LMR5_REFUSED_ATTACHMENT, 1);
     see("one flag", with_id(1), LMR5_REFUSED_BODY, 1);
-    see("the odd nibble", with(37, 0, 1), LMR5_REFUSED_LAST_NIBBLE, 0);
+    see("the padding nibble", with(37, 0, 1), LMR5_REFUSED_PADDING, 0);
 }
 
 static void by_an_argument(void) {

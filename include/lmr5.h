@@ -79,7 +79,7 @@ enum lmr5_refusal {
     LMR5_REFUSED_CHECKSUM = 4,    /* the checksum differs */
     LMR5_REFUSED_ATTACHMENT = 5,  /* an attachment of no nibbles, with id 0 or a repeated id; place: its position */
     LMR5_REFUSED_BODY = 6,        /* invalid flags (id 1) or ship text (id 4); place: the attachment's position */
-    LMR5_REFUSED_LAST_NIBBLE = 7, /* the odd last nibble is not 0 */
+    LMR5_REFUSED_PADDING = 7,     /* the padding nibble is not 0 */
     /* by an argument */
     LMR5_REFUSED_NUMBER = 8,      /* field not 1 to 46, flag not 1 to 14, id not 1 to 15, presence bit outside 1 to 46 */
     LMR5_REFUSED_VALUE = 9,       /* value out of range; place: the field or flag */
@@ -201,7 +201,7 @@ enum lmr5_contents {
 
 /*
  * Writes the values of fields 1 to 46, 0 where missing, to the first 46 of `values`; the tail, which is all nibbles behind
- * the card without an odd last one, to the front of `tail`; and the rest to all six of `contents`.
+ * the card without the padding nibble, to the front of `tail`; and the rest to all six of `contents`.
  * Gives nothing else. Refusals: the report's refusals; 13 where `values` is under 46 or `tail` shorter than the tail.
  * The report and the rest of `values` and `tail` stay.
  */

@@ -36,7 +36,7 @@ pub fn nibbles_of(bytes: &[u8]) -> Vec<u8> {
         .collect()
 }
 
-/// Bytes of two nibbles each; an odd last nibble is followed by 0.
+/// Bytes of two nibbles each; an odd number of nibbles is padded with 0.
 pub fn bytes_of_nibbles(nibbles: &[u8]) -> Vec<u8> {
     nibbles
         .chunks(2)

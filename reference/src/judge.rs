@@ -13,7 +13,7 @@ pub struct Report {
     pub observation: Observation,
     pub ck: u64,
     pub ac: usize,
-    /// Nibbles without an odd last one.
+    /// Nibbles without the padding.
     pub nibbles: usize,
     pub bytes: usize,
 }

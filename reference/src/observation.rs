@@ -40,7 +40,7 @@ impl Observation {
         codes
     }
 
-    /// Nibbles of the card and the attachments, without an odd last one.
+    /// Nibbles of the card and the attachments, without the padding.
     pub fn nibbles(&self) -> Vec<u8> {
         let codes = self.codes();
         let card = Card {

@@ -1,4 +1,4 @@
-//! Document 001's Tables F0-1, F0-2 and F0-3, and what is derived from them.
+//! Tables F0-1, F0-2 and F0-3 of the source (supplement F of COADS Release 1), and what is derived from them.
 
 /// A value as stored on the card; 0 is missing.
 #[derive(Clone, Copy, Debug, PartialEq, Eq)]

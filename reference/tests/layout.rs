@@ -117,7 +117,7 @@ fn largest_quality_code_takes_both_nibbles() {
 fn two_attachments_and_their_edits() {
     let mut buffer = fresh_buffer(60);
     assert_eq!(put(&mut buffer, 5, &[10, 11, 12]), Ok(()));
-    // AC 1; 03, 5, A B C: 81 nibbles, an odd last one 0.
+    // AC 1; 03, 5, A B C: 81 nibbles and padding.
     assert_eq!(buffer[37..42], [0x10, 0x35, 0xAB, 0xC0, 0xA5]);
     assert_eq!(put(&mut buffer, 15, &[1]), Ok(()));
     // AC 2; ...; 01, F, 1: 85 nibbles.

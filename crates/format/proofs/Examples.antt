@@ -1,5 +1,5 @@
--- The examples of document 01, "Edges of the shelf", as one list that one computed fact checks; and as a second list,
--- cases in which two refusals fit at once, for the orders of 01.
+-- The figures of FORMAT 12, as one list that one computed fact checks; and as a second list, cases in which two refusals fit at
+-- once, for the orders of FORMAT 5 to 7.
 -- Assumes nothing.
 use Prim.Native.Nat.{ℕ, zero, suc, _+_, _-_, _^_}
 use mathlib.Core.List.{List, [], _∷_, _++_, map}
@@ -93,9 +93,9 @@ refuses n p = 0 ∷ n ∷ p ∷ []
 example : List ℕ → List ℕ → Example
 example got want = record { got = got; want = want }
 
--- ---- the reports of 01
+-- ---- the reports of FORMAT 12
 
--- "Fresh, values 1, 1900, 1, 0, 0"
+-- a fresh report of BOX10 1, YEAR 1900, MONTH 1, X 0, Y 0
 freshExample : List ℕ → Wrote
 freshExample out = fresh (scaled (pos 1)) (scaled (pos 1900)) (scaled (pos 1)) (scaled (pos 0)) (scaled (pos 0)) out
 
@@ -106,11 +106,11 @@ freshBytes =
 freshObservationExample : Observation
 freshObservationExample = freshObservation (scaled (pos 1)) (scaled (pos 1900)) (scaled (pos 1)) (scaled (pos 0)) (scaled (pos 0))
 
--- "then S set to 286"
+-- S set to 286 in it
 sBytes : List ℕ
 sBytes = effect freshBytes (edits (setField 31 (scaled (pos 286)))) .buffer
 
--- "then text A1", in a buffer with four bytes more
+-- and the text A1 put, in a buffer with four bytes more
 textBytes : List ℕ
 textBytes = effect (sBytes ++ (7 ∷ 7 ∷ 7 ∷ 7 ∷ [])) (edits (putText (65 ∷ 49 ∷ []))) .buffer
 
@@ -152,7 +152,7 @@ roomy = freshBytes ++ replicate 22 5
 wide : List ℕ
 wide = freshBytes ++ replicate 140 5
 
--- ---- the examples marked in 01, and the lister's lines
+-- ---- the figures of FORMAT 12, and the lister's lines
 
 pub examples : List Example
 examples =

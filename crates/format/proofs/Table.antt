@@ -1,4 +1,5 @@
--- The field table, the weights and the character table against document 001, computed over the whole of each.
+-- The field table, the weights and the character table against those of the source (supplement F of COADS Release 1), computed
+-- over the whole of each.
 -- Assumes nothing.
 use Prim.Native.Nat.{ℕ, zero, suc, _+_, _/_, _%_, _^_}
 use mathlib.Core.Bool.{Bool, true, false, cond, not, _&&_}
@@ -29,8 +30,8 @@ abbrev pub row : ℤ → ℤ → ℤ → ℕ → ℕ → ℕ → Row
 row low high base lowCode highCode bits =
     record { low = low; high = high; base = base; lowCode = lowCode; highCode = highCode; bits = bits }
 
-unfoldable pub document001 : List Row
-document001 =
+unfoldable pub sourceRows : List Row
+sourceRows =
     row (pos 1) (pos 648) (pos 0) 1 648 10 ∷  -- 1 BOX10
     row (pos 1800) (pos 2054) (pos 1799) 1 255 8 ∷  -- 2 YEAR
     row (pos 1) (pos 12) (pos 0) 1 12 4 ∷  -- 3 MONTH
@@ -98,9 +99,9 @@ agreeAll [] (r ∷ rs) = false
 agreeAll (f ∷ fs) [] = false
 agreeAll (f ∷ fs) (r ∷ rs) = agree f r && agreeAll fs rs
 
--- the table agrees with document 001 at all 46 fields, and the card has 300 bits
-pub table-agrees : T (agreeAll table document001 && (eqb (length table) 46 && eqb (total widths) 300))
-unfolding table document001 eqZ agree agreeAll total widths
+-- the table agrees with the source at all 46 fields, and the card has 300 bits
+pub table-agrees : T (agreeAll table sourceRows && (eqb (length table) 46 && eqb (total widths) 300))
+unfolding table sourceRows eqZ agree agreeAll total widths
 table-agrees = tt
 
 -- ---- flags: the weights of R A B J K L M N Q S, table F4-1

@@ -13,7 +13,7 @@ pub right : (a b : Bool) → T (a && b) → T b
 right true b t = t
 right false b t = absurd t
 
--- what a definition gives, and what the paper says
+-- what a definition gives, and what FORMAT says
 pub record Example : Type 0 where
   pub got : List ℕ
   pub want : List ℕ

@@ -1,4 +1,4 @@
--- Bits, numbers and bytes. Bit 0 is the highest bit of byte 0. Fields follow one another without gaps, high bit first.
+-- FORMAT 2.1: bits, numbers and bytes. Bits are counted from the highest of byte 0; fields stand side by side, highest bit first.
 use Prim.Native.Nat.{ℕ, zero, suc, _+_, _*_, _/_, _%_, _^_, _<_}
 use mathlib.Core.Bool.{Bool, true, false}
 use mathlib.Core.List.{List, [], _∷_, _++_}

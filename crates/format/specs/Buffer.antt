@@ -1,4 +1,4 @@
--- What a call, and a list of calls, leaves of the buffer and of the outputs; the claim about a list.
+-- FORMAT 6.2 and 6.3: what a call, and a list of calls, leaves of the buffer and of the outputs; the claim about a list.
 use Prim.Native.Nat.{ℕ, _-_, max}
 use mathlib.Core.List.{List, _++_, map}
 use lib.ListN.{length, drop, replicate}
@@ -11,8 +11,7 @@ use Rattle.format.specs.Machine.{Moved, Course, course}
 abbrev pub zeros : ℕ → List ℕ
 zeros n = replicate n 0
 
--- the buffer b, whose report ended at e, with the packing of s at its front: "bytes from the new end up to the old end are 0;
--- those beyond both ends keep their value"
+-- the buffer b, whose report ended at e, with the packing of s at its front: 0 from there to e, and b behind both ends
 unfoldable pub layout : List ℕ → ℕ → Observation → List ℕ
 layout b e s = packing s ++ (zeros (e - size s) ++ drop (max e (size s)) b)
 
@@ -25,12 +24,12 @@ pub record After : Type 0 where
 abbrev pub after : Answer → List ℕ → List (List ℕ) → After
 after a b outs = record { answer = a; buffer = b; outs = outs }
 
--- what a step leaves of the buffer b, whose report ended at e: "a refused step changes nothing"
+-- what a step leaves of the buffer b, whose report ended at e; refused, it leaves b
 abbrev pub bufferAfter : Answer → List ℕ → ℕ → Observation → List ℕ
 bufferAfter (Answer.refused r) b e s = b
 bufferAfter (Answer.accepted gs) b e s = layout b e s
 
--- "the report is checked first": the verdict decides
+-- the report is judged before the call
 abbrev pub effectOn : Verdict → List ℕ → Call → After
 effectOn (refused r) b c = after (Answer.refused r) b (outputsOf c)
 effectOn (accepted s) b c =
@@ -42,7 +41,7 @@ effect b c = effectOn (judge b) b c
 
 -- ---- a list of calls
 
--- 01's answer whole: the answer, with "the bytes of each output after the call"
+-- an answer whole: with the bytes of each output after the call
 pub record Shown : Type 0 where
   pub answer : Answer
   pub outs : List (List ℕ)
@@ -50,7 +49,7 @@ pub record Shown : Type 0 where
 abbrev pub shown : Answer → List (List ℕ) → Shown
 shown a outs = record { answer = a; outs = outs }
 
--- the calls one after the other, each on the buffer "as the call before left" it: the state is the buffer
+-- the calls one after the other, each on the buffer that the one before left: the state is the buffer
 abbrev pub performing : List ℕ → Call → Moved (List ℕ) Shown
 performing b c = let a = effect b c in record { answer = shown (a .answer) (a .outs); state = a .buffer }
 
@@ -74,14 +73,14 @@ stepping n m c =
 unfoldable pub run : ℕ → Standing → List Call → Course Standing Shown
 run n m cs = course (stepping n) m cs
 
--- the packing of the machine's observation, 0 "from the present end to the longest end reached", and "bytes past that"
+-- the packing of the machine's observation, 0 to the longest end, and the bytes of the start
 abbrev pub runOn : List ℕ → Course Standing Shown → Course (List ℕ) Shown
 runOn b r = record { answers = r .answers; state = layout b (r .state .longest) (r .state .observation) }
 
 abbrev pub refusals : Refusal → List Call → List Shown
 refusals r cs = map (λ (c : Call). shown (Answer.refused r) (outputsOf c)) cs
 
--- demand 3, what is claimed of a list: on an accepted report the machine's run, begun on that report's observation; on any other
+-- demand 3 (FORMAT 10), what is claimed of a list: on an accepted report the machine's run, begun on that report's observation; on any other
 -- buffer each call gives the refusal, and no byte changes. That the calls do what is claimed is the theorem of crate laws
 abbrev pub claimOn : Verdict → List ℕ → List Call → Course (List ℕ) Shown
 claimOn (refused r) b cs = record { answers = refusals r cs; state = b }

@@ -1,4 +1,4 @@
--- "Plain machine": its calls, their refusals 8 to 14, and its steps. It sees no byte of a buffer.
+-- FORMAT 6.1 and 6.3: the calls, their refusals 8 to 14, and the steps of the plain machine. It sees no byte of a buffer.
 use Prim.Native.Nat.{ℕ, _-_}
 use mathlib.Core.Bool.{Bool, true, false, cond, not, _&&_, _||_}
 use mathlib.Core.List.{List, [], _∷_, _++_}
@@ -15,7 +15,7 @@ use Rattle.format.specs.Observation.{Observation, observation, size}
 use Rattle.format.specs.Report.{bodyValid}
 use Rattle.format.specs.declared.Scaled.{Scaled}
 
--- the calls, with their arguments, their contents and their outputs "as they were lent", in three groups
+-- the calls, each with its arguments, and with contents and outputs as they are lent, in three groups
 
 -- those that read: read k; read flag j
 pub data Reading : Type 0 where
@@ -62,12 +62,12 @@ unfoldable pub contentOf : ℕ → List Attachment → List ℕ
 contentOf i [] = []
 contentOf i (a ∷ more) = cond (eqb (a .id) i) (a .content) (contentOf i more)
 
--- "replaces the content where id stands in the list, else appends the pair"
+-- the content of id i takes the place of the one that stands; where none does, it goes to the end
 unfoldable pub putIn : ℕ → List ℕ → List Attachment → List Attachment
 putIn i ns [] = attachment i ns ∷ []
 putIn i ns (a ∷ more) = cond (eqb (a .id) i) (attachment i ns ∷ more) (a ∷ putIn i ns more)
 
--- "removes the pair; the rest keep their order"
+-- the list without id i, the others in their order
 unfoldable pub removeFrom : ℕ → List Attachment → List Attachment
 removeFrom i [] = []
 removeFrom i (a ∷ more) = cond (eqb (a .id) i) more (a ∷ removeFrom i more)
@@ -158,7 +158,7 @@ writes s (edits e) = []
 writes s (fetches (fetch i out)) = content s i ∷ []
 writes s (fetches (fetchText out)) = readText (content s 4) ∷ []
 
--- ---- the caller's refusals, "judged on the sheet, n and what the step was fed"
+-- ---- the refusals 8 to 14, by the observation, the buffer's length n and the call
 
 -- 8: field not 1 to 46, flag not 1 to 14, id not 1 to 15
 abbrev pub fieldNumberCheck : ℕ → Check
@@ -210,7 +210,7 @@ overfull (xs ∷ more) (out ∷ outs) = ltb (length out) (length xs) || overfull
 abbrev pub roomCheck : ℕ → Observation → Call → Check
 roomCheck n s c = check (shorter n (edited s c) || overfull (writes s c) (outputsOf c)) 13 0
 
--- a call's checks before the last one, which is 13 for room: "then 8, 9, 10, 11, 12, 14, 13"
+-- a call's checks before the last one, which is 13 for room: as far as it has them 8, 9, 10, 11, 12, 14, in this order
 unfoldable pub callChecks : Observation → Call → List Check
 callChecks s (reads (readField k)) = fieldNumberCheck k ∷ []
 callChecks s (reads (readFlag j)) = flagNumberCheck j ∷ standsCheck s 1 ∷ []
@@ -229,7 +229,7 @@ checks n s c = callChecks s c ++ (roomCheck n s c ∷ [])
 
 -- ---- a step, on a buffer of n bytes
 
--- "the acceptance with what the step gives, or the refusal's number and place"
+-- what is given, or the refusal
 pub data Answer : Type 0 where
   refused : Refusal → Answer
   accepted : List Given → Answer

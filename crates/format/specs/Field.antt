@@ -1,4 +1,4 @@
--- "The card of 300 bits": the field table; the coded number and the scaled value of a field.
+-- FORMAT 2.2 and 2.3: the field table; the coded number and the scaled value of a field.
 use Prim.Native.Nat.{ℕ, _-_}
 use mathlib.Core.Bool.{Bool, cond, _&&_, _||_}
 use mathlib.Core.List.{List, [], _∷_}
@@ -11,7 +11,7 @@ use Rattle.format.specs.Order.{between}
 use Rattle.format.specs.declared.Coded.{Coded}
 use Rattle.format.specs.declared.Scaled.{Scaled}
 
--- a row of the table: highest coded value, base, bits
+-- a row of the table: highest coded number, base, bits
 pub record Field : Type 0 where
   pub highest : ℕ
   pub base : ℤ
@@ -108,14 +108,14 @@ coded n = record { 0 = n }
 abbrev pub scaled : ℤ → Scaled
 scaled z = record { 0 = z }
 
--- "coded + base", and back (for a value in range): no other definition turns the one quantity into the other
+-- across by the base, and back (for a value in range): no other definition turns the one quantity into the other
 unfoldable pub scaledOf : Field → Coded → Scaled
 scaledOf f c = scaled (pos (c .0) +ℤ f .base)
 
 unfoldable pub codedOf : Field → Scaled → Coded
 codedOf f v = coded (natAbs (v .0 -ℤ f .base))
 
--- "a field's runs from base + 1 to base + highest"
+-- the range of a field: base + 1 and base + highest are its ends
 unfoldable pub inRange : Field → Scaled → Bool
 inRange f v = leZ (f .base +ℤ pos 1) (v .0) && leZ (v .0) (f .base +ℤ pos (f .highest))
 

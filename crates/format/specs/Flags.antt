@@ -1,4 +1,4 @@
--- "Id 1, flags": fourteen flags of one nibble, then a quality code of 8 bits.
+-- FORMAT 3.4: the flags of id 1, one nibble each, and the quality code.
 use Prim.Native.Nat.{ℕ, zero, suc, _+_, _-_, _*_, _/_, _%_}
 use mathlib.Core.Bool.{Bool, true, cond, _&&_}
 use mathlib.Core.List.{List, [], _∷_, _++_}
@@ -9,7 +9,7 @@ use Rattle.format.specs.Order.{between}
 abbrev pub isFlag : ℕ → Bool
 isFlag j = between 1 14 j
 
--- the weights of R A B J K L M N Q S, which are 1 to 10; "missing weighs nothing"
+-- the weights of R A B J K L M N Q S, which are 1 to 10; a missing flag, 0, has none
 unfoldable pub weights : List ℕ
 weights = 0 ∷ 1 ∷ 1 ∷ 2 ∷ 2 ∷ 2 ∷ 3 ∷ 3 ∷ 3 ∷ 3 ∷ []
 
@@ -25,15 +25,15 @@ unfoldable pub allMissing : List ℕ → Bool
 allMissing [] = true
 allMissing (v ∷ vs) = eqb v 0 && allMissing vs
 
--- "0 if all fourteen are missing, else 1 + the weights of the others"
+-- 0 where every flag is missing, otherwise 1 plus the weights
 unfoldable pub qualityCode : List ℕ → ℕ
 qualityCode flags = cond (allMissing flags) 0 (1 + totalWeight flags)
 
--- "any flag may take any of the ten" (request K6 of document 02 will read a table here)
+-- every flag may have every value (change request K6 reads a table here)
 abbrev pub permitted : ℕ → ℕ → Bool
 permitted j v = true
 
--- a value that flag j may be set to: "a flag's from 1 to 10"
+-- a value that flag j may be set to
 abbrev pub flagInRange : ℕ → ℕ → Bool
 flagInRange j v = between 1 10 v && permitted j v
 
@@ -54,7 +54,7 @@ flagBody flags = flags ++ (qualityCode flags / 16 ∷ qualityCode flags % 16 ∷
 unfoldable pub withFlag : List ℕ → ℕ → ℕ → List ℕ
 withFlag body j v = flagBody (set (take 14 body) (j - 1) v)
 
--- what 6 asks of id 1: AL 16, no flag over 10, the rule's quality code
+-- a valid content of id 1: 16 nibbles, no flag over 10, the quality code of the flags
 unfoldable pub flagsValid : List ℕ → Bool
 flagsValid body =
     eqb (length body) 16 && (flagsFit 1 (take 14 body) && eqb (getD body 14 0 * 16 + getD body 15 0) (qualityCode (take 14 body)))

@@ -1,4 +1,4 @@
--- The lister: what it prints for an input, as ASCII.
+-- FORMAT 9: what the lister prints for an input, as ASCII.
 use Prim.Native.Nat.{ℕ, zero, suc, _+_, _/_, _%_}
 use mathlib.Core.Bool.{true, false}
 use mathlib.Core.List.{List, [], _∷_, _++_}
@@ -31,18 +31,18 @@ abbrev pub fieldLine : ℕ → Option Scaled → List ℕ
 fieldLine k none = []
 fieldLine k (some v) = line (decimal k) (signedDecimal (v .0))
 
--- "for each present field ascending, its number and scaled value": the entries from field k on
+-- a line for each entry that is present, from field k on
 unfoldable pub fieldLines : ℕ → List (Option Scaled) → List ℕ
 fieldLines k [] = []
 fieldLines k (e ∷ es) = fieldLine k e ++ fieldLines (suc k) es
 
--- "then C with CK and A with AC"; "a refusal prints only R, number and place"
+-- the lines of a verdict: R, the fields, C and A
 abbrev pub listingOf : Verdict → List ℕ
 listingOf (refused r) = line (82 ∷ []) (decimal (r .number) ++ (32 ∷ decimal (r .place)))
 listingOf (accepted s) =
     fieldLines 1 (s .values)
     ++ (line (67 ∷ []) (decimal (checksum (codes table (s .values)))) ++ line (65 ∷ []) (decimal (length (s .attachments))))
 
--- "a report from the first 1856 bytes of standard input"
+-- the first 1856 bytes of the input count
 unfoldable pub listing : List ℕ → List ℕ
 listing input = listingOf (judge (take 1856 input))

@@ -1,4 +1,4 @@
--- Any machine: a state, and for each call an answer and the state after it. A list of calls on it.
+-- FORMAT 6.3, for any machine: a state, and for each call an answer and the state after it. A list of calls on it.
 use mathlib.Core.List.{List, [], _∷_}
 
 pub record Moved (S A : Type 0) : Type 0 where

@@ -1,4 +1,4 @@
--- "Behind the card": nibbles and attachments.
+-- FORMAT 3.1 to 3.3: nibbles and attachments.
 use Prim.Native.Nat.{ℕ, zero, suc, _+_, _*_, _/_, _%_}
 use mathlib.Core.Bool.{Bool, cond, false, _||_}
 use mathlib.Core.List.{List, [], _∷_, _++_}
@@ -6,7 +6,7 @@ use lib.ListN.{length, getD, take, drop}
 use lib.Dec.{eqb}
 use Rattle.format.specs.Bits.{Below}
 
--- "a nibble is 4 bits, high half of a byte first"
+-- the nibbles of bytes, the high half of each first
 unfoldable pub nibbles : List ℕ → List ℕ
 nibbles [] = []
 nibbles (b ∷ bs) = b / 16 ∷ b % 16 ∷ nibbles bs
@@ -24,13 +24,13 @@ bytes (h ∷ l ∷ ns) = (h * 16 + l) ∷ bytes ns
 abbrev pub odd : ℕ → Bool
 odd n = eqb (n % 2) 1
 
--- "then one nibble 0 if the count of nibbles so far .. is odd"
+-- with the padding nibble, where it is due
 unfoldable pub padded : List ℕ → List ℕ
 padded ns = cond (odd (length ns)) (ns ++ (0 ∷ [])) ns
 
 -- ---- attachments
 
--- a pair (id, nibbles)
+-- an attachment: its id and its content
 pub record Attachment : Type 0 where
   pub id : ℕ
   pub content : List ℕ
@@ -38,7 +38,7 @@ pub record Attachment : Type 0 where
 abbrev pub attachment : ℕ → List ℕ → Attachment
 attachment i ns = record { id = i; content = ns }
 
--- "AL (8 bits, 1 to 255, the number of data nibbles), AID (4 bits, 1 to 15) and the data"
+-- AL in two nibbles, AID in one, and the content
 unfoldable pub attachmentNibbles : Attachment → List ℕ
 attachmentNibbles a = length (a .content) / 16 ∷ length (a .content) % 16 ∷ a .id ∷ a .content
 
@@ -46,7 +46,7 @@ unfoldable pub tailNibbles : List Attachment → List ℕ
 tailNibbles [] = []
 tailNibbles (a ∷ more) = attachmentNibbles a ++ tailNibbles more
 
--- AL, AID and the data of the attachment at the head of nibbles, and what stands behind it
+-- AL, AID and the content of the attachment at the head of nibbles, and what stands behind it
 abbrev pub lengthAt : List ℕ → ℕ
 lengthAt ns = getD ns 0 0 * 16 + getD ns 1 0
 

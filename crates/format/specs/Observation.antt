@@ -1,4 +1,4 @@
--- An observation, which is the sheet of the plain machine, and its packing.
+-- FORMAT 4.1 and 4.3: an observation, which is the sheet of the client's plain machine, and its packing.
 use Prim.Native.Nat.{ℕ, _%_}
 use mathlib.Core.List.{List, [], _∷_, _++_, map}
 use mathlib.Core.Option.{Option}
@@ -8,7 +8,7 @@ use Rattle.format.specs.Bits.{readFields, writeFields, total}
 use Rattle.format.specs.Nibbles.{Attachment, tailNibbles, padded, bytes}
 use Rattle.format.specs.declared.Scaled.{Scaled}
 
--- "its sheet is RPTIN, 46 optional scaled values, and an ordered list of (id, nibbles)"; value k stands at place k - 1
+-- the value of field k stands at place k - 1, none where it is missing
 pub record Observation : Type 0 where
   pub rptin : ℕ
   pub values : List (Option Scaled)
@@ -21,11 +21,11 @@ observation rptin values attachments = record { rptin = rptin; values = values; 
 unfoldable pub widths : List ℕ
 widths = 16 ∷ (map (λ (f : Field). f .bits) table ++ (14 ∷ 4 ∷ []))
 
--- CK, "the sum of coded fields 1 to 46 modulo 255"
+-- FORMAT 2.4: CK of the coded numbers of fields 1 to 46
 unfoldable pub checksum : List ℕ → ℕ
 checksum cs = total cs % 255
 
--- the numbers on an observation's card, "with CK and AC worked out"
+-- the numbers on an observation's card, CK and AC worked out
 unfoldable pub cardNumbers : Observation → List ℕ
 cardNumbers s =
     s .rptin ∷ (codes table (s .values) ++ (checksum (codes table (s .values)) ∷ length (s .attachments) ∷ []))
@@ -34,7 +34,7 @@ cardNumbers s =
 unfoldable pub cardNibbles : Observation → List ℕ
 cardNibbles s = readFields (replicate 75 4) (writeFields widths (cardNumbers s))
 
--- "the packing of a sheet"
+-- card, attachments and padding nibble, as bytes
 unfoldable pub packing : Observation → List ℕ
 packing s = bytes (padded (cardNibbles s ++ tailNibbles (s .attachments)))
 

@@ -1,4 +1,4 @@
--- Refusals, and the order in which they are judged.
+-- FORMAT 5.1: refusals, and the order in which they are judged.
 use Prim.Native.Nat.{ℕ}
 use mathlib.Core.Bool.{Bool, cond, _&&_}
 use mathlib.Core.List.{List, [], _∷_}

@@ -1,4 +1,4 @@
--- A report: its observation, the sheet "read off its bytes", and the refusals 1 to 7. A buffer holds its report from its first byte on.
+-- FORMAT 4.2 and 5.2: a report's observation, and the refusals 1 to 7. A buffer holds its report from its first byte on.
 use Prim.Native.Nat.{ℕ, zero, suc, _+_}
 use mathlib.Core.Bool.{Bool, true, cond, not, _&&_, _||_}
 use mathlib.Core.List.{List, [], _∷_, _++_}
@@ -34,7 +34,7 @@ countOf b = getD (numbersOf b) 48 0
 abbrev pub tailOf : List ℕ → List ℕ
 tailOf b = drop 75 (nibbles b)
 
--- "RPTIN, each coded value + base, or missing where it is 0, and the attachments in their order"
+-- the observation that the bytes hold, accepted or not
 unfoldable pub observationOf : List ℕ → Observation
 observationOf b = observation (rptinOf b) (entries table (codesOf b)) (attachmentsOf (countOf b) (tailOf b))
 
@@ -47,11 +47,11 @@ fieldChecks k (f ∷ fs) [] = []
 fieldChecks k (f ∷ fs) (c ∷ cs) =
     check (ltb (f .highest) c) 2 k ∷ check (required k && eqb c 0) 3 k ∷ fieldChecks (suc k) fs cs
 
--- a body that 6 accepts, under id i
+-- a valid content of id i
 unfoldable pub bodyValid : ℕ → List ℕ → Bool
 bodyValid i ns = cond (eqb i 1) (flagsValid ns) (cond (eqb i 4) (textValid ns) true)
 
--- n attachments from position i on, after the ids seen: "header fits, 5, data fits, 6"
+-- n attachments from position i on, after the ids seen: 1 for the header, 5, 1 for the content, 6
 unfoldable pub attachmentChecks : ℕ → ℕ → List ℕ → List ℕ → List Check
 attachmentChecks zero i seen ns = []
 attachmentChecks (suc n) i seen ns =
@@ -65,7 +65,7 @@ attachmentChecks (suc n) i seen ns =
 abbrev pub tailLength : List ℕ → ℕ
 tailLength b = length (tailNibbles (attachmentsOf (countOf b) (tailOf b)))
 
--- "length, fields ascending (2 or 3), 4, each attachment (header fits, 5, data fits, 6), 7"
+-- the five steps of FORMAT 5.2
 unfoldable pub reportChecks : List ℕ → List Check
 reportChecks b =
     check (ltb (length b) 38) 1 0
@@ -84,6 +84,6 @@ abbrev pub verdict : Option Refusal → Observation → Verdict
 verdict none s = accepted s
 verdict (some r) s = refused r
 
--- "a report is accepted if none of 1 to 7 below refuses it"
+-- the first check that fits refuses the report; where none does, it is accepted
 unfoldable pub judge : List ℕ → Verdict
 judge b = verdict (first (reportChecks b)) (observationOf b)

@@ -1,5 +1,5 @@
--- "Id 4, ship text": the characters, the writer, the reader. They are over symbols, as request K4 of document 02 will have
--- them: a plain byte has a short code, an original one stands behind 15. 01's text is bytes, each plain if it has a short code.
+-- FORMAT 3.5, the ship text of id 4: the characters, the writer, the reader. They are over symbols, as change request K4 asks: a
+-- plain byte has a short code, an original one is escaped. A text of bytes is a row of symbols, each plain if it has a short code.
 use Prim.Native.Nat.{ℕ, zero, suc, _+_, _-_, _*_, _/_, _%_}
 use mathlib.Core.Bool.{Bool, true, false, cond, not, _&&_}
 use mathlib.Core.List.{List, [], _∷_, _++_, map}
@@ -57,7 +57,7 @@ unfoldable pub byteOf : Symbol → ℕ
 byteOf (plain b) = b
 byteOf (original b) = b
 
--- the bytes that stand behind 15: "any other byte, up to 255"
+-- the bytes that the writer escapes
 unfoldable pub escapable : ℕ → Bool
 escapable b = ltb b 256 && not (short b)
 
@@ -71,23 +71,23 @@ symbolNibbles (original b) = 15 ∷ b / 16 ∷ b % 16 ∷ []
 
 -- ---- the writer
 
--- "11,15 for each full 18"
+-- the nibbles of so many full eighteens of spaces
 unfoldable pub fulls : ℕ → List ℕ
 fulls zero = []
 fulls (suc k) = 11 ∷ 15 ∷ fulls k
 
--- "nothing, 10, or 10,10 for a rest of 0, 1, 2, else 11 and rest - 3"
+-- the nibbles of the spaces that are left over, under 18
 unfoldable pub rest : ℕ → List ℕ
 rest zero = []
 rest (suc zero) = 10 ∷ []
 rest (suc (suc zero)) = 10 ∷ 10 ∷ []
 rest (suc (suc (suc r))) = 11 ∷ r ∷ []
 
--- "a run of s spaces"
+-- a run of s spaces that another symbol follows
 unfoldable pub spaceRun : ℕ → List ℕ
 spaceRun s = fulls (s / 18) ++ rest (s % 18)
 
--- symbols after s spaces that none has followed yet; "trailing spaces are dropped"
+-- symbols after s spaces that none has followed yet; spaces at the end are not written
 unfoldable pub writeFrom : ℕ → List Symbol → List ℕ
 writeFrom s [] = []
 writeFrom s (x ∷ xs) = elim (isSpace x) [ true ↦ writeFrom (suc s) xs | false ↦ spaceRun s ++ (symbolNibbles x ++ writeFrom 0 xs) ]
@@ -146,10 +146,10 @@ atEnd (Escape s) = false
 atEnd (Half s h) = false
 atEnd Invalid = false
 
--- "a body is valid only if the writer gives it for some text" (that this is what it says: crate laws)
+-- a valid content of id 4. That it is one that the writer gives for some text is proved (crate laws)
 unfoldable pub textValid : List ℕ → Bool
 textValid ns = atEnd (endFrom (Between 0) ns)
 
--- "the shortest text for which the writer gives" these nibbles (crate laws)
+-- the text of a valid content. That it is the shortest for which the writer gives it is proved (crate laws)
 unfoldable pub readText : List ℕ → List ℕ
 readText ns = map byteOf (readFrom (Between 0) ns)

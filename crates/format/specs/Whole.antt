@@ -1,4 +1,4 @@
--- "Outside the list, on buffers of their own": fresh, unpack and pack.
+-- FORMAT 7: fresh, unpack and pack.
 use Prim.Native.Nat.{ℕ, zero, suc, _+_, _/_, _%_, _^_}
 use mathlib.Core.Bool.{Bool, true, false, cond, not, _&&_, _||_}
 use mathlib.Core.List.{List, [], _∷_, _++_, map}
@@ -14,7 +14,7 @@ use Rattle.format.specs.Report.{Verdict, judge, attachmentChecks}
 use Rattle.format.specs.Calls.{Quantity, Given, counted, Answer, refused, accepted, valueCheck, withValue, allNibbles, over}
 use Rattle.format.specs.declared.Scaled.{Scaled}
 
--- ---- fresh: "BOX10, YEAR, MONTH, X, Y given; RPTIN 0, all else missing"
+-- ---- fresh: the five required values, RPTIN 0, every other field missing
 
 abbrev pub blank : Observation
 blank = observation 0 (replicate 46 none) []
@@ -25,7 +25,7 @@ with k v s = withValue s k (some v)
 unfoldable pub freshObservation : Scaled → Scaled → Scaled → Scaled → Scaled → Observation
 freshObservation box10 year month x y = with Y y (with X x (with MONTH month (with YEAR year (with BOX10 box10 blank))))
 
--- "9 by ascending field, then 13"
+-- 9, fields ascending; 13
 unfoldable pub freshChecks : ℕ → Scaled → Scaled → Scaled → Scaled → Scaled → List Check
 freshChecks n box10 year month x y =
     valueCheck BOX10 box10 ∷ valueCheck YEAR year ∷ valueCheck MONTH month ∷ valueCheck X x ∷ valueCheck Y y ∷ check (ltb n 38) 13 0 ∷ []
@@ -45,7 +45,7 @@ fresh box10 year month x y out =
 
 -- ---- unpack
 
--- "46 values (0 where missing)"
+-- a value, 0 where it is missing
 abbrev pub valueOrZero : Option Scaled → ℤ
 valueOrZero none = pos 0
 valueOrZero (some v) = v .0
@@ -54,7 +54,7 @@ abbrev pub isPresent : Option Scaled → Bool
 isPresent none = false
 isPresent (some v) = true
 
--- "a presence word of 64 bits whose bit k (lowest is 0) says that field k is present": the entries from field k on
+-- the presence word of the entries from field k on: 2 ^ k for each that is present
 unfoldable pub presenceFrom : ℕ → List (Option Scaled) → ℕ
 presenceFrom k [] = 0
 presenceFrom k (e ∷ es) = cond (isPresent e) (2 ^ k) 0 + presenceFrom (suc k) es
@@ -62,12 +62,12 @@ presenceFrom k (e ∷ es) = cond (isPresent e) (2 ^ k) 0 + presenceFrom (suc k) 
 abbrev pub presence : Observation → ℕ
 presence s = presenceFrom 1 (s .values)
 
--- "how many fields are present"
+-- how many of these entries are present
 unfoldable pub countPresent : List (Option Scaled) → ℕ
 countPresent [] = 0
 countPresent (e ∷ es) = cond (isPresent e) 1 0 + countPresent es
 
--- "all nibbles after the 75th, without an odd last one, one a byte"
+-- the nibbles of all attachments, without the padding nibble
 abbrev pub tail : Observation → List ℕ
 tail s = tailNibbles (s .attachments)
 
@@ -94,7 +94,7 @@ contents word present rptin attachments bytes nibbles =
 unfoldable pub unpackGives : Observation → List Given
 unpackGives s = contents (presence s) (countPresent (s .values)) (s .rptin) (length (s .attachments)) (size s) (length (tail s))
 
--- 13: "a lent buffer shorter than .. the output, or 46 values"
+-- 13: room for under 46 values, or a shorter output than the tail
 abbrev pub unpackChecks : Observation → List ℤ → List ℕ → List Check
 unpackChecks s values tailOut = check (ltb (length values) 46 || ltb (length tailOut) (length (tail s))) 13 0 ∷ []
 
@@ -116,7 +116,7 @@ unpack b values tailOut = unpackOn (judge b) values tailOut
 abbrev pub bitAt : ℕ → ℕ → Bool
 bitAt word k = eqb (word / 2 ^ k % 2) 1
 
--- "a presence bit outside 1 to 46"
+-- a bit of the word that is none of 1 to 46
 abbrev pub bitOutside : ℕ → Bool
 bitOutside word = bitAt word 0 || not (eqb (word / 2 ^ 47) 0)
 
@@ -129,7 +129,7 @@ packChecks k (f ∷ fs) word (v ∷ vs) =
     ∷ check (bitAt word k && not (inRange f (scaled v))) 9 k
     ∷ packChecks (suc k) fs word vs
 
--- the entries from field k on; "values of missing fields are ignored"
+-- the entries from field k on; the values of fields that the word calls missing are not looked at
 unfoldable pub entriesGiven : ℕ → ℕ → List ℤ → List (Option Scaled)
 entriesGiven k word [] = []
 entriesGiven k word (v ∷ vs) = cond (bitAt word k) (some (scaled v)) none ∷ entriesGiven (suc k) word vs
@@ -147,8 +147,7 @@ countIn ns = countFrom (length ns) ns
 unfoldable pub packObservation : List ℤ → ℕ → ℕ → List ℕ → Observation
 packObservation values word rptin ns = observation rptin (entriesGiven 1 word (take 46 values)) (attachmentsOf (countIn ns) ns)
 
--- "13 for too few values, 8, fields ascending (10 or 9), 14 for the tail's bytes, the tail's attachments as in a report
--- (1, 5, 6), 13 for the output"
+-- the order of FORMAT 7.4
 unfoldable pub packOrder : ℕ → List ℤ → ℕ → ℕ → List ℕ → List Check
 packOrder n values word rptin ns =
     check (ltb (length values) 46) 13 0

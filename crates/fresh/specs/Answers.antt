@@ -1,4 +1,4 @@
--- The answers of fresh: 01's number and place for each case.
+-- FORMAT 7.2, the answers of fresh: a refusal's number and place for each case.
 use mathlib.Core.List.{[]}
 use Rattle.format.specs.Calls.{Answer, accepted}
 use Rattle.format.specs.Reply.{refusal}

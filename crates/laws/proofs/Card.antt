@@ -23,7 +23,7 @@ abbrev front : List ℕ → ℕ → List ℕ → List ℕ
 front ws m vs = readFields (replicate m 4) (writeFields ws vs)
 
 module _ (ws : List ℕ) (m : ℕ) where
-  -- a report's nibbles: the fields', those behind them, an odd last one, and the nibbles of the bytes beyond
+  -- a report's nibbles: the fields', those behind them, the padding nibble, and the nibbles of the bytes beyond
   laid : (vs ns r : List ℕ) → Nibbles ns
       → nibbles (bytes (padded (front ws m vs ++ ns)) ++ r) ≡ front ws m vs ++ (ns ++ (cond (odd (m + length ns)) (0 ∷ []) [] ++ nibbles r))
   laid vs ns r h =

@@ -22,7 +22,7 @@ use Rattle.format.specs.Report.{fieldChecks}
 use Rattle.format.specs.declared.Coded.{Coded}
 use Rattle.format.specs.declared.Scaled.{Scaled}
 use Rattle.format.proofs.Test.{left, right}
-use Rattle.format.proofs.Table.{Row, document001, agree, agreeAll, table-agrees}
+use Rattle.format.proofs.Table.{Row, sourceRows, agree, agreeAll, table-agrees}
 use Rattle.laws.proofs.Sequences.{and-true, true-false}
 use Rattle.laws.proofs.Order.{first-none}
 
@@ -304,11 +304,11 @@ present-none k es i f = present-set k es i none (λ r n. true-false (required (k
 
 -- ---- the table, from what was computed of it
 
-rows : T (agreeAll table document001)
-rows = left (agreeAll table document001) (eqb (length table) 46 && eqb (total widths) 300) table-agrees
+rows : T (agreeAll table sourceRows)
+rows = left (agreeAll table sourceRows) (eqb (length table) 46 && eqb (total widths) 300) table-agrees
 
 counts : T (eqb (length table) 46 && eqb (total widths) 300)
-counts = right (agreeAll table document001) (eqb (length table) 46 && eqb (total widths) 300) table-agrees
+counts = right (agreeAll table sourceRows) (eqb (length table) 46 && eqb (total widths) 300) table-agrees
 
 pub table-length : length table ≡ 46
 table-length = eqb→eq (length table) 46 (left (eqb (length table) 46) (eqb (total widths) 300) counts)
@@ -335,7 +335,7 @@ all-fit (f ∷ fs) (r ∷ rs) t zero = agree-fits f r (left (agree f r) (agreeAl
 all-fit (f ∷ fs) (r ∷ rs) t (suc i) = all-fit fs rs (right (agree f r) (agreeAll fs rs) t) i
 
 pub table-fits : (i : ℕ) → getD table i noField .highest < 2 ^ getD table i noField .bits
-table-fits = all-fit table document001 rows
+table-fits = all-fit table sourceRows rows
 
 -- the bits of the card's field k
 pub width-at : (k : ℕ) → 1 ≤ k → k ≤ 46 → getD widths k 0 ≡ fieldAt k .bits

@@ -1,4 +1,4 @@
--- Laws of nibbles, bytes and the odd last nibble.
+-- Laws of nibbles, bytes and the padding nibble.
 -- Assumes nothing.
 use Prim.Native.Nat.{ℕ, zero, suc, _+_, _*_, _/_, _%_, _≤_, _<_}
 use native.Mathlib.Nat.{mod-lt, zero-lt-suc}
@@ -103,7 +103,7 @@ nibbles-bytes (a ∷ c ∷ ns) h e =
     let ec : (a * 16 + c) % 16 ≡ c = omega arith in
     cc (ea, ec, nibbles-bytes ns (λ i. h (suc (suc i))) (sym (odd-two (length ns)) ∙ e))
 
--- ---- the odd last nibble
+-- ---- the padding nibble
 
 -- how many bytes nibbles take
 half : (ns : List ℕ) → length (bytes ns) ≡ (length ns + 1) / 2

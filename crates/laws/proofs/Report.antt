@@ -64,7 +64,7 @@ fit-nil k = omega arith
 
 -- ---- the size of a packing
 
--- "75 nibbles plus 3 + AL for each attachment, rounded up to bytes"
+-- FORMAT 3.3: a report's size by its nibbles
 pub size-is : (s : Observation) → size s ≡ (75 + length (tailNibbles (s .attachments)) + 1) / 2
 unfolding packing cardNibbles
 size-is s =
@@ -78,7 +78,7 @@ packing-bytes s g =
     bytes-lt _ (padded-lt (cardNibbles s ++ tailNibbles (s .attachments))
     (append-below 16 (cardNibbles s) (tailNibbles (s .attachments)) (unfold cardNibbles in card-lt (cardNumbers s)) (fine-nibbles (g .fine))))
 
--- an odd last nibble that is 0
+-- a padding nibble that is 0
 pad-none : (t : Bool) (ns q : List ℕ) → t && not (eqb (getD (ns ++ (cond t (0 ∷ []) [] ++ q)) (length ns) 0) 0) ≡ false
 pad-none true ns q = rw (getD-append-seam ns 0 q 0)
 pad-none false ns q = refl
@@ -313,7 +313,7 @@ counted b s bs e = sym (walked b bs (passes b s e .0) .count)
 
 -- ---- reports and observations
 
--- "two accepted reports are equal byte for byte exactly when their sheets are", which are their observations
+-- demand 3 (FORMAT 10): two accepted reports have the same bytes exactly when they have the same observation
 packing-inj : (s t : Observation) → Good s → Good t → packing s ≡ packing t → s ≡ t
 packing-inj s t gs gt e =
     let same : accepted s ≡ accepted t = sym (judge-packing s [] gs) ∙ ap (λ (p : List ℕ). judge (p ++ [])) e ∙ judge-packing t [] gt in
@@ -330,7 +330,7 @@ reports-equal b c s t bb bc eb ec = (
   λ e. report-is b s bb eb ∙ ap packing e ∙ sym (report-is c t bc ec),
 )
 
--- "38 to 1853 bytes"
+-- FORMAT 3.3: the least and the most bytes of a report
 pub size-range : (s : Observation) → Good s → (38 ≤ size s) × (size s ≤ 1853)
 size-range s g = let h = fine-size (g .fine) in let z = size-is s in (omega arith, omega arith)
 

@@ -281,7 +281,7 @@ written (x ∷ t) s f =
       whole = sym (append-assoc (spaces s) (x ∷ []) t) ∙ ap (λ (l : List Symbol). word s x ++ l) (w .whole) ∙ sym (append-assoc (word s x) (w .text) (spaces (w .dropped)));
     })
 
--- "a body is valid" if the writer gives it
+-- a content is valid if the writer gives it
 symbols-valid : (t : List Symbol) → fine t ≡ true → textValid (writeSymbols t) ≡ true
 unfolding textValid atEnd
 symbols-valid t f = ap atEnd (written t 0 f .reads .end)
@@ -291,7 +291,7 @@ symbols-back : (t : List Symbol) → fine t ≡ true → (k : ℕ) × (t ≡ rea
 unfolding spaces
 symbols-back t f = let w = written t 0 f in (w .dropped, w .whole ∙ ap (λ (l : List Symbol). l ++ spaces (w .dropped)) (sym (w .reads .text)))
 
--- ---- "trailing spaces are dropped"
+-- ---- spaces at the end of a text
 
 write-spaces : (k s : ℕ) → writeFrom s (spaces k) ≡ []
 unfolding writeFrom spaces isSpace
@@ -672,7 +672,7 @@ pub text-bytes : (ns : List ℕ) → textValid ns ≡ true → Bytes (readText n
 unfolding readText
 text-bytes ns e = fine-bytes (readFrom (Between 0) ns) (body-fine ns e)
 
--- "a body is valid only if the writer gives it for some text"
+-- FORMAT 3.5: a valid content is given by the writer for some text
 pub valid-written : (ns : List ℕ) → textValid ns ≡ true → (t : List ℕ) × Bytes t × (writeText t ≡ ns)
 valid-written ns e = (readText ns, text-bytes ns e, text-back ns e)
 
@@ -693,7 +693,7 @@ read-writes t h =
     let u = readFrom (Between 0) (writeSymbols (map classify t)) in
     (r .0, sym (bytes-symbols t) ∙ ap (map byteOf) (r .1) ∙ map-append byteOf u (spaces (r .0)) ∙ ap (λ (l : List ℕ). map byteOf u ++ l) (bytes-spaces (r .0)))
 
--- "the shortest text for which the writer gives" a body: any other is that one and spaces behind it
+-- FORMAT 3.5, the shortest text of a content: any other is that one and spaces behind it
 pub strip-tail : (ns t : List ℕ) → Bytes t → writeText t ≡ ns → (k : ℕ) × (t ≡ readText ns ++ replicate k 32)
 strip-tail ns t h e = let r = read-writes t h in (r .0, r .1 ∙ ap (λ (l : List ℕ). readText l ++ replicate (r .0) 32) e)
 

@@ -394,7 +394,7 @@ largest-good =
     let g = fresh-good (scaled (pos 1)) (scaled (pos 1900)) (scaled (pos 1)) (scaled (pos 0)) (scaled (pos 0)) refl refl refl refl refl in
     record { rptin = g .rptin; fair = g .fair; present = g .present; fine = largest-fine }
 
--- "38 to 1853 bytes": both are reached
+-- FORMAT 3.3: both sizes are reached
 pub least-reached : (b : List ℕ) × Bytes b × (s : Observation) × (judge b ≡ Verdict.accepted s) × (size s ≡ 38)
 unfolding inRange fieldAt table
 least-reached =

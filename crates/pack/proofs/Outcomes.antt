@@ -64,7 +64,7 @@ bits-inside word l h = let z : word / 2 ^ 0 % 2 ≡ 1 → ⊥ = λ e. l (omega a
 
 -- ---- the nibbles behind the card
 
--- once a tail x was laid, and its odd last nibble cleared
+-- once a tail x was laid, and the padding nibble cleared
 laid-behind : (x ns : List ℕ) (n m : ℕ) → n ≡ 75 + length ns → m ≡ n + n % 2 → m ≤ length x
     → drop 75 (cond (odd n) (set (paste x 75 ns (length ns)) n 0) (paste x 75 ns (length ns))) ≡ ns ++ (zeros (m - n) ++ drop m x)
 laid-behind x ns n m en em h = go (odd n) refl
@@ -152,7 +152,7 @@ module _ (values : List ℤ) (word rptin : ℕ) (ns out : List ℕ) where
         (behind-fields (p .passed) _
         (first-skip _ _ (ap not (p .nibbles)) ∙ first-append-skip _ _ (p .attachments) ∙ first-fits _ _ (lt-ltb (length out) (size (packObservation values word rptin ns)) (omega (arith, size-of)))))
 
-    -- the tail laid, its odd last nibble cleared, then the card written
+    -- the tail laid, the padding nibble cleared, then the card written
     pub written : (o1 o2 o3 : List ℕ) (count : ℕ) → (75 + length ns) / 2 + (75 + length ns) % 2 ≤ length out → Bytes o3 → count ≡ countIn ns
         → nibbles o1 ≡ paste (nibbles out) 75 ns (length ns) → length o1 ≡ length out
         → nibbles o2 ≡ cond (odd (75 + length ns)) (set (nibbles o1) (75 + length ns) 0) (nibbles o1) → length o2 ≡ length o1

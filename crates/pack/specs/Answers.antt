@@ -1,4 +1,4 @@
--- The answers of pack: 01's number, place and value for each case.
+-- FORMAT 7.4, the answers of pack: a refusal's number and place, or what is given, for each case.
 use Rattle.format.specs.Calls.{Answer, accepted}
 use Rattle.format.specs.Reply.{refusal}
 use Rattle.format.specs.Whole.{packGives}

@@ -32,7 +32,7 @@ judgedOf (accepted s) = Accepted (size s)
 abbrev pub Takes : List ℕ → ℕ → Type 0
 Takes b n = Accepted n ≡ judgedOf (judge b)
 
--- "38 to 1853 bytes": an accepted report's size, and both are reached
+-- FORMAT 3.3: an accepted report's size, and both ends are reached
 pub record Sizes (r : Judged) : Type 0 where
   pub within : (n : ℕ) → r ≡ Accepted n → (38 ≤ n) × (n ≤ 1853)
   pub least : (b : List ℕ) × Bytes b × (judgedOf (judge b) ≡ Accepted 38)
@@ -49,7 +49,7 @@ comparedBy c a b (refused r) w = c ≡ CRefused (r .number) (r .place)
 comparedBy c a b (accepted s) (refused r) = c ≡ CRefused (r .number) (r .place)
 comparedBy c a b (accepted s) (accepted t) = bothCompared c a b s t
 
--- "two reports in the order lent": the refusal of the first that is refused, or whether they are the same
+-- FORMAT 7.1: the refusal of the first report that is refused, or whether they are the same
 abbrev pub comparison : Compared → List ℕ → List ℕ → Type 0
 comparison c a b = comparedBy c a b (judge a) (judge b)
 

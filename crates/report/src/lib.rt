@@ -1,4 +1,4 @@
-// A report judged: its length, fields, checksum, attachments and odd last nibble, in one walk.
+// A report judged: its length, fields, checksum, attachments and padding nibble, in one walk.
 ghost use mathlib.Core.Path.{_≡_};
 ghost use mathlib.Core.Bool.{true};
 ghost use Prim.Native.Nat.{_*_, _≤_, _^_};
@@ -51,7 +51,7 @@ fn front(s: &[u8]) -> usize
     }
 }
 
-// Judges the odd last nibble, which has to be 0.
+// Judges the padding nibble, which has to be 0.
 fn last(s: &[u8], count: usize, t: Tail) -> Inspected
     requires { ⌜ (t .end ≤ 2 * length (now s)) × (t .end ≤ 2 ^ 32) ⌝ }
     ensures { λ r. ⌜ r ≡ lastOf (now (s .entry)) count t ⌝ }

@@ -1,4 +1,4 @@
--- What a number that is given is, told by a number: its label.
+-- FORMAT 8.2, labels: what a number that is given is, told by a number.
 use Prim.Native.Nat.{ℕ, _+_, _-_, _*_}
 use mathlib.Core.List.{List, [], _∷_}
 use mathlib.Core.Option.{Option, none, some}

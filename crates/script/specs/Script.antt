@@ -1,4 +1,4 @@
--- A script: a list of calls written as bytes, and the log of their answers. The claim of demand 3 about a script.
+-- FORMAT 8: a script, which is a list of calls written as bytes, and the log of their answers. The claim of demand 3 about a script.
 use Prim.Native.Nat.{ℕ, zero, suc, _+_, _-_, _*_, _/_, _%_, _^_, _≤_, _<_}
 use mathlib.Core.Path.{_≡_}
 use mathlib.Core.Bool.{cond}

@@ -7,13 +7,13 @@ use lib.ListN.{length, replicate}
 use Rattle.format.specs.ShipText.{writeText, textValid}
 use Rattle.format.specs.Bits.{Bytes}
 
--- "a body is valid only if the writer gives it for some text": it is valid exactly then
+-- FORMAT 3.5: a content is valid exactly when the writer gives it for some text
 pub record Writable (valid : Bool) (ns : List ℕ) : Type 0 where
   pub some-text : valid ≡ true → (t : List ℕ) × Bytes t × (writeText t ≡ ns)
   pub no-text : valid ≡ false → (t : List ℕ) → Bytes t → writeText t ≡ ns → ⊥
 
--- "the shortest text for which the writer gives" a body, where it gives it: for t, and for t with spaces behind it, which are
--- dropped; for no other text, and so for none shorter
+-- FORMAT 3.5: t is the shortest text of a body. Where it is valid the writer gives it for t, and for t with spaces behind it; for
+-- no other text, and so for none shorter
 pub record Shortest (t ns : List ℕ) : Type 0 where
   pub gives : textValid ns ≡ true → Bytes t × ((k : ℕ) → writeText (t ++ replicate k 32) ≡ ns)
   pub only : (u : List ℕ) → Bytes u → writeText u ≡ ns → (k : ℕ) × (u ≡ t ++ replicate k 32)

@@ -1,4 +1,4 @@
--- The two round trips: pack after unpack, and unpack after pack.
+-- FORMAT 7.5: the two round trips, pack after unpack, and unpack after pack.
 use Prim.Native.Nat.{ℕ, _≤_}
 use mathlib.Core.Path.{_≡_}
 use mathlib.Core.Bool.{_||_}

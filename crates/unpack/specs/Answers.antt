@@ -1,4 +1,4 @@
--- The answers of unpack: 01's number, place and values for each case.
+-- FORMAT 7.3, the answers of unpack: a refusal's number and place, or what is given, for each case.
 use mathlib.Core.List.{List}
 use Rattle.format.specs.Calls.{Given, Answer, accepted}
 use Rattle.format.specs.Reply.{refusal}

@@ -46,7 +46,7 @@ fn list(observation: &Observation, length: usize, calls: Vec<Call>) -> Case {
     Case::Calls { buffer, calls }
 }
 
-/// The paper's own chain.
+/// The chain of docs/FORMAT.md, section 12.
 fn examples() -> Vec<Case> {
     let put_text = |text: &[u8]| Call::PutText {
         text: text.to_vec(),

@@ -195,7 +195,7 @@ fn report_with(faults: &[ReportFault]) -> Vec<u8> {
                 draft.tail.extend(fault.nibbles());
             }
             ReportFault::Last => {
-                // 75 nibbles and an odd tail leave no odd last nibble.
+                // 75 nibbles and an odd tail leave no padding nibble.
                 if draft.tail.len() % 2 == 1 {
                     draft.attach(14, &[3, 3]);
                 }
@@ -209,7 +209,7 @@ fn report_with(faults: &[ReportFault]) -> Vec<u8> {
 }
 
 /// Under 38 bytes no AC is there, so the first check meets no fault of the
-/// tail. A cut attachment hides the end, so it meets no odd last nibble.
+/// tail. A cut attachment hides the end, so it meets no padding nibble.
 fn can_meet(first: ReportFault, second: ReportFault) -> bool {
     match (first, second) {
         (ReportFault::Short, ReportFault::Tail(_) | ReportFault::Last) => false,

@@ -138,7 +138,7 @@ fn other_attachments() -> Vec<Case> {
     .map(|other| same(&held().packing(), &other.packing()))
     .collect();
     for (first, second) in [
-        // An odd last nibble beside a data nibble 0.
+        // A padding nibble beside a data nibble 0.
         (vec![(5, &[1][..])], vec![(5, &[1, 0][..])]),
         (
             vec![(5, &[1, 0, 1][..]), (6, &[1])],

@@ -1,4 +1,4 @@
--- `pack::write` meets its contract: the tail laid, its odd last nibble cleared, the card written.
+-- `pack::write` meets its contract: the tail laid, the padding nibble cleared, the card written.
 -- Assumes nothing.
 use native.Mathlib.Omega.{arith}
 use denote.Ref.{now}
