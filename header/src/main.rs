@@ -1,8 +1,10 @@
 //! Compares include/lmr5.h with the functions and structs that crates/lmr5 exports, and its numbers with the definitions:
-//! fields, contents, kinds of a script's entries, the log's first bytes, labels, the longest report. Says each difference, and
-//! fails if there is one. Its argument is the repository's folder. refusals.c tries the numbers of refusals and flags.
+//! fields, contents, kinds of a script's entries, the log's first bytes, labels, the longest report. Compares the field table
+//! of docs/FORMAT.md with the definitions. Says each difference, and fails if there is one. Its argument is the repository's
+//! folder. refusals.c tries the numbers of refusals and flags.
 mod code;
 mod header;
+mod page;
 
 use code::Sources;
 use std::collections::BTreeMap;
@@ -17,7 +19,7 @@ pub struct Declared {
 }
 
 /// What one list has and the other has not, or that only the order differs.
-fn change(code: &[String], header: &[String]) -> String {
+fn change(code: &[String], here: &[String]) -> String {
     let only = |a: &[String], b: &[String]| {
         a.iter()
             .filter(|x| !b.contains(x))
@@ -25,11 +27,11 @@ fn change(code: &[String], header: &[String]) -> String {
             .collect::<Vec<_>>()
             .join(", ")
     };
-    match (only(code, header), only(header, code)) {
+    match (only(code, here), only(here, code)) {
         (c, h) if c.is_empty() && h.is_empty() => {
             "the order or the number of parts differs".to_string()
         }
-        (c, h) => format!("the code has ({c}), the header ({h})"),
+        (c, h) => format!("the code has ({c}), here is ({h})"),
     }
 }
 
@@ -72,9 +74,10 @@ fn read(root: &str, name: &str) -> String {
 
 fn main() -> ExitCode {
     let root = std::env::args().nth(1).expect("the repository's folder");
+    let table = read(&root, "crates/format/specs/Field.antt");
     let code = code::declared(&Sources {
         exports: &read(&root, "crates/lmr5/src/lib.rt"),
-        table: &read(&root, "crates/format/specs/Field.antt"),
+        table: &table,
         script: &read(&root, "crates/script/specs/Script.antt"),
         labels: &read(&root, "crates/script/specs/Labels.antt"),
         sizes: &read(&root, "crates/report/specs/Answers.antt"),
@@ -84,9 +87,18 @@ fn main() -> ExitCode {
     for line in &said {
         println!("include/lmr5.h: {line}");
     }
-    if !said.is_empty() {
+    let fields = page::defined(&table);
+    let written = page::written(&read(&root, "docs/FORMAT.md"));
+    if written != fields {
+        println!("docs/FORMAT.md: fields: {}", change(&fields, &written));
+    }
+    if !said.is_empty() || written != fields {
         return ExitCode::FAILURE;
     }
+    println!(
+        "docs/FORMAT.md: {} fields as in the definitions",
+        fields.len()
+    );
     println!(
         "include/lmr5.h: {} functions, {} structs and {} numbers as in the code",
         code.functions.len(),
@@ -178,11 +190,14 @@ mod tests {
     #[test]
     fn each_change_of_a_definition_is_said() {
         let quantity = format!("{LABELS}quantityLabel shipLength = 10\n");
-        let sources_of = |labels| Sources { labels, ..sources() };
+        let sources_of = |labels| Sources {
+            labels,
+            ..sources()
+        };
         let text = said_of(&sources_of(&quantity), HEADER);
         assert_eq!(
             text,
-            ["enum lmr5_given: the code has (LMR5_GIVEN_SHIP_LENGTH = 10), the header ()"]
+            ["enum lmr5_given: the code has (LMR5_GIVEN_SHIP_LENGTH = 10), here is ()"]
         );
         let missing = LABELS.replace("missingLabel = 128", "missingLabel = 64");
         assert_eq!(said_of(&sources_of(&missing), HEADER).len(), 1);

@@ -120,8 +120,8 @@ pub fn inspect(s: &[u8], want: usize) -> Inspected
     inspect_tail(&*s, want)
 }
 
-// Judges the report that a buffer begins with. Not over `inspect`: as `front` has two callers it is not made part of
-// `inspect`, which so is small enough to be made part of its callers, and what both answer stays in registers.
+// Judges the report that a buffer begins with. Not over `inspect`: as `front` has two callers it is not inlined into
+// `inspect`, which is then small enough to be inlined into its callers, and what both answer stays in registers.
 pub fn judge(s: &[u8]) -> Judged
     ensures { λ r. ⌜ (r ≡ judgedOf (judge (now (s .entry)))) × Sizes r ⌝ }
 {
