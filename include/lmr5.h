@@ -28,8 +28,8 @@
  *   data do not fit, 6; 7.
  * Then come the call's own refusals, in the order in which they are named.
  *
- * Values are whole numbers in the field's unit: 286 is 28.6 degrees C. A nibble is 4 bits; in contents and tails a nibble
- * takes a byte, 0 to 15.
+ * Values are whole numbers in the field's unit: 286 is 28.6 degrees C. A nibble is 4 bits; in an attachment's
+ * content and in a tail each nibble takes a byte, 0 to 15. docs/FORMAT.md fixes all that is said here.
  */
 #ifndef LMR5_INCLUDED
 #define LMR5_INCLUDED
@@ -99,10 +99,10 @@ enum lmr5_field {
     LMR5_YEAR = 2,    /* year: 1800 to 2054, required */
     LMR5_MONTH = 3,   /* month: 1 to 12, required */
     LMR5_DAY = 4,     /* day: 1 to 31 */
-    LMR5_HOUR = 5,    /* hour: 0 to 23 */
+    LMR5_HOUR = 5,    /* hour, GMT: 0 to 23 */
     LMR5_X = 6,       /* longitude: 0 to 3599, in 0.1 degree east, required */
     LMR5_Y = 7,       /* latitude: -900 to 900, in 0.1 degree north, required */
-    LMR5_XYI = 8,     /* latitude and longitude indicator: 0 to 3 */
+    LMR5_XYI = 8,     /* precision of X and Y: 0 to 3 */
     LMR5_CD = 9,      /* card deck: 0 to 999 */
     LMR5_SID = 10,    /* source ID: 0 to 254 */
     LMR5_ST = 11,     /* ship type: 0 to 7 */
@@ -112,7 +112,7 @@ enum lmr5_field {
     LMR5_TC = 15,     /* track check: 0 to 1 */
     LMR5_PB = 16,     /* pressure bias: 0 to 2 */
     LMR5_DI = 17,     /* wind direction indicator: 0 to 5 */
-    LMR5_D = 18,      /* wind direction: 1 to 362 */
+    LMR5_D = 18,      /* wind direction: 1 to 362, in degrees; 361 calm, 362 variable */
     LMR5_WI = 19,     /* wind speed indicator: 0 to 3 */
     LMR5_W = 20,      /* wind speed: 0 to 1022, in 0.1 m/s */
     LMR5_VI = 21,     /* visibility indicator: 0 to 2 */
@@ -143,7 +143,7 @@ enum lmr5_field {
     LMR5_A6 = 46      /* allowance no. 6 flag: 0 to 1 */
 };
 
-/* Flag numbers: the flags of attachment 1. */
+/* Flag numbers: the flags of id 1. */
 enum lmr5_flag {
     LMR5_FLAG_SHIP_POSITION = 1,
     LMR5_FLAG_WIND = 2,
@@ -172,7 +172,7 @@ enum lmr5_flag_value {
     LMR5_VALUE_M = 7, /* erroneous: legality */
     LMR5_VALUE_N = 8, /* erroneous: internal consistency */
     LMR5_VALUE_Q = 9, /* erroneous: extreme */
-    LMR5_VALUE_S = 10 /* missing */
+    LMR5_VALUE_S = 10 /* missing, in the words of LMR.5: a value like the others, and not a missing flag */
 };
 
 /* ---- whole reports */
@@ -200,10 +200,10 @@ enum lmr5_contents {
 };
 
 /*
- * Writes the values of fields 1 to 46, 0 where missing, to the first 46 of `values`; the tail, which is all nibbles behind
- * the card without the padding nibble, to the front of `tail`; and the rest to all six of `contents`.
+ * Writes the values of fields 1 to 46, 0 where missing, to the first 46 of `values`; the tail, which is the nibbles of all
+ * attachments, lengths and ids included, to the front of `tail`; and the rest to all six of `contents`.
  * Gives nothing else. Refusals: the report's refusals; 13 where `values` is under 46 or `tail` shorter than the tail.
- * The report and the rest of `values` and `tail` stay.
+ * A tail of 3631 bytes always does. The report and the rest of `values` and `tail` stay.
  */
 lmr5_answer lmr5_unpack(const uint8_t *report, size_t report_length, int64_t *values, size_t values_length, uint8_t *tail,
                         size_t tail_length, uint64_t contents[6]);
@@ -235,12 +235,12 @@ lmr5_answer lmr5_set_field(uint8_t *report, size_t report_length, size_t field, 
 /* Makes a field missing; one that is missing already stays so. Gives nothing. Refusals: the report's refusals; 8; 10. */
 lmr5_answer lmr5_clear_field(uint8_t *report, size_t report_length, size_t field);
 
-/* Gives the value of a flag, 1 to 10, or that it is missing. Refusals: the report's refusals; 8; 11 without attachment 1. */
+/* Gives the value of a flag, 1 to 10, or that it is missing. Refusals: the report's refusals; 8; 11 without id 1. */
 lmr5_answer lmr5_read_flag(const uint8_t *report, size_t report_length, size_t flag);
 
 /*
  * Sets a flag to 1 to 10, and the quality code. Gives nothing.
- * Refusals: the report's refusals; 8; 9, place the flag; 11 without attachment 1.
+ * Refusals: the report's refusals; 8; 9, place the flag; 11 without id 1.
  */
 lmr5_answer lmr5_set_flag(uint8_t *report, size_t report_length, size_t flag, size_t value);
 
@@ -264,16 +264,16 @@ lmr5_answer lmr5_fetch(const uint8_t *report, size_t report_length, size_t id, u
 lmr5_answer lmr5_drop(uint8_t *report, size_t report_length, size_t id);
 
 /*
- * Puts the ship text, which is attachment 4. The text is bytes, none refused, with no 0 at its end; spaces at its end are
+ * Puts the ship text, which is id 4. The text is bytes, none refused, with no 0 at its end; spaces at its end are
  * dropped. Gives nothing.
- * Refusals: the report's refusals; 12 where its nibbles are 0 or over 255; 13 where the buffer is shorter than the new
+ * Refusals: the report's refusals; 12 where it has no nibble or over 255; 13 where the buffer is shorter than the new
  * report.
  */
 lmr5_answer lmr5_put_text(uint8_t *report, size_t report_length, const uint8_t *text, size_t text_length);
 
 /*
  * Writes the ship text to the front of `out`, with no 0 at its end. Gives its length. The rest of `out` stays.
- * Refusals: the report's refusals; 11 without attachment 4; 13 where `out` is shorter.
+ * Refusals: the report's refusals; 11 without id 4; 13 where `out` is shorter. 2295 bytes always do.
  */
 lmr5_answer lmr5_fetch_text(const uint8_t *report, size_t report_length, uint8_t *out, size_t out_length);
 

@@ -1,5 +1,5 @@
 -- The figures of FORMAT 12, as one list that one computed fact checks; and as a second list, cases in which two refusals fit at
--- once, for the orders of FORMAT 5 to 7.
+-- once, for the orders of FORMAT 5 to 7, zeroed bytes, unpack and pack, and edges of FORMAT 2 to 9.
 -- Assumes nothing.
 use Prim.Native.Nat.{ℕ, zero, suc, _+_, _-_, _^_}
 use mathlib.Core.List.{List, [], _∷_, _++_, map}
@@ -168,10 +168,11 @@ examples =
     ∷ example (listing []) (82 ∷ 32 ∷ 49 ∷ 32 ∷ 48 ∷ 10 ∷ [])
     -- S set to 286: coded 1286 at bits 203 to 213, bytes 25 and 26, CK 251, and back
     ∷ example (codedOf (fieldAt 31) (scaled (pos 286)) .0 ∷ bitField sBytes 203 11 ∷ offset widths 31 ∷ []) (1286 ∷ 1286 ∷ 203 ∷ [])
-    ∷ example (getD sBytes 25 0 ∷ getD sBytes 26 0 ∷ checksumOf sBytes ∷ length sBytes ∷ []) (0x14 ∷ 0x18 ∷ 251 ∷ 38 ∷ [])
+    ∷ example sBytes (take 25 freshBytes ++ (0x14 ∷ 0x18 ∷ (replicate 9 0 ++ (0xFB ∷ 0x00 ∷ []))))
+    ∷ example (checksumOf sBytes ∷ []) (251 ∷ [])
     ∷ example (answersOf sBytes (reads (readField 31) ∷ [])) (1 ∷ 1 ∷ 0 ∷ 286 ∷ [])
     -- text A1: bytes 37 to 40, CK still 251, and back
-    ∷ example (drop 37 textBytes) (0x10 ∷ 0x34 ∷ 0xC1 ∷ 0x10 ∷ 7 ∷ [])
+    ∷ example textBytes (take 37 sBytes ++ (0x10 ∷ 0x34 ∷ 0xC1 ∷ 0x10 ∷ 7 ∷ []))
     ∷ example (checksumOf textBytes ∷ []) (251 ∷ [])
     ∷ example (answersOf textBytes (fetches (fetchText (3 ∷ 3 ∷ 3 ∷ [])) ∷ [])) (1 ∷ 1 ∷ 0 ∷ 2 ∷ 65 ∷ 49 ∷ 3 ∷ [])
     -- all fields highest: sum 19643, CK 8; all coded 1: CK 46
@@ -267,7 +268,7 @@ orders =
     -- a report: length, fields ascending, 4, each attachment (header fits, 5, data fits, 6), 7
     example (judged (judge (take 37 (spoilt freshBytes)))) (refuses 1 0)
     ∷ example (judged (judge (reportOf (codesWithout 1 700) 0 []))) (refuses 2 1)
-    ∷ example (judged (judge (reportOf (codesWithout 4 32) 0 []))) (refuses 3 3)
+    ∷ example (judged (judge (reportOf (codesWithout 5 25) 0 []))) (refuses 3 3)
     ∷ example (judged (judge (spoilt (reportOf (codesWith 5 25) 0 [])))) (refuses 2 5)
     ∷ example (judged (judge (spoilt (reportOf freshCodes 1 (0 ∷ 0 ∷ 5 ∷ []))))) (refuses 4 0)
     ∷ example (judged (judge (reportOf freshCodes 1 []))) (refuses 1 1)
@@ -341,7 +342,7 @@ orders =
     ∷ example (quantities (effect textBytes (edits (clearField 4)) .answer) ++ quantities (effect textBytes (edits (remove 4)) .answer)) []
     ∷ example (quantities (unpack textBytes (replicate 46 (pos 5)) (replicate 7 5) .answer)) (4 ∷ 5 ∷ 6 ∷ 7 ∷ 8 ∷ 9 ∷ [])
     ∷ example (quantities (pack wholeValues requiredBits 0 [] (replicate 39 7) .answer)) (8 ∷ [])
-    -- all 14 bits of CK are compared; a checksum of 0 by a sum of 255 is stored as 0
+    -- all 14 bits of CK are compared; a sum of 1020, which is 4 times 255, has CK 0, and 255 is refused
     ∷ example (judged (judge (reportWith freshCodes 496 0 []))) (refuses 4 0)
     ∷ example (take 1 (judged (judge (reportWith (codesWith 10 15) 0 0 []))) ++ judged (judge (reportWith (codesWith 10 15) 255 0 []))) (1 ∷ refuses 4 0)
     -- the highest codes are accepted

@@ -104,7 +104,7 @@ afterEdit s (some t) = t
 abbrev pub next : Observation → Call → Observation
 next s c = afterEdit s (edited s c)
 
--- what a number that is given is
+-- FORMAT 8.2: what a number that is given is
 pub data Quantity : Type 0 where
   value : Quantity  -- a field's scaled value
   flag : Quantity  -- a flag's value
@@ -210,7 +210,8 @@ overfull (xs ∷ more) (out ∷ outs) = ltb (length out) (length xs) || overfull
 abbrev pub roomCheck : ℕ → Observation → Call → Check
 roomCheck n s c = check (shorter n (edited s c) || overfull (writes s c) (outputsOf c)) 13 0
 
--- a call's checks before the last one, which is 13 for room: as far as it has them 8, 9, 10, 11, 12, 14, in this order
+-- a call's checks before the last one, which is 13 for room: as far as it has them 8, 9, 10, 11, 12, 14, in this order.
+-- FORMAT 6.1 leaves out what never applies: 14 of put text, and 13 of a call that lengthens no report and has no output
 unfoldable pub callChecks : Observation → Call → List Check
 callChecks s (reads (readField k)) = fieldNumberCheck k ∷ []
 callChecks s (reads (readFlag j)) = flagNumberCheck j ∷ standsCheck s 1 ∷ []

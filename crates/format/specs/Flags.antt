@@ -29,7 +29,7 @@ allMissing (v ∷ vs) = eqb v 0 && allMissing vs
 unfoldable pub qualityCode : List ℕ → ℕ
 qualityCode flags = cond (allMissing flags) 0 (1 + totalWeight flags)
 
--- every flag may have every value (change request K6 reads a table here)
+-- every flag may have every value
 abbrev pub permitted : ℕ → ℕ → Bool
 permitted j v = true
 

@@ -10,7 +10,7 @@ pub record Refusal : Type 0 where
   pub number : ℕ
   pub place : ℕ
 
--- a check: whether its refusal fits, and that refusal
+-- a check: whether its refusal fits, which is that it applies, and that refusal
 pub record Check : Type 0 where
   pub fits : Bool
   pub refusal : Refusal

@@ -1,4 +1,4 @@
--- What the code answers to the eleven calls: the number and place of the refusal, or what is given, for each case.
+-- FORMAT 6.1: what the code answers to the eleven calls: the number and place of the refusal, or what is given, for each case.
 use Prim.Native.Nat.{ℕ}
 use mathlib.Core.List.{[], _∷_}
 use mathlib.Core.Option.{none, some}

@@ -47,7 +47,7 @@ fieldChecks k (f ∷ fs) [] = []
 fieldChecks k (f ∷ fs) (c ∷ cs) =
     check (ltb (f .highest) c) 2 k ∷ check (required k && eqb c 0) 3 k ∷ fieldChecks (suc k) fs cs
 
--- a valid content of id i
+-- FORMAT 3.4 to 3.6: a valid content of id i
 unfoldable pub bodyValid : ℕ → List ℕ → Bool
 bodyValid i ns = cond (eqb i 1) (flagsValid ns) (cond (eqb i 4) (textValid ns) true)
 

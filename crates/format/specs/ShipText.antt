@@ -1,5 +1,5 @@
--- FORMAT 3.5, the ship text of id 4: the characters, the writer, the reader. They are over symbols, as change request K4 asks: a
--- plain byte has a short code, an original one is escaped. A text of bytes is a row of symbols, each plain if it has a short code.
+-- FORMAT 3.5, the ship text of id 4: the characters, the writer, the reader. They work on symbols: a plain one is a byte with a
+-- short code, an original one is a byte that is escaped. Each byte of a text is one of the two.
 use Prim.Native.Nat.{ℕ, zero, suc, _+_, _-_, _*_, _/_, _%_}
 use mathlib.Core.Bool.{Bool, true, false, cond, not, _&&_}
 use mathlib.Core.List.{List, [], _∷_, _++_, map}

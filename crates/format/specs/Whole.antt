@@ -1,4 +1,4 @@
--- FORMAT 7: fresh, unpack and pack.
+-- FORMAT 7.2 to 7.4: fresh, unpack and pack.
 use Prim.Native.Nat.{ℕ, zero, suc, _+_, _/_, _%_, _^_}
 use mathlib.Core.Bool.{Bool, true, false, cond, not, _&&_, _||_}
 use mathlib.Core.List.{List, [], _∷_, _++_, map}
@@ -80,7 +80,7 @@ pub record Unpacked : Type 0 where
 abbrev pub unpacked : Answer → List ℤ → List ℕ → Unpacked
 unpacked a vs ns = record { answer = a; values = vs; tail = ns }
 
--- the presence word, how many fields are present, RPTIN, AC, byte length, the tail's length
+-- the presence word, how many fields are present, RPTIN, AC, size in bytes, the tail's length
 abbrev pub contents : ℕ → ℕ → ℕ → ℕ → ℕ → ℕ → List Given
 contents word present rptin attachments bytes nibbles =
     counted Quantity.word word
@@ -134,8 +134,8 @@ unfoldable pub entriesGiven : ℕ → ℕ → List ℤ → List (Option Scaled)
 entriesGiven k word [] = []
 entriesGiven k word (v ∷ vs) = cond (bitAt word k) (some (scaled v)) none ∷ entriesGiven (suc k) word vs
 
--- AC, counted from a tail: attachment after attachment to the tail's end, m at most. Ids are 1 to 15, each once, so a
--- sixteenth is refused. Nibbles behind the last are a further attachment: of one or two the header doesn't fit
+-- AC, counted from a tail: attachment after attachment to the tail's end, m at most. One or two nibbles left over count as one,
+-- whose header does not fit
 unfoldable pub countFrom : ℕ → List ℕ → ℕ
 countFrom zero ns = 0
 countFrom (suc m) [] = 0
@@ -157,7 +157,7 @@ packOrder n values word rptin ns =
     ∷ (attachmentChecks (countIn ns) 1 [] ns
     ++ (check (ltb n (size (packObservation values word rptin ns))) 13 0 ∷ []))))
 
--- the report's byte length
+-- the report's size in bytes
 abbrev pub packGives : ℕ → List Given
 packGives size = counted Quantity.bytes size ∷ []
 

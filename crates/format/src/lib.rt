@@ -42,6 +42,6 @@ pub enum Reply {
     // A flag's value, 1 to 10, or that the flag is missing.
     Flag(u8),
     MissingFlag,
-    // How many bytes were given.
+    // How many bytes a fetch wrote.
     Count(usize),
 }

@@ -1,4 +1,4 @@
--- The answers of the definitions as the numbers that a program in another language gets.
+-- The answers of the definitions as the numbers that a program in another language gets; include/lmr5.h describes them.
 use Prim.Native.Nat.{ℕ, zero, suc}
 use mathlib.Core.List.{List, [], _∷_, map}
 use lib.IntN.{ℤ, pos}

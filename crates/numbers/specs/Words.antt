@@ -1,4 +1,4 @@
--- Two's complement in 64 bits.
+-- FORMAT 8: two's complement in 64 bits.
 use Prim.Native.Nat.{ℕ, suc, _-_, _^_}
 use mathlib.Core.Bool.{cond}
 use lib.Dec.{ltb}

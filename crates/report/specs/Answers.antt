@@ -23,7 +23,7 @@ use Rattle.report.specs.declared.Report.{Report}
 use Rattle.report.specs.declared.Inspected.{Inspected}
 use Rattle.report.specs.declared.Inspected.the-variants.{Refused, Fine}
 
--- the verdict: the refusal's number and place, or the report's size in bytes
+-- FORMAT 7.1, judge: the refusal's number and place, or the report's size in bytes
 abbrev pub judgedOf : Verdict → Judged
 judgedOf (refused r) = JRefused (r .number) (r .place)
 judgedOf (accepted s) = Accepted (size s)

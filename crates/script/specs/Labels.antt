@@ -1,4 +1,4 @@
--- FORMAT 8.2, labels: what a number that is given is, told by a number.
+-- FORMAT 8.2, labels: a number for what each given number is.
 use Prim.Native.Nat.{ℕ, _+_, _-_, _*_}
 use mathlib.Core.List.{List, [], _∷_}
 use mathlib.Core.Option.{Option, none, some}

@@ -98,7 +98,7 @@ logSize (c ∷ cs) = recordSize c + logSize cs
 unfoldable pub nextIn : ℕ → List ℕ → Option Entry
 nextIn room s = within (λ (e : Entry). recordSize (e .call)) room (entryAt s)
 
--- the list of calls of a script. An entry takes at least one byte, so the script's length is fuel enough
+-- the list of calls of a script. An entry takes bytes, so the script's length is fuel enough
 unfoldable pub listOf : ℕ → ℕ → List ℕ → List Call
 listOf zero room s = []
 listOf (suc fuel) room s =
@@ -126,7 +126,8 @@ unfoldable pub scriptOf : List Call → List ℕ
 scriptOf [] = []
 scriptOf (c ∷ cs) = scriptEntry c ++ scriptOf cs
 
--- what every call of the code has: numbers and lengths of 64 bits, a signed value of 64 bits, contents and outputs of bytes
+-- what every call of the code has: numbers and lengths of 64 bits, a signed value of 64 bits (`mag` of n and of -1 - n is n), contents
+-- and outputs of bytes
 abbrev pub Slice : List ℕ → Type 0
 Slice s = (length s < 2 ^ 64) × Bytes s
 
@@ -221,8 +222,8 @@ pub record Claimed (r : Replayed) (b log : List ℕ) (cs : List Call) : Type 0 w
   pub left : r ≡ logged cs (claim b cs) log
   pub told : answersIn cs (r .log) ≡ claim b cs .answers
 
--- demand 3 of a script that was performed: of the script's list; and of every list of these calls whose arguments the code's
--- types hold and whose records fit the log, where the script is its own
+-- demand 3 of a script that was performed. It holds of the list that the script is read as. It holds of every list that has this
+-- script, if the code's types hold its arguments and the log has room for its records
 pub record Performs (r : Replayed) (b script log : List ℕ) : Type 0 where
   pub of-script : Claimed r b log (listOf (length script) (length log) script)
   pub of-list : (cs : List Call) → AllFit cs → scriptOf cs ≡ script → logSize cs ≤ length log → Claimed r b log cs
