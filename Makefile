@@ -7,10 +7,10 @@ help:
 	@echo 'make lib               the library for C and Rust: lib/liblmr5.a and lib/liblmr5.so'
 	@echo 'make example           corrects a sample report by a C program over the library'
 	@echo 'make header-test       compares include/lmr5.h with the code'
-	@echo 'make differential      the unrelated implementation beside the library, on random cases'
+	@echo 'make differential      the independent implementation beside the library, on random cases'
 	@echo 'make differential-test what the differential test has to find'
-	@echo 'make reference-test    the tests of the unrelated implementation'
-	@echo 'make vectors           makes the test vectors of the gate anew from the unrelated implementation'
+	@echo 'make reference-test    the tests of the independent implementation'
+	@echo 'make vectors           makes the test vectors of the gate anew from the independent implementation'
 	@echo 'make bench             measures each call beside Rust written for speed'
 
 # $(call needs,NAME,TOOLS): says which tool is missing for `make NAME`.
@@ -28,21 +28,24 @@ list:
 	@scripts/progress 'make list' lister rt check lister >/dev/null
 	@target/bin/lister
 
-# The library for C and Rust programs, for include/lmr5.h, made anew where a source is newer.
-lib: lib/liblmr5.a
+# The library for C and Rust programs, for include/lmr5.h, made anew where a source is newer. Both files come last, when the
+# header and the numbers have been tried.
+lib: lib/liblmr5.a lib/liblmr5.so
 	@echo 'make lib: lib/liblmr5.a and lib/liblmr5.so are up to date' >&2
 
-lib/liblmr5.a: crates.txt include/lmr5.h $(shell find crates -name '*.rt' -o -name '*.antt') $(shell find header -name '*.rs' -o -name '*.c')
+sources = crates.txt include/lmr5.h docs/FORMAT.md $(shell find crates header/src header/refusals.c -name '*.rt' -o -name '*.antt' -o -name '*.rs' -o -name '*.c')
+
+lib/liblmr5.a lib/liblmr5.so &: $(sources)
 	$(call needs,lib,rt gcc cargo)
 	@scripts/progress 'make lib' lmr5 sh -c 'rt check $(shell sed -n 's/^lmr5://p' crates.txt) && rt staticlib lmr5' >/dev/null
 	@echo 'make lib: linking, and comparing the header with the code' >&2
 	@mkdir -p lib
 	@cp target/staticlib/liblmr5.a lib/made.a
-	gcc -shared -Wl,-soname,liblmr5.so -o lib/liblmr5.so -Wl,--whole-archive lib/made.a -Wl,--no-whole-archive
+	gcc -shared -Wl,-soname,liblmr5.so -o lib/made.so -Wl,--whole-archive lib/made.a -Wl,--no-whole-archive
 	@$(MAKE) --no-print-directory header-test
 	gcc -std=c99 -Wall -Wextra -pedantic -Werror -Iinclude -o lib/refusals header/refusals.c lib/made.a
 	lib/refusals
-	@mv lib/made.a lib/liblmr5.a
+	@mv lib/made.a lib/liblmr5.a && mv lib/made.so lib/liblmr5.so
 
 # Compares the header with what crates/lmr5 exports and with the definitions, and compiles it as C99 and, with g++, as C++.
 header-test:
@@ -53,21 +56,22 @@ header-test:
 
 # Builds examples/correct.c over the library, and corrects the sample report with it.
 example: lib/liblmr5.a
+	$(call needs,example,gcc)
 	gcc -std=c99 -Wall -Wextra -pedantic -Werror -O2 -Iinclude -o lib/correct examples/correct.c lib/liblmr5.a
 	lib/correct examples/report lib/corrected 286 A
 
-# Makes the test vectors of the gate anew, byte for byte, from the unrelated implementation.
+# Makes the test vectors of the gate anew, byte for byte, from the independent implementation.
 vectors:
 	$(call needs,vectors,cargo)
 	cd reference && cargo run --release --quiet --bin gate-reports -- ../crates/test_reports
 	cd reference && cargo run --release --quiet --bin gate-scripts -- ../crates/test_scripts
 
-# The tests of the unrelated implementation.
+# The tests of the independent implementation.
 reference-test:
 	$(call needs,reference-test,cargo)
 	cd reference && cargo test --release
 
-# The unrelated implementation beside lib/liblmr5.a: make differential SEED=.. CALLS=.., or ONLY=.. for one case.
+# The independent implementation beside lib/liblmr5.a: make differential SEED=.. CALLS=.., or ONLY=.. for one case.
 SEED = 1
 CALLS = 2000000
 ONLY =

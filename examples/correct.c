@@ -85,6 +85,10 @@ static int read_report(const char *name, uint8_t *report, size_t *length)
         return 0;
     }
     *length = fread(report, 1, LMR5_LONGEST_REPORT, from);
+    if (ferror(from)) {
+        perror(name);
+        return 0;
+    }
     if (from != stdin)
         fclose(from);
     return 1;
@@ -100,7 +104,7 @@ static int write_report(const char *name, const uint8_t *report, size_t size)
     return 1;
 }
 
-/* The buffer has room for the longest report; bytes behind the report that was read are 0. */
+/* Room for the longest report. Only the first report of a file is corrected and written. */
 static uint8_t buffer[LMR5_LONGEST_REPORT];
 
 int main(int argc, char **argv)

@@ -1,9 +1,9 @@
 /*
  * Packed LMR.5 marine reports: judged, read and corrected in place.
  *
- * Link lib/liblmr5.a or lib/liblmr5.so, which `make lib` gives. Each function is proved to do what is said of it here, on
- * every input; its promise stands in crates/lmr5/src/lib.rt. This header is not frozen: the change requests that are still
- * pending will add to it.
+ * Link lib/liblmr5.a or lib/liblmr5.so, which `make lib` gives. Each function is proved, on every input, to meet its promise
+ * in crates/lmr5/src/lib.rt. This header says the same in words, and docs/FORMAT.md in full; its signatures and numbers are
+ * tested against the code. Later versions will add to it.
  *
  * WHAT A CALL GETS
  * A buffer is a pointer and its length, in elements. The library keeps no pointer, allocates nothing, owns nothing and has
@@ -15,21 +15,24 @@
  *   - A buffer that a call may write (not `const`) overlaps no other buffer of that call. Two `const` buffers may overlap.
  *   - While a call runs no other thread writes its buffers, nor reads those that it may write.
  *
- * A report stands at the front of its buffer; the buffer may be longer. Bytes behind the report belong to the caller. A
- * report takes 38 to LMR5_LONGEST_REPORT bytes, and a longer buffer leaves room for attachments.
+ * A report stands at the front of its buffer; the buffer may be longer. A report takes 38 to LMR5_LONGEST_REPORT bytes, and a
+ * longer buffer leaves room for attachments. Bytes behind the report are the caller's; a put that makes the report longer
+ * writes over them, as far as the buffer goes. Where other reports follow, lend a report's own bytes only: a put that needs
+ * more is then refused.
  *
  * WHAT A CALL ANSWERS
- * An lmr5_answer. Accepted: `refusal` and `place` are 0, and `given` says what numbers there are. Refused: `refusal` is one
- * of enum lmr5_refusal, `place` says where, all else is 0, and no byte of any buffer has changed.
+ * An lmr5_answer; only lmr5_replay answers an lmr5_performed, and refuses nothing itself. Accepted: `refusal` and `place` are
+ * 0, and `given` says what numbers there are. Refused: `refusal` is one of enum lmr5_refusal, `place` says where, all else is
+ * 0, and no byte of any buffer has changed.
  *
- * THE REPORT IS CHECKED FIRST by every call that takes one, whatever its arguments are. The first of these that fits is the
- * refusal, "the report's refusals" below:
- *   1, place 0, under 38 bytes; 2 or 3, fields ascending; 4; attachment by attachment: 1 its header does not fit, 5, 1 its
- *   data do not fit, 6; 7.
+ * THE REPORT IS CHECKED FIRST by every call that takes one, whatever its arguments are. The first of these that applies is
+ * the refusal, "the report's refusals" below:
+ *   1, place 0, under 38 bytes; 2 or 3, fields ascending; 4; attachment by attachment: 1 (its header does not fit), 5, 1 (its
+ *   content does not fit), 6; 7.
  * Then come the call's own refusals, in the order in which they are named.
  *
- * Values are whole numbers in the field's unit: 286 is 28.6 degrees C. A nibble is 4 bits; in an attachment's
- * content and in a tail each nibble takes a byte, 0 to 15. docs/FORMAT.md fixes all that is said here.
+ * Values are whole numbers in the field's unit: 286 is 28.6 degrees C. A nibble is 4 bits; in an attachment's content and in a
+ * tail each nibble takes a byte, 0 to 15.
  */
 #ifndef LMR5_INCLUDED
 #define LMR5_INCLUDED

@@ -166,7 +166,7 @@ fn contents_of(result: Result<Unpacked, Refusal>) -> (Answer, [u64; 6]) {
     }
 }
 
-/// Runs a case on a side; whether answer and bytes are the unrelated implementation's.
+/// Runs a case on a side; whether answer and bytes are the independent implementation's.
 /// Cases of the lister, of same and of the trips have no call here.
 pub fn agrees(side: Side, case: &Case) -> bool {
     let outcome = case.run();

@@ -1,4 +1,4 @@
-//! The Rust side against the unrelated implementation, and against the figures of docs/FORMAT.md.
+//! The Rust side against the independent implementation, and against the figures of docs/FORMAT.md.
 
 use bench::compare::{Side, agrees, cases};
 use bench::fast::{Given, calls, whole};

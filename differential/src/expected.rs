@@ -1,4 +1,4 @@
-//! What the unrelated implementation expects of a call.
+//! What the independent implementation expects of a call.
 
 use reference::call::Call;
 use reference::cases::Case;

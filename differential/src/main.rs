@@ -1,4 +1,4 @@
-//! The unrelated implementation beside lib/liblmr5.a: SEED CALLS [ONLY].
+//! The independent implementation beside lib/liblmr5.a: SEED CALLS [ONLY].
 
 #[cfg(no_library)]
 compile_error!("lib/liblmr5.a is missing: run make lib");

@@ -1,4 +1,4 @@
-//! The unrelated implementation behind the sixteen calls, in place of a library.
+//! The independent implementation behind the sixteen calls, in place of a library.
 
 use std::slice::{from_raw_parts, from_raw_parts_mut};
 

@@ -1,6 +1,6 @@
 use reference::table::{AC, CK, Coded, REQUIRED, ROWS, Scaled, field, fields, place_on_card};
 
-/// Number, name, highest coded value, base, bits, as the paper lists them.
+/// Number, name, highest coded value, base, bits, as the requirements list them.
 const LISTED: [(usize, &str, u64, i64, usize); 46] = [
     (1, "BOX10", 648, 0, 10),
     (2, "YEAR", 255, 1799, 8),

@@ -4,7 +4,7 @@ use std::collections::BTreeMap;
 
 use reference::text::{read, write};
 
-/// The nibbles of a byte that is no space, from the paper's lists.
+/// The nibbles of a byte that is no space, from the lists of docs/FORMAT.md, 3.5.
 fn code(byte: u8) -> Vec<u8> {
     let place = |row: &[u8]| row.iter().position(|&other| other == byte).map(|p| p as u8);
     if let Some(place) = place(b"0123456789") {
@@ -20,7 +20,7 @@ fn code(byte: u8) -> Vec<u8> {
     }
 }
 
-/// The nibbles of a run of spaces, counted down from the paper's words.
+/// The nibbles of a run of spaces, counted down by the rule of docs/FORMAT.md, 3.5.
 fn run(mut spaces: usize) -> Vec<u8> {
     let mut nibbles = Vec::new();
     while spaces >= 18 {

@@ -1,4 +1,4 @@
--- FORMAT 4.1 and 4.3: an observation (the sheet, in the client's paper), on which the plain machine works, and its packing.
+-- FORMAT 4.1 and 4.3: an observation (the requirements' sheet), on which the plain machine works, and its packing.
 use Prim.Native.Nat.{ℕ, _%_}
 use mathlib.Core.List.{List, [], _∷_, _++_, map}
 use mathlib.Core.Option.{Option}

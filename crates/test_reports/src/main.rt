@@ -1,4 +1,4 @@
-// Runs the calls on whole reports over vectors of the unrelated implementation.
+// Runs the calls on whole reports over vectors of the independent implementation.
 use format::Scaled;
 use fresh::Started;
 use pack::Packed;

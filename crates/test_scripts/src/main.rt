@@ -1,4 +1,4 @@
-// Runs lists of calls as scripts over vectors of the unrelated implementation.
+// Runs lists of calls as scripts over vectors of the independent implementation.
 ghost use Prim.Native.Nat.{_≤_, _<_};
 use test_io::Kind;
 
