@@ -84,13 +84,13 @@ enum lmr5_refusal {
     LMR5_REFUSED_BODY = 6,        /* invalid flags (id 1) or ship text (id 4); place: the attachment's position */
     LMR5_REFUSED_PADDING = 7,     /* the padding nibble is not 0 */
     /* by an argument */
-    LMR5_REFUSED_NUMBER = 8,      /* field not 1 to 46, flag not 1 to 14, id not 1 to 15, presence bit outside 1 to 46 */
+    LMR5_REFUSED_NUMBER = 8,      /* no such field (1 to 46), flag (1 to 14) or id (1 to 15); a wrong bit of a presence word */
     LMR5_REFUSED_VALUE = 9,       /* value out of range; place: the field or flag */
     LMR5_REFUSED_REQUIRED = 10,   /* required field cleared, or absent in pack; place: the field */
     LMR5_REFUSED_NO_SUCH = 11,    /* no such attachment */
-    LMR5_REFUSED_LENGTH = 12,     /* content of 0 or over 255 nibbles */
-    LMR5_REFUSED_ROOM = 13,       /* a buffer is shorter than the new report, the output, or 46 values */
-    LMR5_REFUSED_CONTENT = 14     /* a content or tail byte over 15, or content that 6 would refuse */
+    LMR5_REFUSED_LENGTH = 12,     /* a content without nibbles, or with over 255 */
+    LMR5_REFUSED_ROOM = 13,       /* no room: for the new report, for what is written to an output, for 46 values */
+    LMR5_REFUSED_CONTENT = 14     /* a byte over 15 in a content or tail, or a content that is invalid */
 };
 
 /* The longest report, in bytes. */
@@ -194,7 +194,7 @@ lmr5_answer lmr5_fresh(int64_t box10, int64_t year, int64_t month, int64_t x, in
 
 /* The places of what lmr5_unpack gives in `contents`. */
 enum lmr5_contents {
-    LMR5_CONTENTS_WORD = 0,        /* the presence word: bit k (the lowest is 0) says that field k is present */
+    LMR5_CONTENTS_WORD = 0,        /* the presence word: bit k, the lowest being bit 0, is set where field k is present */
     LMR5_CONTENTS_PRESENT = 1,     /* how many fields are present */
     LMR5_CONTENTS_RPTIN = 2,
     LMR5_CONTENTS_ATTACHMENTS = 3, /* AC, how many attachments */
@@ -225,8 +225,8 @@ lmr5_answer lmr5_pack(const int64_t *values, size_t values_length, uint64_t word
 /*
  * ---- the eleven calls on the report that a buffer begins with
  *
- * After an accepted call the report is packed anew in place, its checksum worked out. Bytes from the new end of the report
- * up to its old end are 0; those beyond both ends stay, as does RPTIN.
+ * After an accepted call the report is packed anew in place, its checksum worked out. Where it has become shorter, the bytes
+ * up to its old end are 0. Bytes behind both ends stay, as does RPTIN.
  */
 
 /* Gives the value of a field, or that it is missing. Refusals: the report's refusals; 8. */

@@ -1,4 +1,4 @@
-// A bit field within two adjacent bytes of a buffer. Bit 0 is the highest bit of byte 0; a field's highest bit comes first.
+// A bit field within two adjacent bytes of a buffer. Bits are counted from the highest of byte 0 on; a field's highest bit comes first.
 ghost use mathlib.Core.Path.{_≡_};
 ghost use Prim.Native.Nat.{_+_, _*_, _/_, _%_, _≤_, _<_, _^_};
 ghost use lib.ListN.{length, set};

@@ -166,40 +166,40 @@ examples =
     ∷ example (listing freshBytes)
     (49 ∷ 32 ∷ 49 ∷ 10 ∷ 50 ∷ 32 ∷ 49 ∷ 57 ∷ 48 ∷ 48 ∷ 10 ∷ 51 ∷ 32 ∷ 49 ∷ 10 ∷ 54 ∷ 32 ∷ 48 ∷ 10 ∷ 55 ∷ 32 ∷ 48 ∷ 10 ∷ 67 ∷ 32 ∷ 50 ∷ 52 ∷ 48 ∷ 10 ∷ 65 ∷ 32 ∷ 48 ∷ 10 ∷ [])
     ∷ example (listing []) (82 ∷ 32 ∷ 49 ∷ 32 ∷ 48 ∷ 10 ∷ [])
-    -- S set to 286: coded 1286 at bits 203 to 213, bytes 25 and 26, CK 251, and back
+    -- S set to 286: its code and where it stands, all bytes, CK, and back
     ∷ example (codedOf (fieldAt 31) (scaled (pos 286)) .0 ∷ bitField sBytes 203 11 ∷ offset widths 31 ∷ []) (1286 ∷ 1286 ∷ 203 ∷ [])
     ∷ example sBytes (take 25 freshBytes ++ (0x14 ∷ 0x18 ∷ (replicate 9 0 ++ (0xFB ∷ 0x00 ∷ []))))
     ∷ example (checksumOf sBytes ∷ []) (251 ∷ [])
     ∷ example (answersOf sBytes (reads (readField 31) ∷ [])) (1 ∷ 1 ∷ 0 ∷ 286 ∷ [])
-    -- text A1: bytes 37 to 40, CK still 251, and back
+    -- text A1: all bytes, CK, and back
     ∷ example textBytes (take 37 sBytes ++ (0x10 ∷ 0x34 ∷ 0xC1 ∷ 0x10 ∷ 7 ∷ []))
     ∷ example (checksumOf textBytes ∷ []) (251 ∷ [])
     ∷ example (answersOf textBytes (fetches (fetchText (3 ∷ 3 ∷ 3 ∷ [])) ∷ [])) (1 ∷ 1 ∷ 0 ∷ 2 ∷ 65 ∷ 49 ∷ 3 ∷ [])
-    -- all fields highest: sum 19643, CK 8; all coded 1: CK 46
+    -- CK where every field is at its highest, and where every code is 1
     ∷ example (total highestCodes ∷ checksum highestCodes ∷ []) (19643 ∷ 8 ∷ [])
     ∷ example (checksum (replicate 46 1) ∷ []) (46 ∷ [])
     ∷ example (checksumOf (reportOf highestCodes 0 []) ∷ checksumOf (reportOf (replicate 46 1) 0 []) ∷ []) (8 ∷ 46 ∷ [])
     ∷ example (codesOf (packing (observationOf (reportOf highestCodes 0 [])))) highestCodes
-    -- S: -1000 is 9; -999 is coded 1
+    -- S: just below its range, and its lowest value
     ∷ example (answersOf freshBytes (edits (setField 31 (scaled (minus 1000))) ∷ [])) (refuses 9 31)
     ∷ example (codedOf (fieldAt 31) (scaled (minus 999)) .0 ∷ signed (scaledOf (fieldAt 31) (coded 1) .0)) (1 ∷ 1 ∷ 998 ∷ [])
-    -- 12, three spaces, 3; twenty spaces and B; a; and back
+    -- texts with a short run of spaces, with a long one, with an escape; and back
     ∷ example (writeText (49 ∷ 50 ∷ 32 ∷ 32 ∷ 32 ∷ 51 ∷ [])) (1 ∷ 2 ∷ 11 ∷ 0 ∷ 3 ∷ [])
     ∷ example (readText (1 ∷ 2 ∷ 11 ∷ 0 ∷ 3 ∷ [])) (49 ∷ 50 ∷ 32 ∷ 32 ∷ 32 ∷ 51 ∷ [])
     ∷ example (writeText (replicate 20 32 ++ (66 ∷ []))) (11 ∷ 15 ∷ 10 ∷ 10 ∷ 12 ∷ 2 ∷ [])
     ∷ example (readText (11 ∷ 15 ∷ 10 ∷ 10 ∷ 12 ∷ 2 ∷ [])) (replicate 20 32 ++ (66 ∷ []))
     ∷ example (writeText (97 ∷ [])) (15 ∷ 6 ∷ 1 ∷ [])
     ∷ example (readText (15 ∷ 6 ∷ 1 ∷ [])) (97 ∷ [])
-    -- 10 10 10 1 as id 4: 14 in put, 6 in a report
+    -- a run of three spaces in another form: in put, and in a report
     ∷ example (answersOf roomy (edits (put 4 badText) ∷ [])) (refuses 14 0)
     ∷ example (judged (judge (reportOf freshCodes 1 (0 ∷ 4 ∷ 4 ∷ badText)))) (refuses 6 1)
-    -- 85 times a fits, 86 is 12
+    -- the most escapes that fit, and one more
     ∷ example (answersOf wide (edits (putText (replicate 85 97)) ∷ edits (putText (replicate 86 97)) ∷ [])) (yes ++ refuses 12 0)
-    -- flag 1 R, flag 6 L: quality code 3
+    -- the quality code of flag 1 at R and flag 6 at L
     ∷ example (qualityCode (1 ∷ 0 ∷ 0 ∷ 0 ∷ 0 ∷ 6 ∷ replicate 8 0) ∷ []) (3 ∷ [])
     ∷ example (answersOf roomy flagCalls)
     (1 ∷ 1 ∷ 1 ∷ 1 ∷ 1 ∷ 0 ∷ 16 ∷ 1 ∷ 0 ∷ 0 ∷ 0 ∷ 0 ∷ 6 ∷ 0 ∷ 0 ∷ 0 ∷ 0 ∷ 0 ∷ 0 ∷ 0 ∷ 0 ∷ 0 ∷ 3 ∷ 9 ∷ [])
-    -- clearing DAY is accepted, MONTH is 10
+    -- a field cleared that is not required, and one that is
     ∷ example (answersOf freshBytes (edits (clearField 4) ∷ edits (clearField 3) ∷ [])) (yes ++ refuses 10 3)
     ∷ []
 
@@ -246,7 +246,7 @@ packed values word ns out = let w = pack values word 513 ns out in answer (w .an
 requiredBits : ℕ
 requiredBits = 2 + 4 + 8 + 64 + 128
 
--- attachments n to 1: id 1 with its 16 nibbles, the others with one
+-- attachments n to 1: one nibble each, but for id 1
 manyAttachments : ℕ → List ℕ
 manyAttachments zero = []
 manyAttachments (suc zero) = 1 ∷ 0 ∷ 1 ∷ flagless
@@ -265,7 +265,7 @@ unpackedNumbers u = answer (u .answer) ++ (numbers (u .values) ++ u .tail)
 
 pub orders : List Example
 orders =
-    -- a report: length, fields ascending, 4, each attachment (header fits, 5, data fits, 6), 7
+    -- a report: the order of FORMAT 5.2
     example (judged (judge (take 37 (spoilt freshBytes)))) (refuses 1 0)
     ∷ example (judged (judge (reportOf (codesWithout 1 700) 0 []))) (refuses 2 1)
     ∷ example (judged (judge (reportOf (codesWithout 5 25) 0 []))) (refuses 3 3)
@@ -301,7 +301,7 @@ orders =
     (fetches (fetch 16 []) ∷ fetches (fetch 5 []) ∷ fetches (fetch 4 (7 ∷ 7 ∷ [])) ∷ fetches (fetch 4 (7 ∷ 7 ∷ 7 ∷ 7 ∷ [])) ∷ fetches (fetchText (7 ∷ []))
     ∷ edits (remove 5) ∷ edits (remove 0) ∷ []))
     (refuses 8 0 ++ (refuses 11 0 ++ (refuses 13 0 ++ (7 ∷ 7 ∷ 1 ∷ 1 ∷ 0 ∷ 3 ∷ 12 ∷ 1 ∷ 1 ∷ 7 ∷ (refuses 13 0 ++ (7 ∷ (refuses 11 0 ++ refuses 8 0)))))))
-    -- bytes from the present end to the longest end reached are 0, and those past it keep their value
+    -- what stands behind a report that has been longer (FORMAT 6.3)
     ∷ example (drop 37 (claim roomy (edits (put 9 (1 ∷ 2 ∷ 3 ∷ [])) ∷ edits (put 8 (4 ∷ 5 ∷ [])) ∷ edits (remove 9) ∷ []) .state)) (16 ∷ 40 ∷ 69 ∷ 0 ∷ 0 ∷ 0 ∷ replicate 17 5)
     ∷ example (drop 37 (claim roomy (edits (put 9 (1 ∷ 2 ∷ 3 ∷ [])) ∷ edits (remove 9) ∷ []) .state)) (0 ∷ 0 ∷ 0 ∷ 0 ∷ replicate 19 5)
     ∷ example (drop 37 (effect (effect roomy (edits (put 9 (1 ∷ 2 ∷ 3 ∷ []))) .buffer) (edits (remove 9)) .buffer)) (0 ∷ 0 ∷ 0 ∷ 0 ∷ replicate 19 5)
@@ -314,7 +314,7 @@ orders =
     (put1 ∷ edits (setFlag 14 10) ∷ reads (readFlag 14) ∷ fetches (fetch 1 (replicate 16 9)) ∷ edits (clearFlag 14) ∷ reads (readFlag 14)
     ∷ fetches (fetch 1 (replicate 16 9)) ∷ []))
     (1 ∷ 1 ∷ 1 ∷ 1 ∷ 0 ∷ 10 ∷ 1 ∷ 1 ∷ 0 ∷ 16 ∷ (replicate 13 0 ++ (10 ∷ 0 ∷ 4 ∷ 1 ∷ 1 ∷ 0 ∷ 1 ∷ 1 ∷ 0 ∷ 16 ∷ replicate 16 0)))
-    -- fresh: 9 by ascending field, then 13
+    -- fresh: the order of FORMAT 7.2
     ∷ example (let w = fresh (scaled (pos 1)) (scaled (pos 1799)) (scaled (pos 13)) (scaled (pos 0)) (scaled (pos 0)) (7 ∷ []) in answer (w .answer) ++ w .out) (refuses 9 2 ++ one 7)
     ∷ example (let w = freshExample (replicate 37 7) in answer (w .answer) ++ w .out) (refuses 13 0 ++ replicate 37 7)
     -- unpack and pack

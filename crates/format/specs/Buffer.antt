@@ -41,7 +41,7 @@ effect b c = effectOn (judge b) b c
 
 -- ---- a list of calls
 
--- an answer whole: with the bytes of each output after the call
+-- an answer whole: with what the call leaves of its outputs
 pub record Shown : Type 0 where
   pub answer : Answer
   pub outs : List (List ℕ)

@@ -15,7 +15,7 @@ use Rattle.format.specs.Observation.{Observation, observation, size}
 use Rattle.format.specs.Report.{bodyValid}
 use Rattle.format.specs.declared.Scaled.{Scaled}
 
--- the calls, each with its arguments, and with contents and outputs as they are lent, in three groups
+-- the calls, each with all that it is lent, in three groups
 
 -- those that read: read k; read flag j
 pub data Reading : Type 0 where
@@ -160,7 +160,7 @@ writes s (fetches (fetchText out)) = readText (content s 4) ∷ []
 
 -- ---- the refusals 8 to 14, by the observation, the buffer's length n and the call
 
--- 8: field not 1 to 46, flag not 1 to 14, id not 1 to 15
+-- 8: no such number of a field, a flag or an id
 abbrev pub fieldNumberCheck : ℕ → Check
 fieldNumberCheck k = check (not (isField k)) 8 0
 
@@ -181,11 +181,11 @@ flagValueCheck j v = check (not (flagInRange j v)) 9 j
 abbrev pub requiredCheck : ℕ → Check
 requiredCheck k = check (required k) 10 k
 
--- 11: no such attachment
+-- 11: the id does not stand
 abbrev pub standsCheck : Observation → ℕ → Check
 standsCheck s i = check (not (stands i (s .attachments))) 11 0
 
--- 12: content of 0 or over 255 nibbles
+-- 12: too few nibbles or too many
 abbrev pub lengthCheck : List ℕ → Check
 lengthCheck ns = check (not (between 1 255 (length ns))) 12 0
 
@@ -193,11 +193,11 @@ unfoldable pub allNibbles : List ℕ → Bool
 allNibbles [] = true
 allNibbles (x ∷ xs) = leb x 15 && allNibbles xs
 
--- 14: content byte over 15, or content that 6 would refuse
+-- 14: a byte that is no nibble, or a content that is not valid
 abbrev pub contentCheck : ℕ → List ℕ → Check
 contentCheck i ns = check (not (allNibbles ns && bodyValid i ns)) 14 0
 
--- 13: a lent buffer shorter than the new report, which only an edit makes, or an output shorter than what is written to it
+-- 13: no room for the report that an edit makes, or in an output for what is written to it
 abbrev pub shorter : ℕ → Option Observation → Bool
 shorter n none = false
 shorter n (some t) = ltb n (size t)
@@ -235,7 +235,7 @@ pub data Answer : Type 0 where
   refused : Refusal → Answer
   accepted : List Given → Answer
 
--- the answer, the observation after the step, and the bytes of each output after it
+-- the answer, and what the step leaves: the observation and the outputs
 pub record Stepped : Type 0 where
   pub answer : Answer
   pub observation : Observation

@@ -80,7 +80,7 @@ pub record Unpacked : Type 0 where
 abbrev pub unpacked : Answer → List ℤ → List ℕ → Unpacked
 unpacked a vs ns = record { answer = a; values = vs; tail = ns }
 
--- the presence word, how many fields are present, RPTIN, AC, size in bytes, the tail's length
+-- the six numbers of unpack
 abbrev pub contents : ℕ → ℕ → ℕ → ℕ → ℕ → ℕ → List Given
 contents word present rptin attachments bytes nibbles =
     counted Quantity.word word

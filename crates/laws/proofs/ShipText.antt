@@ -1,5 +1,5 @@
 -- The laws of ship text: what was written is read back without its trailing spaces, what is read is what was written, so that
--- a body is valid exactly when the writer gives it for some text, and what is read is the shortest such text; and the bounds.
+-- a body is valid exactly when some text is written so, and what is read is the shortest such text; and the bounds.
 -- Assumes nothing.
 use Prim.Native.Nat.{ℕ, zero, suc, _+_, _*_, _/_, _%_, _≤_, _<_}
 use native.Mathlib.Omega.{arith}

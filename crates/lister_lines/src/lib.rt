@@ -1,4 +1,4 @@
-// The lister's lines: for each present field its number and scaled value, then CK and AC; or a refusal.
+// The lister's lines: those of the present fields, of CK and of AC; or that of a refusal.
 ghost use mathlib.Core.Path.{_≡_};
 ghost use mathlib.Core.List.{[], _∷_, _++_};
 ghost use Prim.Native.Nat.{_+_, _≤_, _<_};

@@ -1,4 +1,4 @@
-// Nibbles of a buffer, high half of a byte first, read by a cursor.
+// Nibbles of a buffer, the high half of each byte first, read by a cursor.
 ghost use mathlib.Core.Path.{_≡_};
 ghost use Prim.Native.Nat.{_+_, _*_, _≤_, _<_, _^_};
 ghost use lib.Dec.{ltb};

@@ -7,7 +7,7 @@ use lib.ListN.{length, replicate}
 use Rattle.format.specs.ShipText.{writeText, textValid}
 use Rattle.format.specs.Bits.{Bytes}
 
--- FORMAT 3.5: a content is valid exactly when the writer gives it for some text
+-- FORMAT 3.5: a content is valid exactly when some text is written so
 pub record Writable (valid : Bool) (ns : List ℕ) : Type 0 where
   pub some-text : valid ≡ true → (t : List ℕ) × Bytes t × (writeText t ≡ ns)
   pub no-text : valid ≡ false → (t : List ℕ) → Bytes t → writeText t ≡ ns → ⊥

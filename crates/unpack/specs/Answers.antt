@@ -6,7 +6,7 @@ use Rattle.format.specs.Whole.{contents}
 use Rattle.unpack.specs.declared.Contents.{Contents}
 use Rattle.unpack.specs.declared.Unpacked.{Unpacked}
 
--- the presence word, how many fields are present, RPTIN, AC, byte length, the tail's length
+-- the six numbers that are given
 abbrev pub contentsNumbers : Contents → List Given
 contentsNumbers c = contents (c .word) (c .present) (c .rptin) (c .attachments) (c .bytes) (c .nibbles)
 
