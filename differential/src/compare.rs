@@ -18,12 +18,12 @@ pub fn compare(harness: &mut Harness, tally: &mut Tally, trial: &Trial) -> Optio
     let (expected, got) = match trial {
         Trial::Whole(case) => {
             let expected = expected::whole(case);
-            tally.add_whole(case, expected.refusal());
+            tally.add_whole(case, &expected);
             (expected, harness.whole(case))
         }
         Trial::Call { buffer, call } => {
             let expected = expected::call(call, &mut buffer.clone());
-            tally.add_call(call, expected.refusal());
+            tally.add_call(call, &expected);
             (expected, harness.call(call, buffer))
         }
         Trial::List { .. } => return compare_list(harness, tally, trial),
@@ -49,7 +49,7 @@ fn compare_list(harness: &mut Harness, tally: &mut Tally, list: &Trial) -> Optio
     let at = harness.begin(buffer);
     for (index, call) in calls.iter().enumerate() {
         let expected = expected::call(call, &mut after);
-        tally.add_call(call, expected.refusal());
+        tally.add_call(call, &expected);
         let got = harness.next(call, at, buffer.len());
         let found = difference(expected, got, || Trial::List {
             buffer: buffer.clone(),

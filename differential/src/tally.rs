@@ -1,14 +1,23 @@
-//! How often each call came to each refusal.
+//! How often each call came to each refusal, and to a CK at an edge.
 
 use std::fmt;
 
+use reference::bits::bits_of;
 use reference::call::Call;
+use reference::card::{CARD_BYTES, Card};
 use reference::cases::Case;
 
 use crate::expected::{Outcome, Said};
+use crate::fence::MARKED;
 
 const REFUSALS: usize = 14;
 const REPLAY: usize = 15;
+
+/// Fresh, pack, set field and clear field work CK out.
+const WRITERS: [usize; 4] = [1, 3, 5, 6];
+
+/// CK at and beside 0.
+const EDGES: [u64; 3] = [254, 0, 1];
 
 /// Each call with the refusals that it can meet.
 const CALLS: [(&str, &[usize]); 16] = [
@@ -34,12 +43,14 @@ const CALLS: [(&str, &[usize]); 16] = [
 pub struct Tally {
     /// By call and refusal, 0 where accepted.
     counts: [[u64; REFUSALS + 1]; CALLS.len()],
+    /// By writer and edge.
+    checksums: [[u64; EDGES.len()]; WRITERS.len()],
     performed: u64,
     ended_early: u64,
 }
 
 impl Tally {
-    pub fn add_whole(&mut self, case: &Case, refusal: usize) {
+    pub fn add_whole(&mut self, case: &Case, outcome: &Outcome) {
         let row = match case {
             Case::Judge { .. } => 0,
             Case::Fresh { .. } => 1,
@@ -51,10 +62,10 @@ impl Tally {
             | Case::Recover { .. }
             | Case::Calls { .. } => unreachable!("neither judge, fresh, unpack nor pack"),
         };
-        self.counts[row][refusal] += 1;
+        self.add(row, outcome);
     }
 
-    pub fn add_call(&mut self, call: &Call, refusal: usize) {
+    pub fn add_call(&mut self, call: &Call, outcome: &Outcome) {
         let row = match call {
             Call::ReadField { .. } => 4,
             Call::SetField { .. } => 5,
@@ -68,7 +79,7 @@ impl Tally {
             Call::PutText { .. } => 13,
             Call::FetchText { .. } => 14,
         };
-        self.counts[row][refusal] += 1;
+        self.add(row, outcome);
     }
 
     pub fn add_script(&mut self, outcome: &Outcome, script: &[u8]) {
@@ -76,6 +87,21 @@ impl Tally {
         if let Said::Performed(performed) = outcome.said {
             self.performed += performed.calls;
             self.ended_early += u64::from(performed.taken < script.len() as u64);
+        }
+    }
+
+    fn add(&mut self, row: usize, outcome: &Outcome) {
+        self.counts[row][outcome.refusal()] += 1;
+        let writer = WRITERS.iter().position(|&writer| writer == row);
+        let (Some(writer), 0) = (writer, outcome.refusal()) else {
+            return;
+        };
+        // The report, or the output that it was written to, comes last.
+        if let Some((_, state)) = outcome.buffers.last() {
+            let ck = Card::read(&bits_of(&state[MARKED..][..CARD_BYTES])).ck;
+            if let Some(edge) = EDGES.iter().position(|&edge| edge == ck) {
+                self.checksums[writer][edge] += 1;
+            }
         }
     }
 
@@ -124,6 +150,11 @@ impl fmt::Display for Tally {
             write!(f, "{:>8}", sum(refusal))?;
         }
         writeln!(f)?;
+        let [below, at, above] = EDGES;
+        writeln!(f, "{:<12}{below:>9}{at:>9}{above:>9}", "CK written")?;
+        for (&row, [below, at, above]) in WRITERS.iter().zip(&self.checksums) {
+            writeln!(f, "{:<12}{below:>9}{at:>9}{above:>9}", CALLS[row].0)?;
+        }
         writeln!(
             f,
             "scripts: {} calls performed, {} ended before the script's end",

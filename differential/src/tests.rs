@@ -8,6 +8,7 @@ use reference::cases::material::{observation_with, values_and_word};
 use reference::flags;
 use reference::gate::log::{FRONT, HEAD};
 use reference::gate::script::first_call;
+use reference::gate::sizes::{observation_of_sum, required_of_sum};
 
 use crate::compare::{Difference, compare};
 use crate::draw::trials;
@@ -53,6 +54,45 @@ fn a_right_library_passes_and_meets_every_refusal() {
     let mut tally = Tally::default();
     assert!(first_difference(STAND_IN, &mut tally).is_none());
     assert_eq!(tally.unseen(), []);
+}
+
+/// The sum is 255 after fresh and 254 after pack, then 255, 256 and 254; the last
+/// set is refused.
+#[test]
+fn checksums_at_an_edge_are_counted() {
+    let observation = observation_of_sum(254);
+    let (values, word) = values_and_word(&observation, 0);
+    let set = |value| Call::SetField { field: 46, value };
+    let (mut tally, mut harness) = (Tally::default(), Harness::new(STAND_IN));
+    for trial in [
+        Trial::Whole(Case::Fresh {
+            required: required_of_sum(255),
+            output: vec![0; 40],
+        }),
+        Trial::Whole(Case::Pack {
+            values,
+            word,
+            rptin: 0,
+            tail: Vec::new(),
+            output: vec![0; 38],
+        }),
+        Trial::List {
+            buffer: observation.packing(),
+            calls: vec![set(0), set(1), Call::ClearField { field: 46 }, set(2)],
+        },
+    ] {
+        assert!(compare(&mut harness, &mut tally, &trial).is_none());
+    }
+    let shown = tally.to_string();
+    for line in [
+        "CK written        254        0        1",
+        "fresh               0        1        0",
+        "pack                1        0        0",
+        "set field           0        1        1",
+        "clear field         1        0        0",
+    ] {
+        assert!(shown.lines().any(|shown| shown == line), "{shown}");
+    }
 }
 
 #[test]

@@ -633,6 +633,14 @@ fn observations_have_the_wanted_size_and_sum() {
         let codes = sizes::observation_of_sum(sum).codes();
         assert_eq!(codes.iter().map(|code| code.0).sum::<u64>(), sum);
     }
+    for (sum, required) in [
+        (5, [1, 1800, 1, 0, -900]),
+        (255, [251, 1800, 1, 0, -900]),
+        (6120, [648, 2054, 12, 3599, 704]),
+        (6316, [648, 2054, 12, 3599, 900]),
+    ] {
+        assert_eq!(sizes::required_of_sum(sum), required);
+    }
 }
 
 #[test]

@@ -14,6 +14,7 @@ use crate::gate::list::{List, MOST_LOG};
 use crate::gate::log::{FRONT, HEAD, MARKED, record_size};
 use crate::gate::script::{entry, run, script};
 use crate::gate::sizes::{LONGEST_TAIL, observation_of_tail};
+use crate::gate::sum_cases;
 use crate::judge::judge;
 use crate::observation::Observation;
 use crate::prng::Prng;
@@ -41,6 +42,7 @@ pub fn lists(seed: u64) -> Vec<List> {
     lengthen_logs(&mut lists);
     lists.extend(ended_lists());
     lists.extend(refused_lists());
+    lists.extend(sum_cases::lists());
     lists
 }
 
@@ -433,7 +435,7 @@ fn held_buffer() -> Vec<u8> {
 }
 
 /// One call of each kind, all of them accepted on the held report.
-fn one_of_each() -> Vec<Call> {
+pub fn one_of_each() -> Vec<Call> {
     vec![
         Call::ReadField { field: 2 },
         Call::SetField {

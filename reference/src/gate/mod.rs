@@ -9,6 +9,7 @@ pub mod record;
 pub mod same_cases;
 pub mod script;
 pub mod sizes;
+pub mod sum_cases;
 pub mod tally;
 pub mod trip_cases;
 pub mod whole_cases;

@@ -5,7 +5,7 @@ use crate::cases::material::{fresh_observation, random_flags, random_observation
 use crate::flags;
 use crate::observation::Observation;
 use crate::prng::Prng;
-use crate::table::{FIELDS, Scaled, fields};
+use crate::table::{FIELDS, REQUIRED, Scaled, fields};
 use crate::text;
 
 /// Nibbles behind the card of the largest report.
@@ -97,4 +97,15 @@ pub fn observation_of_sum(sum: u64) -> Observation {
         }
     }
     observation
+}
+
+/// Values for fresh whose codes add up to a sum of 5 to 6316, filled up likewise.
+pub fn required_of_sum(sum: u64) -> [i64; 5] {
+    let mut left = sum - 5;
+    REQUIRED.map(|number| {
+        let field = fields()[number - 1];
+        let more = left.min(field.highest - 1);
+        left -= more;
+        field.lowest_value().0 + more as i64
+    })
 }

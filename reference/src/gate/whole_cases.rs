@@ -7,7 +7,7 @@ use crate::cases::material::*;
 use crate::cases::outside::{edge_values, tails};
 use crate::cases::{self, Case, pairs, random, reports};
 use crate::gate::sizes::{LONGEST_TAIL, observation_of_sum, observation_of_tail};
-use crate::gate::{record, same_cases, trip_cases};
+use crate::gate::{record, same_cases, sum_cases, trip_cases};
 use crate::observation::Observation;
 use crate::prng::Prng;
 use crate::table::{FIELDS, fields};
@@ -31,6 +31,7 @@ pub fn cases(seed: u64) -> Vec<Case> {
     cases.extend(drawn(&mut prng));
     cases.extend(same_cases::cases());
     cases.extend(trip_cases::cases(&mut prng));
+    cases.extend(sum_cases::cases());
     let mut seen = BTreeSet::new();
     cases.retain(|case| record::fits(case) && seen.insert(record::input(case)));
     cases
@@ -52,7 +53,7 @@ fn unpack(report: &[u8], values: usize, tail: usize) -> Case {
 }
 
 /// An observation as pack takes it, values of missing fields absurd.
-fn pack(observation: &Observation, room: usize) -> Case {
+pub fn pack(observation: &Observation, room: usize) -> Case {
     let (values, word) = values_and_word(observation, i64::MIN);
     Case::Pack {
         values,
@@ -63,13 +64,13 @@ fn pack(observation: &Observation, room: usize) -> Case {
     }
 }
 
-fn judge(report: &[u8]) -> Case {
+pub fn judge(report: &[u8]) -> Case {
     Case::Judge {
         report: report.to_vec(),
     }
 }
 
-fn lister(report: &[u8]) -> Case {
+pub fn lister(report: &[u8]) -> Case {
     Case::Lister {
         input: report.to_vec(),
     }
@@ -144,7 +145,7 @@ fn sound_reports() -> Vec<Case> {
 
 /// A refused report: at times with outputs that would do, so that it is seen
 /// that nothing is written.
-fn refused(report: &[u8], outputs: bool) -> [Case; 3] {
+pub fn refused(report: &[u8], outputs: bool) -> [Case; 3] {
     let (values, tail) = if outputs { (FIELDS, 60) } else { (2, 3) };
     [judge(report), lister(report), unpack(report, values, tail)]
 }
