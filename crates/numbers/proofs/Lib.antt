@@ -1,1 +1,3 @@
 pub mod Complement
+pub mod Examples
+pub mod Folding

@@ -3,6 +3,7 @@
 ghost use mathlib.Core.Path.{_≡_};
 ghost use Prim.Native.Nat.{_%_, _<_, max};
 ghost use Rattle.format.specs.Order.{between};
+ghost use Rattle.numbers.specs.Folding.{foldOnce, folding};
 ghost use Rattle.numbers.specs.Words.{signed, unsigned};
 
 // A byte as a number.
@@ -32,11 +33,46 @@ pub fn within(low: usize, high: usize, x: usize) -> bool
     x <= high
 }
 
-// What is left of a number divided by 255.
-pub fn remainder(n: u64) -> u64
+// One turn of the folding.
+fn fold(n: u64) -> u64
+    ensures { λ r. ⌜ r ≡ foldOnce n ⌝ }
+{
+    n % 256 + n / 256
+}
+
+// The remainder by 255 of a number of 20 bits. Two turns leave at most 271, and from 255 on the folding takes 255 away.
+fn fold_short(n: u64) -> u64
+    requires { ⌜ n < 1048576 ⌝ }
     ensures { λ r. ⌜ (r ≡ n % 255) × (r < 255) ⌝ }
 {
-    n % 255
+    let mut x = n;
+    let mut turns = 0u64;
+    while turns < 2 {
+        x = fold(x);
+        turns += 1;
+    }
+    if x < 255 {
+        return x;
+    }
+    x - 255
+}
+
+// The remainder by 255, by folding. 2^32 and 2^16 have the remainder 1 as 256 does, so a number may be folded there first.
+pub fn remainder(n: u64) -> u64
+    ensures { λ r. ⌜ (r ≡ n % 255) × (r < 255) × (r ≡ folding n) ⌝ }
+{
+    let x = n % 4294967296 + n / 4294967296;
+    fold_short(x % 65536 + x / 65536)
+}
+
+// The same, quicker where the number has 20 bits.
+pub fn short_remainder(n: u64) -> u64
+    ensures { λ r. ⌜ (r ≡ n % 255) × (r < 255) × (r ≡ folding n) ⌝ }
+{
+    if n < 1048576 {
+        return fold_short(n);
+    }
+    remainder(n)
 }
 
 pub fn signed_of(n: u64) -> i64

@@ -8,8 +8,8 @@ use borrow.Author.Needs.{needs}
 use Rattle.card.proofs.set_checksum.Statement.{statement}
 use Rattle.card.proofs.set_checksum.Tie as tie
 
-remainder-requires : tie.Need-remainder-requires
-remainder-requires c κs = search needs
+short-remainder-requires : tie.Need-short-remainder-requires
+short-remainder-requires c κs = search needs
 
 write-requires : tie.Need-write-requires
 write-requires c κs = search needs
@@ -26,7 +26,7 @@ returns c =
     (st .pre)
     (c .before .before .write .ensures .1)
     (omega arith)
-    (rw (c .before .before .before .remainder .ensures .0) at (c .before .before .write .ensures .0))
+    (rw (c .before .before .before .short-remainder .ensures .0) at (c .before .before .write .ensures .0))
 
 pub set-checksum-spec : {M : Type 1} → statement M
-set-checksum-spec = tie.close (tie.spec remainder-requires write-requires same-length returns)
+set-checksum-spec = tie.close (tie.spec short-remainder-requires write-requires same-length returns)
