@@ -308,7 +308,7 @@ pub fn set_checksum(s: &mut [u8], sum: u64)
     requires { ⌜ 38 ≤ length (now s) ⌝ }
     ensures { λ _. ⌜ Carded (now (s .entry)) (now (s .exit)) (set (numbersOf (now (s .entry))) 47 (sum % 255)) ⌝ }
 {
-    bits::write(s, 282, 14, numbers::short_remainder(sum));
+    bits::write(s, 282, 14, numbers::short_remainder(sum) as u64);
 }
 
 pub fn set_count(s: &mut [u8], n: usize)

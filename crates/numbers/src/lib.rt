@@ -65,14 +65,14 @@ pub fn remainder(n: u64) -> u64
     fold_short(x % 65536 + x / 65536)
 }
 
-// The same, quicker where the number has 20 bits.
-pub fn short_remainder(n: u64) -> u64
+// The same, quicker where the number has 20 bits, and as a byte.
+pub fn short_remainder(n: u64) -> u8
     ensures { λ r. ⌜ (r ≡ n % 255) × (r < 255) × (r ≡ folding n) ⌝ }
 {
     if n < 1048576 {
-        return fold_short(n);
+        return fold_short(n) as u8;
     }
-    remainder(n)
+    remainder(n) as u8
 }
 
 pub fn signed_of(n: u64) -> i64

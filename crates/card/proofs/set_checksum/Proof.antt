@@ -11,6 +11,9 @@ use Rattle.card.proofs.set_checksum.Tie as tie
 short-remainder-requires : tie.Need-short-remainder-requires
 short-remainder-requires c κs = search needs
 
+cast-write : tie.Need-cast-write
+cast-write c = search needs
+
 write-requires : tie.Need-write-requires
 write-requires c κs = search needs
 
@@ -29,4 +32,4 @@ returns c =
     (rw (c .before .before .before .short-remainder .ensures .0) at (c .before .before .write .ensures .0))
 
 pub set-checksum-spec : {M : Type 1} → statement M
-set-checksum-spec = tie.close (tie.spec short-remainder-requires write-requires same-length returns)
+set-checksum-spec = tie.close (tie.spec short-remainder-requires cast-write write-requires same-length returns)
