@@ -1,6 +1,6 @@
 -- Examples of the folding, FORMAT 2.4 and 12 and the ends of 64 bits, as one list that one computed fact checks.
 -- Assumes nothing.
-use Prim.Native.Nat.{ℕ, _+_, _-_, _*_, _^_}
+use Prim.Native.Nat.{ℕ, _+_, _-_, _^_}
 use mathlib.Core.List.{List, [], _∷_, map}
 use lib.Dec.{T}
 use Rattle.format.proofs.Test.{Example, same, every}

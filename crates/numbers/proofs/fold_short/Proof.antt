@@ -33,7 +33,7 @@ loop-again c =
     let e = c .fold .ensures in
     rw add-one (
       omega arith,
-      rw e (bound-falls (l .turns) (l .x) (c .before .loop-test .taken) (l .inv .1)),
+      rw e (bound-falls (l .turns) (l .x) (omega (arith, c .before .loop-test .taken)) (l .inv .1)),
       ap (λ (x : ℕ). x % 255) e ∙ fold-same (l .x) ∙ l .inv .2,
     )
 
