@@ -20,7 +20,7 @@ pub fn list(prng: &mut Prng, observation: &Observation, n: usize) -> Vec<Call> {
     let mut calls = Vec::new();
     for _ in 0..prng.pick(&[1, 2, 3, 5, 8, 13, 21]) {
         let call = match calls.last() {
-            Some(last) if prng.one_in(3) => follow(prng, last),
+            Some(last) if prng.one_in(3) => follow(prng, last, &observation, n),
             _ => call(prng, &observation, n),
         };
         observation = step::step(&observation, n, &call).0;
@@ -30,7 +30,7 @@ pub fn list(prng: &mut Prng, observation: &Observation, n: usize) -> Vec<Call> {
 }
 
 /// A call on what the last call was on.
-fn follow(prng: &mut Prng, last: &Call) -> Call {
+fn follow(prng: &mut Prng, last: &Call, observation: &Observation, n: usize) -> Call {
     let output = prng.bytes(255);
     match *last {
         Call::SetField { field, .. } | Call::ClearField { field } => Call::ReadField { field },
@@ -41,15 +41,26 @@ fn follow(prng: &mut Prng, last: &Call) -> Call {
         Call::Put { id, .. } | Call::Drop { id } => Call::Fetch { id, output },
         Call::Fetch { id, .. } => Call::Drop { id },
         Call::PutText { .. } => Call::FetchText { output },
-        Call::FetchText { ref output } => Call::PutText {
-            text: output.clone(),
+        Call::FetchText { .. } => Call::PutText {
+            text: any_bytes(prng, observation, n),
         },
     }
+}
+
+/// A text of bytes of which each is as likely as the others; most often it fits.
+fn any_bytes(prng: &mut Prng, observation: &Observation, n: usize) -> Vec<u8> {
+    let length = 1 + prng.below(1 + text_room(observation, n) / 3);
+    prng.bytes(length)
 }
 
 /// A call that fits an observation or just does not.
 pub fn call(prng: &mut Prng, observation: &Observation, n: usize) -> Call {
     let mut call = random_call(prng, observation, n);
+    if let Call::PutText { text } = &mut call
+        && prng.one_in(2)
+    {
+        *text = any_bytes(prng, observation, n);
+    }
     if prng.one_in(4) {
         vary(prng, &mut call, observation, n);
     }
@@ -167,16 +178,21 @@ fn edge_text(prng: &mut Prng, observation: &Observation, n: usize) -> Vec<u8> {
 
 /// A text whose nibbles just fill the buffer, or are one or two off.
 fn filling_text(prng: &mut Prng, observation: &Observation, n: usize) -> Vec<u8> {
+    let room = text_room(observation, n);
+    text_of_length(prng, room - 2, room + 2)
+}
+
+/// The nibbles that a text can have in a buffer, and at least 3.
+fn text_room(observation: &Observation, n: usize) -> usize {
     let others = observation
         .attachments
         .iter()
         .filter(|other| other.id != text::ID);
     let taken = CARD_NIBBLES + others.map(Attachment::size).sum::<usize>() + 3;
-    let room = (2 * n).saturating_sub(taken).clamp(3, 256);
-    text_of_length(prng, room - 2, room + 2)
+    (2 * n).saturating_sub(taken).clamp(3, 256)
 }
 
-/// A text of so many nibbles.
+/// A text of so many nibbles, filled up with bytes of all code lengths.
 fn text_of_length(prng: &mut Prng, least: usize, most: usize) -> Vec<u8> {
     let wanted = least + prng.below(most - least + 1);
     let mut text = random_text(prng, wanted / 4);
@@ -188,8 +204,24 @@ fn text_of_length(prng: &mut Prng, least: usize, most: usize) -> Vec<u8> {
         text.push(b'0');
         missing = wanted.saturating_sub(text::write(&text).len());
     }
-    for _ in 0..missing {
-        text.push(b'0' + prng.below(10) as u8);
+    while missing > 0 {
+        let nibbles = 1 + prng.below(missing.min(3));
+        text.push(byte_of_length(prng, nibbles));
+        missing -= nibbles;
     }
     text
+}
+
+/// A byte that is no space, of one, two or three nibbles.
+fn byte_of_length(prng: &mut Prng, nibbles: usize) -> u8 {
+    loop {
+        let byte = match prng.below(3) {
+            0 => prng.pick(b"0123456789"),
+            1 => prng.pick(b"{ABCDEFGHI&+}JKLMNOPQR-/STUVWXYZ"),
+            _ => prng.next_u64() as u8,
+        };
+        if text::write(&[byte]).len() == nibbles {
+            return byte;
+        }
+    }
 }

@@ -8,6 +8,7 @@ use reference::judge::judge;
 use reference::observation::Observation;
 use reference::prng::Prng;
 use reference::table::{REQUIRED, fields};
+use reference::text;
 
 use crate::trial::Trial;
 use crate::{calls, reports, scripts};
@@ -15,13 +16,14 @@ use crate::{calls, reports, scripts};
 /// A list is followed by its script.
 pub fn trials(seed: u64, case: u64) -> Vec<Trial> {
     let mut prng = prng_of(seed, case);
-    match prng.below(24) {
+    match prng.below(25) {
         0..3 => vec![Trial::Whole(judge_case(&mut prng))],
         3..6 => vec![Trial::Whole(unpack_case(&mut prng))],
         6..10 => vec![Trial::Whole(pack_case(&mut prng))],
         10 => vec![Trial::Whole(fresh_case(&mut prng))],
         11..21 => vec![call_trial(&mut prng)],
-        _ => list_trials(&mut prng),
+        21..24 => list_trials(&mut prng),
+        _ => vec![Trial::Whole(characters_case(&mut prng))],
     }
 }
 
@@ -135,6 +137,22 @@ fn fresh_case(prng: &mut Prng) -> Case {
     Case::Fresh {
         required,
         output: prng.bytes(room),
+    }
+}
+
+/// An array that holds one number, the table, the table but for an entry, or anything.
+fn characters_case(prng: &mut Prng) -> Case {
+    let any = prng.next_u64() as u16;
+    let mut table = match prng.below(4) {
+        0 => [prng.pick(&[0, u16::MAX, any]); 256],
+        1 => text::table(),
+        _ => std::array::from_fn(|_| prng.next_u64() as u16),
+    };
+    if prng.one_in(2) {
+        table[prng.below(256)] = any;
+    }
+    Case::Characters {
+        table: Box::new(table),
     }
 }
 

@@ -6,8 +6,9 @@ use reference::gate::script;
 use reference::judge::judge;
 use reference::line::hex;
 use reference::number::Number;
-use reference::outside::{fresh, pack, unpack};
+use reference::outside::{characters, fresh, pack, unpack};
 use reference::refusal::Refusal;
+use reference::text::Table;
 
 use crate::fence::{MARKED, state_of};
 use crate::library::{Answer, Performed};
@@ -16,6 +17,7 @@ use crate::library::{Answer, Performed};
 pub enum Said {
     Answer(Answer),
     Performed(Performed),
+    Nothing,
 }
 
 /// An answer, and every buffer after the call with the marked bytes before it.
@@ -63,7 +65,7 @@ fn states(buffers: &[(&'static str, &[u8])]) -> Vec<(&'static str, Vec<u8>)> {
     buffers.iter().map(state).collect()
 }
 
-/// Judge, fresh, unpack or pack.
+/// Judge, fresh, unpack, pack or characters.
 pub fn whole(case: &Case) -> Outcome {
     match case {
         Case::Judge { report } => outcome(
@@ -95,11 +97,19 @@ pub fn whole(case: &Case) -> Outcome {
                 [("values", &values), ("tail", tail), ("output", &output)];
             outcome(result, &buffers)
         }
+        Case::Characters { table } => {
+            let mut table = table.clone();
+            characters(&mut table);
+            Outcome {
+                said: Said::Nothing,
+                buffers: states(&[("table", &bytes_of_entries(&table))]),
+            }
+        }
         Case::Lister { .. }
         | Case::Same { .. }
         | Case::Restore { .. }
         | Case::Recover { .. }
-        | Case::Calls { .. } => unreachable!("neither judge, fresh, unpack nor pack"),
+        | Case::Calls { .. } => unreachable!("not a call of the library"),
     }
 }
 
@@ -168,12 +178,16 @@ pub fn bytes_of_numbers(numbers: &[u64]) -> Vec<u8> {
     bytes.collect()
 }
 
+pub fn bytes_of_entries(table: &Table) -> Vec<u8> {
+    table.iter().flat_map(|entry| entry.to_ne_bytes()).collect()
+}
+
 impl Outcome {
     /// The refusal, 0 where accepted.
     pub fn refusal(&self) -> usize {
         match self.said {
             Said::Answer(answer) => answer.refusal as usize,
-            Said::Performed(_) => 0,
+            Said::Performed(_) | Said::Nothing => 0,
         }
     }
 

@@ -3,7 +3,9 @@
 use reference::call::Call;
 use reference::cases::Case;
 
-use crate::expected::{NUMBERS, Outcome, Said, bytes_of_numbers, bytes_of_values};
+use crate::expected::{
+    NUMBERS, Outcome, Said, bytes_of_entries, bytes_of_numbers, bytes_of_values,
+};
 use crate::fence::Fenced;
 use crate::library::{Answer, Library};
 
@@ -22,6 +24,7 @@ pub struct Harness {
     packed: Fenced,
     values: Fenced,
     numbers: Fenced,
+    table: Fenced,
     script: Fenced,
     log: Fenced,
 }
@@ -38,12 +41,13 @@ impl Harness {
             packed: Fenced::read_only(SHORT),
             values: Fenced::writable(SHORT),
             numbers: Fenced::writable(SHORT),
+            table: Fenced::writable(SHORT),
             script: Fenced::read_only(LONG),
             log: Fenced::writable(LONG),
         }
     }
 
-    /// Judge, fresh, unpack or pack.
+    /// Judge, fresh, unpack, pack or characters.
     pub fn whole(&mut self, case: &Case) -> Outcome {
         match case {
             Case::Judge { report } => {
@@ -71,11 +75,19 @@ impl Harness {
                 tail,
                 output,
             } => self.pack(values, *word, *rptin, tail, output),
+            Case::Characters { table } => {
+                let at = self.table.hold(&bytes_of_entries(table));
+                unsafe { (self.library.character_table)(at.cast()) };
+                Outcome {
+                    said: Said::Nothing,
+                    buffers: states(&[("table", &self.table)]),
+                }
+            }
             Case::Lister { .. }
             | Case::Same { .. }
             | Case::Restore { .. }
             | Case::Recover { .. }
-            | Case::Calls { .. } => unreachable!("neither judge, fresh, unpack nor pack"),
+            | Case::Calls { .. } => unreachable!("not a call of the library"),
         }
     }
 

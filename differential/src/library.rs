@@ -1,4 +1,4 @@
-//! The sixteen calls as C sees them.
+//! The seventeen calls as C sees them.
 
 /// The refusal and its place; the labels of the numbers that are given, the first
 /// one's in the lowest byte; the numbers.
@@ -53,4 +53,6 @@ pub struct Library {
     pub put_text: unsafe extern "C" fn(*mut u8, usize, *const u8, usize) -> Answer,
     pub fetch_text: unsafe extern "C" fn(*const u8, usize, *mut u8, usize) -> Answer,
     pub replay: unsafe extern "C" fn(*mut u8, usize, *const u8, usize, *mut u8, usize) -> Performed,
+    /// The pointer is to 256 entries.
+    pub character_table: unsafe extern "C" fn(*mut u16),
 }

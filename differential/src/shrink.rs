@@ -5,6 +5,7 @@ use reference::cases::Case;
 use reference::gate::log::record_size;
 use reference::gate::script::first_call;
 use reference::judge::judge;
+use reference::text::Table;
 
 use crate::compare::{Difference, compare};
 use crate::harness::Harness;
@@ -98,7 +99,33 @@ fn smaller_cases(case: &Case) -> Vec<Case> {
             });
         }
     }
+    if let Case::Characters { table } = case {
+        for emptier in emptier(table) {
+            with(&|case| {
+                if let Case::Characters { table } = case {
+                    **table = emptier;
+                }
+            });
+        }
+    }
     smaller
+}
+
+/// Arrays with fewer entries other than 0: none, half as many, and one less.
+fn emptier(table: &Table) -> Vec<Table> {
+    let held: Vec<usize> = (0..table.len()).filter(|&at| table[at] != 0).collect();
+    let (front, back) = held.split_at(held.len() / 2);
+    let mut emptied = vec![&held[..], front, back];
+    emptied.extend(held.chunks(1));
+    emptied.retain(|places| !places.is_empty());
+    let without = |places: &[usize]| {
+        let mut table = *table;
+        for &place in places {
+            table[place] = 0;
+        }
+        table
+    };
+    emptied.into_iter().map(without).collect()
 }
 
 fn smaller_calls(buffer: &[u8], call: &Call) -> Vec<Trial> {

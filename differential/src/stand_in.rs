@@ -1,4 +1,4 @@
-//! The independent implementation behind the sixteen calls, in place of a library.
+//! The independent implementation behind the seventeen calls, in place of a library.
 
 use std::slice::{from_raw_parts, from_raw_parts_mut};
 
@@ -28,6 +28,7 @@ pub const STAND_IN: Library = Library {
     put_text,
     fetch_text,
     replay,
+    character_table,
 };
 
 unsafe fn input<'a, T>(at: *const T, n: usize) -> &'a [T] {
@@ -240,4 +241,8 @@ pub unsafe extern "C" fn replay(
         taken: ran.taken as u64,
         written: ran.log.len() as u64,
     }
+}
+
+pub unsafe extern "C" fn character_table(table: *mut u16) {
+    outside::characters(unsafe { &mut *table.cast() });
 }

@@ -1,5 +1,7 @@
-//! How often each call came to each refusal, and to a CK at an edge.
+//! How often each call came to each refusal and to a CK at an edge, and how often
+//! each byte was put.
 
+use std::collections::BTreeMap;
 use std::fmt;
 
 use reference::bits::bits_of;
@@ -9,6 +11,10 @@ use reference::cases::Case;
 
 use crate::expected::{Outcome, Said};
 use crate::fence::MARKED;
+
+/// A run of so many calls has to see every refusal that a call can meet, and every
+/// byte put.
+pub const DEFAULT_CALLS: u64 = 2_000_000;
 
 const REFUSALS: usize = 14;
 const REPLAY: usize = 15;
@@ -20,7 +26,7 @@ const WRITERS: [usize; 4] = [1, 3, 5, 6];
 const EDGES: [u64; 3] = [254, 0, 1];
 
 /// Each call with the refusals that it can meet.
-const CALLS: [(&str, &[usize]); 16] = [
+const CALLS: [(&str, &[usize]); 17] = [
     ("judge", &[1, 2, 3, 4, 5, 6, 7]),
     ("fresh", &[9, 13]),
     ("unpack", &[1, 2, 3, 4, 5, 6, 7, 13]),
@@ -37,6 +43,7 @@ const CALLS: [(&str, &[usize]); 16] = [
     ("put text", &[1, 2, 3, 4, 5, 6, 7, 12, 13]),
     ("fetch text", &[1, 2, 3, 4, 5, 6, 7, 11, 13]),
     ("replay", &[]),
+    ("characters", &[]),
 ];
 
 #[derive(Clone, Debug, Default)]
@@ -45,6 +52,8 @@ pub struct Tally {
     counts: [[u64; REFUSALS + 1]; CALLS.len()],
     /// By writer and edge.
     checksums: [[u64; EDGES.len()]; WRITERS.len()],
+    /// Bytes that an accepted put text has written; trailing spaces are not.
+    put: BTreeMap<u8, u64>,
     performed: u64,
     ended_early: u64,
 }
@@ -56,11 +65,12 @@ impl Tally {
             Case::Fresh { .. } => 1,
             Case::Unpack { .. } => 2,
             Case::Pack { .. } => 3,
+            Case::Characters { .. } => 16,
             Case::Lister { .. }
             | Case::Same { .. }
             | Case::Restore { .. }
             | Case::Recover { .. }
-            | Case::Calls { .. } => unreachable!("neither judge, fresh, unpack nor pack"),
+            | Case::Calls { .. } => unreachable!("not a call of the library"),
         };
         self.add(row, outcome);
     }
@@ -80,6 +90,16 @@ impl Tally {
             Call::FetchText { .. } => 14,
         };
         self.add(row, outcome);
+        if let (Call::PutText { text }, 0) = (call, outcome.refusal()) {
+            self.add_bytes(text);
+        }
+    }
+
+    fn add_bytes(&mut self, text: &[u8]) {
+        let last = text.iter().rposition(|&byte| byte != b' ');
+        for &byte in last.map_or(&[][..], |last| &text[..=last]) {
+            *self.put.entry(byte).or_default() += 1;
+        }
     }
 
     pub fn add_script(&mut self, outcome: &Outcome, script: &[u8]) {
@@ -110,15 +130,24 @@ impl Tally {
         self.counts.iter().flatten().sum()
     }
 
-    /// The pairs of call and refusal (0 is accepted) that were never seen.
-    pub fn unseen(&self) -> Vec<(&'static str, usize)> {
+    /// The calls that were never accepted or never came to a refusal that they can
+    /// meet, and the bytes that were never put.
+    pub fn unseen(&self) -> Vec<String> {
         let mut unseen = Vec::new();
         for ((name, refusals), counts) in CALLS.iter().zip(&self.counts) {
-            let pairs = [0].iter().chain(*refusals);
-            let missing = pairs.filter(|&&refusal| counts[refusal] == 0);
-            unseen.extend(missing.map(|&refusal| (*name, refusal)));
+            let numbers = [0].iter().chain(*refusals);
+            for refusal in numbers.filter(|&&refusal| counts[refusal] == 0) {
+                unseen.push(format!("{name}, refusal {refusal} (0 is accepted)"));
+            }
         }
+        let bytes = (0..=255).filter(|byte| !self.put.contains_key(byte));
+        unseen.extend(bytes.map(|byte| format!("put text, byte {byte}")));
         unseen
+    }
+
+    /// Whether a run for so many calls has seen what it has to.
+    pub fn passes(&self, calls: u64) -> bool {
+        calls < DEFAULT_CALLS || self.unseen().is_empty()
     }
 }
 
@@ -155,6 +184,9 @@ impl fmt::Display for Tally {
         for (&row, [below, at, above]) in WRITERS.iter().zip(&self.checksums) {
             writeln!(f, "{:<12}{below:>9}{at:>9}{above:>9}", CALLS[row].0)?;
         }
+        let least = self.put.values().min().unwrap_or(&0);
+        let bytes = self.put.len();
+        writeln!(f, "bytes put: {bytes} of 256, each {least} times or more")?;
         writeln!(
             f,
             "scripts: {} calls performed, {} ended before the script's end",

@@ -9,17 +9,18 @@ use reference::flags;
 use reference::gate::log::{FRONT, HEAD};
 use reference::gate::script::first_call;
 use reference::gate::sizes::{observation_of_sum, required_of_sum};
+use reference::text::Table;
 
 use crate::compare::{Difference, compare};
 use crate::draw::trials;
 use crate::expected::{self, Said};
 use crate::fault;
-use crate::fence::{Fenced, state_of};
+use crate::fence::{Fenced, MARKED, state_of};
 use crate::harness::Harness;
 use crate::library::{Answer, Library, Performed};
 use crate::shrink::shrink;
 use crate::stand_in::{self, STAND_IN};
-use crate::tally::Tally;
+use crate::tally::{DEFAULT_CALLS, Tally};
 use crate::trial::Trial;
 
 const SEED: u64 = 7;
@@ -53,7 +54,7 @@ fn differing(found: &Difference) -> Vec<&'static str> {
 fn a_right_library_passes_and_meets_every_refusal() {
     let mut tally = Tally::default();
     assert!(first_difference(STAND_IN, &mut tally).is_none());
-    assert_eq!(tally.unseen(), []);
+    assert_eq!(tally.unseen(), [""; 0]);
 }
 
 /// The sum is 255 after fresh and 254 after pack, then 255, 256 and 254; the last
@@ -93,6 +94,77 @@ fn checksums_at_an_edge_are_counted() {
     ] {
         assert!(shown.lines().any(|shown| shown == line), "{shown}");
     }
+}
+
+/// Puts a text into a report that takes every text.
+fn put_text(tally: &mut Tally, text: &[u8]) {
+    let mut buffer = observation_with(&[]).packing();
+    buffer.resize(200, 0);
+    let text = text.to_vec();
+    let call = Call::PutText { text };
+    let trial = Trial::Call { buffer, call };
+    assert!(compare(&mut Harness::new(STAND_IN), tally, &trial).is_none());
+}
+
+/// The bytes that were never put, as the tally names them.
+fn never_put(tally: &Tally) -> Vec<String> {
+    let mut unseen = tally.unseen();
+    unseen.retain(|name| name.starts_with("put text, byte "));
+    unseen
+}
+
+#[test]
+fn every_byte_has_to_be_put() {
+    let mut tally = Tally::default();
+    assert_eq!(never_put(&tally).len(), 256);
+    let bytes: Vec<u8> = (0..=255).collect();
+    for part in bytes.chunks(64) {
+        let part: Vec<u8> = part.iter().copied().filter(|&byte| byte != 7).collect();
+        put_text(&mut tally, &part);
+    }
+    assert_eq!(never_put(&tally), ["put text, byte 7"]);
+    // Refused: 86 times three nibbles are too many.
+    put_text(&mut tally, &[7; 86]);
+    assert_eq!(never_put(&tally), ["put text, byte 7"]);
+    put_text(&mut tally, &[7]);
+    assert_eq!(never_put(&tally), [""; 0]);
+}
+
+#[test]
+fn a_trailing_space_is_not_put() {
+    let mut tally = Tally::default();
+    let space = "put text, byte 32".to_string();
+    put_text(&mut tally, b"A  ");
+    put_text(&mut tally, b"   ");
+    assert!(never_put(&tally).contains(&space));
+    put_text(&mut tally, b"A B");
+    assert!(!never_put(&tally).contains(&space));
+}
+
+/// A whole run fails where a byte was never put, and a shorter one does not.
+#[test]
+fn a_byte_never_put_fails_a_whole_run() {
+    let mut whole = Tally::default();
+    assert!(first_difference(STAND_IN, &mut whole).is_none());
+    assert!(whole.passes(DEFAULT_CALLS));
+    let mut without = Tally::default();
+    let mut harness = Harness::new(STAND_IN);
+    let puts_a_7 = |call: &Call| matches!(call, Call::PutText { text } if text.contains(&7));
+    for case in 0..6000 {
+        for trial in trials(SEED, case) {
+            let left_out = match &trial {
+                Trial::Call { call, .. } => puts_a_7(call),
+                Trial::List { calls, .. } => calls.iter().any(puts_a_7),
+                _ => false,
+            };
+            if !left_out {
+                assert!(compare(&mut harness, &mut without, &trial).is_none());
+            }
+        }
+    }
+    assert_eq!(without.unseen(), ["put text, byte 7"]);
+    assert!(!without.passes(DEFAULT_CALLS));
+    assert!(without.passes(DEFAULT_CALLS - 1));
 }
 
 #[test]
@@ -184,6 +256,157 @@ fn answers_have_the_header_s_form() {
         let got = harness.call(&call, &report).said;
         assert_eq!(got, Said::Answer(answer), "{call:?}");
     }
+}
+
+/// Entries worked out by hand, in the machine's order of bytes.
+#[test]
+fn a_table_has_the_header_s_form() {
+    let case = characters([0x5AA5; 256]);
+    let mut harness = Harness::new(STAND_IN);
+    for outcome in [expected::whole(&case), harness.whole(&case)] {
+        assert_eq!(outcome.said, Said::Nothing);
+        let (name, state) = &outcome.buffers[0];
+        let entries = &state[MARKED..];
+        assert_eq!((*name, entries.len()), ("table", 512));
+        for (byte, entry) in [
+            (0, 0x3F00_u16),
+            (b' ', 0x100A),
+            (b'0', 0x1000),
+            (b'A', 0x20C1),
+            (b'a', 0x3F61),
+            (255, 0x3FFF),
+        ] {
+            let at = 2 * usize::from(byte);
+            assert_eq!(entries[at..at + 2], entry.to_ne_bytes(), "{byte}");
+        }
+    }
+}
+
+fn characters(table: Table) -> Case {
+    Case::Characters {
+        table: Box::new(table),
+    }
+}
+
+#[test]
+fn characters_are_counted_and_never_refused() {
+    let mut tally = Tally::default();
+    let mut harness = Harness::new(STAND_IN);
+    for entry in [0, 1, u16::MAX] {
+        let trial = Trial::Whole(characters([entry; 256]));
+        assert!(compare(&mut harness, &mut tally, &trial).is_none());
+    }
+    let line = format!(
+        "{:<12}{:>9}{:>9}{}",
+        "characters",
+        3,
+        3,
+        "       -".repeat(14)
+    );
+    let shown = tally.to_string();
+    assert!(shown.lines().any(|shown| shown == line), "{shown}");
+}
+
+#[test]
+fn a_wrong_entry_is_found() {
+    unsafe extern "C" fn wrong(table: *mut u16) {
+        unsafe {
+            stand_in::character_table(table);
+            *table.add(0xF7) = 0x3FF8;
+        }
+    }
+    let found = found(Library {
+        character_table: wrong,
+        ..STAND_IN
+    });
+    assert_eq!(differing(&found), ["table"]);
+    assert_eq!(found.trial, Trial::Whole(characters([0; 256])));
+}
+
+#[test]
+fn an_entry_left_unwritten_is_found() {
+    unsafe extern "C" fn wrong(table: *mut u16) {
+        unsafe {
+            let last = *table.add(255);
+            stand_in::character_table(table);
+            *table.add(255) = last;
+        }
+    }
+    let found = found(Library {
+        character_table: wrong,
+        ..STAND_IN
+    });
+    assert_eq!(differing(&found), ["table"]);
+    assert_eq!(found.trial, Trial::Whole(characters([0; 256])));
+}
+
+/// An entry with a bit that stood there; the array is made smaller to that entry.
+#[test]
+fn an_entry_that_is_not_written_whole_is_found() {
+    unsafe extern "C" fn wrong(table: *mut u16) {
+        unsafe {
+            let former = *table.add(b'&'.into());
+            stand_in::character_table(table);
+            *table.add(b'&'.into()) |= former & 0x8000;
+        }
+    }
+    let found = found(Library {
+        character_table: wrong,
+        ..STAND_IN
+    });
+    assert_eq!(differing(&found), ["table"]);
+    let Trial::Whole(Case::Characters { table }) = found.trial else {
+        panic!("no table: {}", found.trial);
+    };
+    let held = table.iter().enumerate().filter(|(_, entry)| **entry != 0);
+    assert_eq!(held.map(|(at, _)| at).collect::<Vec<_>>(), [b'&'.into()]);
+}
+
+#[test]
+fn an_entry_before_the_table_is_found() {
+    unsafe extern "C" fn wrong(table: *mut u16) {
+        unsafe {
+            stand_in::character_table(table);
+            *table.sub(1) = 0;
+        }
+    }
+    let found = found(Library {
+        character_table: wrong,
+        ..STAND_IN
+    });
+    assert_eq!(differing(&found), ["table"]);
+    assert_eq!(found.trial, Trial::Whole(characters([0; 256])));
+    let (expected, got) = (&found.expected.buffers[0].1, &found.got.buffers[0].1);
+    assert_eq!(expected[MARKED..], got[MARKED..]);
+    let shown = found.got.against(&found.expected);
+    assert!(shown.contains("before table"), "{shown}");
+}
+
+/// Every byte is drawn, here one that has no short code.
+#[test]
+fn a_byte_that_is_put_wrong_is_found() {
+    unsafe extern "C" fn wrong(
+        report: *mut u8,
+        n: usize,
+        text: *const u8,
+        text_n: usize,
+    ) -> Answer {
+        let mut bytes = vec![0; text_n];
+        for (index, byte) in bytes.iter_mut().enumerate() {
+            let given = unsafe { *text.add(index) };
+            *byte = if given == 0xF7 { 0xF6 } else { given };
+        }
+        unsafe { stand_in::put_text(report, n, bytes.as_ptr(), text_n) }
+    }
+    let found = found(Library {
+        put_text: wrong,
+        ..STAND_IN
+    });
+    assert_eq!(differing(&found), ["report"]);
+    let Trial::Call { call, .. } = found.trial else {
+        panic!("no call: {}", found.trial);
+    };
+    assert!(matches!(call, Call::PutText { text } if text.ends_with(&[0xF7])));
 }
 
 #[test]
@@ -469,6 +692,7 @@ fn fences_stop_a_call() {
     assert_stopped("write_past_a_buffer");
     assert_stopped("write_to_an_input");
     assert_stopped("read_of_an_empty_buffer");
+    assert_stopped("write_past_the_table");
 }
 
 #[test]
@@ -505,4 +729,21 @@ fn read_of_an_empty_buffer() {
     let mut given = Fenced::read_only(100);
     let at = given.hold(&[]);
     std::hint::black_box(unsafe { at.read_volatile() });
+}
+
+#[test]
+#[ignore = "dies; run by fences_stop_a_call"]
+fn write_past_the_table() {
+    unsafe extern "C" fn wrong(table: *mut u16) {
+        unsafe {
+            stand_in::character_table(table);
+            table.add(256).write_volatile(0);
+        }
+    }
+    watched();
+    let mut harness = Harness::new(Library {
+        character_table: wrong,
+        ..STAND_IN
+    });
+    harness.whole(&characters([0; 256]));
 }

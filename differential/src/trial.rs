@@ -8,7 +8,7 @@ use reference::line::{hex, inputs};
 
 #[derive(Clone, Debug, PartialEq, Eq)]
 pub enum Trial {
-    /// Judge, fresh, unpack or pack.
+    /// Judge, fresh, unpack, pack or characters.
     Whole(Case),
     Call {
         buffer: Vec<u8>,

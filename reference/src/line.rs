@@ -61,6 +61,7 @@ pub fn inputs(case: &Case) -> String {
             let (values_out, tail_out) = (numbers(values_out), hex(tail_out));
             format!("recover {values} {word} {rptin} {tail} {output} {values_out} {tail_out}")
         }
+        Case::Characters { table } => format!("characters {}", numbers(&**table)),
         Case::Calls { buffer, calls } => {
             let mut parts = vec![format!("calls {}", hex(buffer))];
             parts.extend(calls.iter().map(call));
@@ -124,6 +125,7 @@ fn outcome(outcome: &Outcome) -> String {
             let (values_out, tail_out) = (numbers(values_out), hex(tail_out));
             format!("{answer} {values_out} {tail_out} {}", hex(output))
         }
+        Outcome::Characters(table) => format!("ok {}", numbers(&**table)),
         Outcome::Calls(answers) => {
             let answers: Vec<String> = answers
                 .iter()
@@ -190,8 +192,8 @@ pub fn hex(bytes: &[u8]) -> String {
     or_dash(bytes.iter().map(|byte| format!("{byte:02X}")).collect())
 }
 
-fn numbers(values: &[i64]) -> String {
-    let values: Vec<String> = values.iter().map(i64::to_string).collect();
+fn numbers<T: ToString>(values: &[T]) -> String {
+    let values: Vec<String> = values.iter().map(T::to_string).collect();
     or_dash(values.join(","))
 }
 

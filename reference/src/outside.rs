@@ -1,4 +1,4 @@
-//! The calls outside the list: fresh, unpack, pack and same.
+//! The calls outside the list: fresh, unpack, pack, same and characters.
 
 use crate::attachment::{Attachment, next_attachment};
 use crate::card::{CARD_BYTES, CARD_NIBBLES};
@@ -6,6 +6,7 @@ use crate::judge::judge;
 use crate::observation::Observation;
 use crate::refusal::{Refusal, refusal};
 use crate::table::{FIELDS, REQUIRED, Scaled, field, fields};
+use crate::text;
 
 /// Writes a report of BOX10, YEAR, MONTH, X and Y to the first 38 bytes.
 pub fn fresh(required: [i64; 5], output: &mut [u8]) -> Result<(), Refusal> {
@@ -94,6 +95,11 @@ pub fn same(first: &[u8], second: &[u8]) -> Result<bool, Refusal> {
     let first_bytes = judge(first)?.bytes;
     let second_bytes = judge(second)?.bytes;
     Ok(first[..first_bytes] == second[..second_bytes])
+}
+
+/// Writes the table of the characters over all that stood there.
+pub fn characters(table: &mut text::Table) {
+    *table = text::table();
 }
 
 fn has_bit(word: u64, bit: usize) -> bool {

@@ -6,6 +6,10 @@ const SPACE: u8 = b' ';
 /// The longest run of spaces that one pair of nibbles takes.
 const FULL_RUN: usize = 18;
 
+/// For each byte 4096 times the number of its nibbles, plus the nibbles read as
+/// one number, the first one highest.
+pub type Table = [u16; 256];
+
 /// The byte of a defined pair that begins with 12 to 14.
 fn byte_of_pair(high: u8, low: u8) -> Option<u8> {
     let byte = match (high, low) {
@@ -51,6 +55,23 @@ fn nibbles_of_run(spaces: usize) -> Vec<u8> {
         rest => nibbles.extend([11, rest as u8 - 3]),
     }
     nibbles
+}
+
+/// The table of the characters. Its space is one alone; runs are the writer's.
+pub fn table() -> Table {
+    let mut table = [0; 256];
+    for (byte, entry) in (0..=255).zip(&mut table) {
+        *entry = match byte {
+            SPACE => entry_of(&nibbles_of_run(1)),
+            _ => entry_of(&nibbles_of_byte(byte)),
+        };
+    }
+    table
+}
+
+fn entry_of(nibbles: &[u8]) -> u16 {
+    let number = |number, &nibble: &u8| 16 * number + u16::from(nibble);
+    4096 * nibbles.len() as u16 + nibbles.iter().fold(0, number)
 }
 
 /// The writer: the nibbles of a text. A run of spaces is written when a byte

@@ -658,6 +658,7 @@ fn whole_files_meet_every_refusal_and_keep_their_limits() {
         ("same", &[0, 1, 2, 3, 4, 5, 6, 7]),
         ("restore", &[0, 1, 2, 3, 4, 5, 6, 7, 13]),
         ("recover", &[0, 1, 5, 6, 8, 9, 10, 13, 14]),
+        ("characters", &[0]),
     ] {
         let met: Vec<u8> = files.tally.refusals(kind);
         assert_eq!(met, refusals, "{kind}");
@@ -731,7 +732,7 @@ fn list_files_meet_every_refusal_and_keep_their_limits() {
     let lists = list_cases::lists(SEED);
     assert!(lists.iter().all(List::fits));
     let files = gate::lists(&lists);
-    assert!(files.stdin.len() + files.stdout.len() < 1_200_000);
+    assert!(files.stdin.len() + files.stdout.len() < 1_300_000);
     let whole = lists.iter().filter(|list| {
         let (_, ran) = list.run();
         ran.calls.len() == CALLS && judge(&list.buffer).is_ok()

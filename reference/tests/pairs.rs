@@ -7,7 +7,7 @@ use reference::refusal::Refusal;
 fn refusal_of(case: &Case) -> Option<Refusal> {
     match case.run() {
         Outcome::Judge(result) => result.err(),
-        Outcome::Lister(_) => None,
+        Outcome::Lister(_) | Outcome::Characters(_) => None,
         Outcome::Fresh { result, .. } => result.err(),
         Outcome::Unpack { result, .. } => result.err(),
         Outcome::Pack { result, .. } => result.err(),

@@ -185,6 +185,9 @@ fn vectors_meet_every_refusal_and_accept() {
         assert!(accepted + listed > 10, "{kind}");
         assert!(accepted + listed < of_kind.count(), "{kind}");
     }
+    let mut of_kind = lines.iter().filter(|line| line.starts_with("characters "));
+    assert!(of_kind.clone().count() > 10);
+    assert!(of_kind.all(|line| line.contains(" -> ok ")));
 }
 
 #[test]

@@ -1,6 +1,7 @@
 //! Cases for comparison: what a call takes, and what comes of it.
 
 pub mod calls;
+pub mod characters;
 pub mod material;
 pub mod outside;
 pub mod pairs;
@@ -10,8 +11,9 @@ pub mod reports;
 use crate::call::{Answer, Call};
 use crate::judge::{Report, judge};
 use crate::lister;
-use crate::outside::{Unpacked, fresh, pack, same, unpack};
+use crate::outside::{Unpacked, characters, fresh, pack, same, unpack};
 use crate::refusal::Refusal;
+use crate::text::Table;
 use crate::trips::{recover, restore};
 
 /// One case, with every buffer as the call gets it.
@@ -58,6 +60,9 @@ pub enum Case {
         values_out: Vec<i64>,
         tail_out: Vec<u8>,
     },
+    Characters {
+        table: Box<Table>,
+    },
     /// A list of calls on one buffer.
     Calls {
         buffer: Vec<u8>,
@@ -96,6 +101,7 @@ pub enum Outcome {
         values_out: Vec<i64>,
         tail_out: Vec<u8>,
     },
+    Characters(Box<Table>),
     /// For each call its answer and the buffer after it.
     Calls(Vec<(Answer, Vec<u8>)>),
 }
@@ -178,6 +184,11 @@ impl Case {
                     tail_out,
                 }
             }
+            Case::Characters { table } => {
+                let mut table = table.clone();
+                characters(&mut table);
+                Outcome::Characters(table)
+            }
             Case::Calls { buffer, calls } => {
                 let mut buffer = buffer.clone();
                 let mut answers = Vec::new();
@@ -199,5 +210,6 @@ pub fn fixed() -> Vec<Case> {
     for pair in pairs::pairs() {
         cases.extend([pair.both, pair.mended]);
     }
+    cases.extend(characters::cases());
     cases
 }

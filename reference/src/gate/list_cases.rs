@@ -14,7 +14,7 @@ use crate::gate::list::{List, MOST_LOG};
 use crate::gate::log::{FRONT, HEAD, MARKED, record_size};
 use crate::gate::script::{entry, run, script};
 use crate::gate::sizes::{LONGEST_TAIL, observation_of_tail};
-use crate::gate::sum_cases;
+use crate::gate::{sum_cases, text_cases};
 use crate::judge::judge;
 use crate::observation::Observation;
 use crate::prng::Prng;
@@ -43,6 +43,7 @@ pub fn lists(seed: u64) -> Vec<List> {
     lists.extend(ended_lists());
     lists.extend(refused_lists());
     lists.extend(sum_cases::lists());
+    lists.extend(text_cases::lists());
     lists
 }
 
@@ -167,20 +168,20 @@ fn put(id: u64, content: &[u8]) -> Call {
     }
 }
 
-fn put_text(text: &[u8]) -> Call {
+pub fn put_text(text: &[u8]) -> Call {
     Call::PutText {
         text: text.to_vec(),
     }
 }
 
-fn fetch(id: u64, room: usize) -> Call {
+pub fn fetch(id: u64, room: usize) -> Call {
     Call::Fetch {
         id,
         output: vec![0xEE; room],
     }
 }
 
-fn fetch_text(room: usize) -> Call {
+pub fn fetch_text(room: usize) -> Call {
     Call::FetchText {
         output: vec![0xEE; room],
     }

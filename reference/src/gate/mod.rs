@@ -11,6 +11,7 @@ pub mod script;
 pub mod sizes;
 pub mod sum_cases;
 pub mod tally;
+pub mod text_cases;
 pub mod trip_cases;
 pub mod whole_cases;
 

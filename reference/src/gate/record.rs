@@ -4,6 +4,7 @@ use crate::cases::{Case, Outcome};
 use crate::gate::head::head;
 use crate::outside::Unpacked;
 use crate::refusal::Refusal;
+use crate::text::Table;
 
 const JUDGE: u8 = 1;
 const LISTER: u8 = 2;
@@ -13,6 +14,7 @@ const PACK: u8 = 5;
 const SAME: u8 = 6;
 const RESTORE: u8 = 7;
 const RECOVER: u8 = 8;
+const CHARACTERS: u8 = 9;
 
 /// The longest report, input or output; the most values; the longest tails.
 pub const MOST_BYTES: usize = 2000;
@@ -71,6 +73,7 @@ pub fn fits(case: &Case) -> bool {
                 && values_out.len() <= MOST_VALUES
                 && tail_out.len() <= MOST_UNPACK_TAIL
         }
+        Case::Characters { .. } => true,
         Case::Calls { .. } => false,
     }
 }
@@ -142,6 +145,7 @@ pub fn input(case: &Case) -> Vec<u8> {
             counted(tail_out),
         ]
         .concat(),
+        Case::Characters { table } => [vec![CHARACTERS], entries(table)].concat(),
         Case::Calls { .. } => unreachable!("a list of calls is no record"),
     }
 }
@@ -189,6 +193,7 @@ pub fn answer(outcome: &Outcome) -> Vec<u8> {
             output.clone(),
         ]
         .concat(),
+        Outcome::Characters(table) => [head(Ok(None)), entries(table)].concat(),
         Outcome::Calls(_) => unreachable!("a list of calls is no record"),
     }
 }
@@ -225,4 +230,8 @@ fn count(count: usize) -> Vec<u8> {
 
 fn numbers(values: &[i64]) -> Vec<u8> {
     values.iter().flat_map(|n| n.to_be_bytes()).collect()
+}
+
+fn entries(table: &Table) -> Vec<u8> {
+    table.iter().flat_map(|n| n.to_be_bytes()).collect()
 }

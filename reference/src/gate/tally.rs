@@ -32,6 +32,7 @@ impl Tally {
             Outcome::Same(result) => ("same", number(result)),
             Outcome::Restore { result, .. } => ("restore", number(result)),
             Outcome::Recover { result, .. } => ("recover", number(result)),
+            Outcome::Characters(_) => ("characters", 0),
             Outcome::Calls(_) => unreachable!("a list of calls is no record"),
         };
         self.add(kind, refusal);

@@ -5,7 +5,7 @@ use std::collections::BTreeSet;
 
 use crate::cases::material::*;
 use crate::cases::outside::{edge_values, tails};
-use crate::cases::{self, Case, pairs, random, reports};
+use crate::cases::{self, Case, characters, pairs, random, reports};
 use crate::gate::sizes::{LONGEST_TAIL, observation_of_sum, observation_of_tail};
 use crate::gate::{record, same_cases, sum_cases, trip_cases};
 use crate::observation::Observation;
@@ -32,6 +32,7 @@ pub fn cases(seed: u64) -> Vec<Case> {
     cases.extend(same_cases::cases());
     cases.extend(trip_cases::cases(&mut prng));
     cases.extend(sum_cases::cases());
+    cases.extend(characters::cases());
     let mut seen = BTreeSet::new();
     cases.retain(|case| record::fits(case) && seen.insert(record::input(case)));
     cases

@@ -1,0 +1,321 @@
+//! The table of the characters: by hand, beside the writer and the reader, and in
+//! the lines, the records and the lists.
+
+use std::collections::BTreeSet;
+
+use reference::call::Call;
+use reference::cases::{Case, Outcome, fixed};
+use reference::gate::{SEED, list_cases, record, text_cases, whole_cases};
+use reference::line::line;
+use reference::outside::characters;
+use reference::prng::Prng;
+use reference::refusal::refusal;
+use reference::text::{Table, read, table, write};
+
+/// The short codes, from the requirements and Table F4-3.
+const SHORT: [(u8, u16); 43] = [
+    (b'0', 0x1000),
+    (b'1', 0x1001),
+    (b'2', 0x1002),
+    (b'3', 0x1003),
+    (b'4', 0x1004),
+    (b'5', 0x1005),
+    (b'6', 0x1006),
+    (b'7', 0x1007),
+    (b'8', 0x1008),
+    (b'9', 0x1009),
+    (b' ', 0x100A),
+    (b'{', 0x20C0),
+    (b'A', 0x20C1),
+    (b'B', 0x20C2),
+    (b'C', 0x20C3),
+    (b'D', 0x20C4),
+    (b'E', 0x20C5),
+    (b'F', 0x20C6),
+    (b'G', 0x20C7),
+    (b'H', 0x20C8),
+    (b'I', 0x20C9),
+    (b'&', 0x20CA),
+    (b'+', 0x20CB),
+    (b'}', 0x20D0),
+    (b'J', 0x20D1),
+    (b'K', 0x20D2),
+    (b'L', 0x20D3),
+    (b'M', 0x20D4),
+    (b'N', 0x20D5),
+    (b'O', 0x20D6),
+    (b'P', 0x20D7),
+    (b'Q', 0x20D8),
+    (b'R', 0x20D9),
+    (b'-', 0x20DA),
+    (b'/', 0x20E1),
+    (b'S', 0x20E2),
+    (b'T', 0x20E3),
+    (b'U', 0x20E4),
+    (b'V', 0x20E5),
+    (b'W', 0x20E6),
+    (b'X', 0x20E7),
+    (b'Y', 0x20E8),
+    (b'Z', 0x20E9),
+];
+
+/// The short codes, and 15 and the byte for all others.
+fn by_hand() -> Table {
+    let mut table = std::array::from_fn(|byte| 0x3F00 + byte as u16);
+    for (byte, entry) in SHORT {
+        table[usize::from(byte)] = entry;
+    }
+    table
+}
+
+/// The nibbles that an entry stands for.
+fn nibbles_of(entry: u16) -> Vec<u8> {
+    let nibble = |place| (entry >> (4 * place) & 15) as u8;
+    (0..entry >> 12).rev().map(nibble).collect()
+}
+
+#[test]
+fn entries_by_hand() {
+    let table = table();
+    for (byte, entry) in SHORT {
+        assert_eq!(table[usize::from(byte)], entry, "{byte}");
+    }
+    for (byte, entry) in [
+        (0, 0x3F00),
+        (b'\n', 0x3F0A),
+        (0x1F, 0x3F1F),
+        (b'!', 0x3F21),
+        (b'%', 0x3F25),
+        (b'\'', 0x3F27),
+        (b'*', 0x3F2A),
+        (b',', 0x3F2C),
+        (b'.', 0x3F2E),
+        (b':', 0x3F3A),
+        (b'@', 0x3F40),
+        (b'[', 0x3F5B),
+        (b'`', 0x3F60),
+        (b'a', 0x3F61),
+        (b'z', 0x3F7A),
+        (b'|', 0x3F7C),
+        (b'~', 0x3F7E),
+        (0x7F, 0x3F7F),
+        (0x80, 0x3F80),
+        (0xC1, 0x3FC1),
+        (0xFF, 0x3FFF),
+    ] {
+        assert_eq!(table[usize::from(byte)], entry, "{byte}");
+    }
+    for byte in 0..=255 {
+        if SHORT.iter().all(|&(short, _)| short != byte) {
+            let entry = 4096 * 3 + 256 * 15 + u16::from(byte);
+            assert_eq!(table[usize::from(byte)], entry, "{byte}");
+        }
+    }
+}
+
+/// Ten digits and the space, 26 letters and six marks, and 213 escapes.
+#[test]
+fn entries_by_length() {
+    let of_length = |length| table().iter().filter(|&&n| n >> 12 == length).count();
+    assert_eq!([1, 2, 3].map(of_length), [11, 32, 213]);
+    assert_eq!(BTreeSet::from(table()).len(), 256);
+}
+
+#[test]
+fn entries_beside_the_writer() {
+    for (byte, entry) in (0..=255).zip(table()) {
+        if byte != b' ' {
+            assert_eq!(nibbles_of(entry), write(&[byte]), "{byte}");
+        }
+        let before_a_digit = [nibbles_of(entry), vec![5]].concat();
+        assert_eq!(before_a_digit, write(&[byte, b'5']), "{byte}");
+    }
+}
+
+#[test]
+fn entries_are_read_as_their_bytes() {
+    for (byte, entry) in (0..=255).zip(table()) {
+        let mut nibbles = nibbles_of(entry);
+        let alone = (byte != b' ').then_some(vec![byte]);
+        assert_eq!(read(&nibbles), alone, "{byte}");
+        nibbles.push(5);
+        assert_eq!(read(&nibbles), Some(vec![byte, b'5']), "{byte}");
+    }
+}
+
+/// Every row of one to three nibbles that the reader takes for one byte. A digit
+/// stands behind it, as a space is dropped at the end.
+#[test]
+fn codes_of_the_reader_are_entries() {
+    let table = table();
+    let mut found = BTreeSet::new();
+    for length in 1..=3 {
+        for number in 0..1_u16 << (4 * length) {
+            let code = nibbles_of(length << 12 | number);
+            if let Some(&[byte, b'5']) = read(&[code, vec![5]].concat()).as_deref() {
+                assert_eq!(table[usize::from(byte)], 4096 * length + number, "{byte}");
+                assert!(found.insert(byte), "{byte} has two codes");
+            }
+        }
+    }
+    assert_eq!(found, (0..=255).collect());
+}
+
+fn former_contents() -> Vec<Table> {
+    let mut prng = Prng::new(11);
+    let mut almost = by_hand();
+    almost[255] = 0;
+    vec![
+        [0; 256],
+        [u16::MAX; 256],
+        std::array::from_fn(|index| index as u16),
+        by_hand(),
+        almost,
+        std::array::from_fn(|_| prng.next_u64() as u16),
+    ]
+}
+
+#[test]
+fn every_entry_is_written() {
+    for mut table in former_contents() {
+        characters(&mut table);
+        assert_eq!(table, by_hand());
+    }
+}
+
+fn case(table: Table) -> Case {
+    Case::Characters {
+        table: Box::new(table),
+    }
+}
+
+#[test]
+fn lines_by_hand() {
+    let numbers = |table: Table| table.map(|entry| entry.to_string()).join(",");
+    let after = numbers(by_hand());
+    assert!(after.starts_with("16128,16129,16130,"));
+    for before in former_contents() {
+        let written = format!("characters {} -> ok {after}", numbers(before));
+        assert_eq!(line(&case(before)), written);
+    }
+    let zeros = format!("characters 0{} -> ok 16128,", ",0".repeat(255));
+    assert!(line(&case([0; 256])).starts_with(&zeros));
+}
+
+#[test]
+fn records_by_hand() {
+    let mut after = vec![1, 0, 0, 0, 0, 0, 0, 0, 0, 0];
+    for entry in by_hand() {
+        after.extend([(entry / 256) as u8, (entry % 256) as u8]);
+    }
+    assert_eq!(after.len(), 522);
+    assert_eq!(after[10 + 2 * 65..][..4], [0x20, 0xC1, 0x20, 0xC2]);
+    let ascending = case(std::array::from_fn(|index| 0x0100 + index as u16));
+    let before: Vec<u8> = (0..=255).flat_map(|byte| [1, byte]).collect();
+    assert!(record::fits(&ascending));
+    assert_eq!(record::input(&ascending), [&[9][..], &before].concat());
+    assert_eq!(record::answer(&ascending.run()), after);
+    let input = record::input(&case([0xFFFE; 256]));
+    assert_eq!(input, [&[9][..], &[0xFF, 0xFE].repeat(256)].concat());
+}
+
+/// The fixed cases and the gate's end with the same arrays.
+#[test]
+fn cases_end_with_arrays() {
+    let tables = |cases: Vec<Case>| -> Vec<Table> {
+        let arrays = cases.iter().rev().map_while(|case| match case {
+            Case::Characters { table } => Some(**table),
+            _ => None,
+        });
+        let arrays: Vec<Table> = arrays.collect();
+        let front = &cases[..cases.len() - arrays.len()];
+        let more = |case: &Case| matches!(case, Case::Characters { .. });
+        assert!(!front.iter().any(more));
+        arrays
+    };
+    let arrays = tables(fixed());
+    assert_eq!(tables(whole_cases::cases(SEED)), arrays);
+    assert_eq!(arrays.iter().collect::<BTreeSet<_>>().len(), arrays.len());
+    for former in &former_contents()[..4] {
+        assert!(arrays.contains(former));
+    }
+    // Each entry is wrong before the call in most of them.
+    for (place, entry) in by_hand().into_iter().enumerate() {
+        let wrong = arrays.iter().filter(|array| array[place] != entry);
+        assert!(wrong.count() + 3 > arrays.len(), "{place}");
+    }
+    for array in arrays {
+        let after = Outcome::Characters(Box::new(by_hand()));
+        assert_eq!(case(array).run(), after);
+    }
+}
+
+/// The nibbles of a text without runs of three spaces.
+fn length_by_hand(text: &[u8]) -> usize {
+    let lengths = text.iter().map(|&byte| by_hand()[usize::from(byte)] >> 12);
+    usize::from(lengths.sum::<u16>())
+}
+
+/// Which texts the lists put, accepted and refused, and the texts fetched back.
+fn texts_put() -> [BTreeSet<Vec<u8>>; 3] {
+    let [mut accepted, mut refused, mut fetched] = [const { BTreeSet::new() }; 3];
+    for list in text_cases::lists() {
+        let (_, ran) = list.run();
+        assert_eq!(ran.taken, list.script.len());
+        for (call, answer) in ran.calls {
+            match (call, answer.result) {
+                (Call::PutText { text }, Ok(_)) => accepted.insert(text),
+                (Call::PutText { text }, Err(why)) => {
+                    assert_eq!(why, refusal(12, 0));
+                    refused.insert(text)
+                }
+                (Call::FetchText { .. }, Ok(numbers)) => {
+                    let length = numbers[0].value.unwrap() as usize;
+                    fetched.insert(answer.output.unwrap()[..length].to_vec())
+                }
+                _ => false,
+            };
+        }
+    }
+    [accepted, refused, fetched]
+}
+
+#[test]
+fn lists_take_every_byte_through_the_writer() {
+    let [accepted, refused, fetched] = texts_put();
+    for byte in 0..=255 {
+        let texts = [vec![byte], vec![b' ', byte], vec![byte, b' ', b'0']];
+        let empty = |text: &Vec<u8>| text.iter().all(|&byte| byte == b' ');
+        for text in texts {
+            assert_eq!(refused.contains(&text), empty(&text), "{text:?}");
+            assert_eq!(accepted.contains(&text), !empty(&text), "{text:?}");
+        }
+    }
+    assert_eq!(fetched, accepted);
+    for first in 1..=3 {
+        for second in (1..=3).filter(|&second| second != first) {
+            let is_pair = |text: &&Vec<u8>| {
+                let lengths = [&text[..1], &text[1..]].map(length_by_hand);
+                text.len() == 2 && !text.contains(&b' ') && lengths == [first, second]
+            };
+            let pairs = accepted.iter().filter(is_pair).count();
+            assert!(pairs >= 10, "{first} {second}: {pairs}");
+        }
+    }
+    for last in 1..=3 {
+        for (texts, nibbles) in [(&accepted, 255), (&refused, 256)] {
+            let ends_so = |text: &&Vec<u8>| {
+                let end = &text[text.len() - 1..];
+                length_by_hand(text) == nibbles && length_by_hand(end) == last
+            };
+            assert_eq!(texts.iter().filter(ends_so).count(), 4);
+        }
+    }
+    assert_eq!(refused.len(), 2 + 12);
+}
+
+#[test]
+fn gate_lists_end_with_these() {
+    let lists = list_cases::lists(SEED);
+    assert!(lists.ends_with(&text_cases::lists()));
+}
