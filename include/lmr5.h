@@ -10,7 +10,7 @@
  * no state: when a call returns, every buffer is the caller's alone. A call may be made from any thread. What the caller
  * sees to, since the library cannot:
  *   - A length is the true length of the memory behind its pointer, and at most PTRDIFF_MAX bytes. NULL is allowed where
- *     the length is 0. `contents` points to 6 numbers. Pointers are aligned as their type asks, as C's own are.
+ *     the length is 0. `contents` points to 6 numbers, `table` to 256. Pointers are aligned as their type asks, as C's own are.
  *   - All memory that a call gets is initialised, outputs too: a call may leave part of an output as it was.
  *   - A buffer that a call may write (not `const`) overlaps no other buffer of that call. Two `const` buffers may overlap.
  *   - While a call runs no other thread writes its buffers, nor reads those that it may write.
@@ -21,9 +21,9 @@
  * more is then refused.
  *
  * WHAT A CALL ANSWERS
- * An lmr5_answer; only lmr5_replay answers an lmr5_performed, and refuses nothing itself. Accepted: `refusal` and `place` are
- * 0, and `given` says what numbers there are. Refused: `refusal` is one of enum lmr5_refusal, `place` says where, all else is
- * 0, and no byte of any buffer has changed.
+ * An lmr5_answer. Two refuse nothing themselves: lmr5_replay answers an lmr5_performed, lmr5_character_table nothing.
+ * Accepted: `refusal` and `place` are 0, and `given` says what numbers there are. Refused: `refusal` is one of enum
+ * lmr5_refusal, `place` says where, all else is 0, and no byte of any buffer has changed.
  *
  * THE REPORT IS CHECKED FIRST by every call that takes one, whatever its arguments are. The first of these that applies is
  * the refusal, "the report's refusals" below:
@@ -279,6 +279,18 @@ lmr5_answer lmr5_put_text(uint8_t *report, size_t report_length, const uint8_t *
  * Refusals: the report's refusals; 11 without id 4; 13 where `out` is shorter. 2295 bytes always do.
  */
 lmr5_answer lmr5_fetch_text(const uint8_t *report, size_t report_length, uint8_t *out, size_t out_length);
+
+/*
+ * ---- the characters of the ship text
+ */
+
+/*
+ * Writes all 256 entries of `table`. table[b] is the code of byte b in a ship text: 4096 times the number of its nibbles, plus
+ * the nibbles read as one number. A byte without a short code has 3 nibbles, 15 and the byte. 'A' is 0x20c1, 'a' is 0x3f61.
+ * One space is 0x100a; how a run of spaces is written no entry says. lmr5_put_text writes every byte but the space by these
+ * entries.
+ */
+void lmr5_character_table(uint16_t table[256]);
 
 /*
  * ---- a script of calls

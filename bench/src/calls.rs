@@ -141,6 +141,29 @@ fn fresh(bed: &mut Bed) -> Option<Line> {
     ))
 }
 
+/// Takes no report, so that it is measured once.
+fn characters(bed: &mut Bed) -> Option<Line> {
+    if bed.size > 38 {
+        return None;
+    }
+    let mut ours = [0; 256];
+    let mut theirs = [0; 256];
+    Some(measure(
+        "characters",
+        bed.size,
+        &mut |turns| {
+            for _ in 0..turns {
+                library::characters(black_box(&mut ours));
+            }
+        },
+        &mut |turns| {
+            for _ in 0..turns {
+                fast::characters(black_box(&mut theirs));
+            }
+        },
+    ))
+}
+
 fn unpack(bed: &mut Bed) -> Line {
     let room = tail_of(&bed.observation).len();
     let outputs = || (vec![0i64; 46], vec![0u8; room]);
@@ -483,7 +506,7 @@ fn replay(bed: &mut Bed) -> Line {
 
 type Measured = fn(&mut Bed) -> Option<Line>;
 
-const CALLS: [(&str, Measured); 18] = [
+const CALLS: [(&str, Measured); 19] = [
     ("judge", |bed| Some(judge(bed))),
     ("fresh", fresh),
     ("unpack", |bed| Some(unpack(bed))),
@@ -501,6 +524,7 @@ const CALLS: [(&str, Measured); 18] = [
     ("drop", |bed| Some(drop_line(bed))),
     ("put_text", |bed| Some(put_text(bed))),
     ("fetch_text", |bed| Some(fetch_text(bed))),
+    ("characters", characters),
     ("replay_20", |bed| Some(replay(bed))),
 ];
 

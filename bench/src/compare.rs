@@ -102,6 +102,13 @@ impl Side {
         }
     }
 
+    fn characters(self, table: &mut [u16; 256]) {
+        match self {
+            Side::Library => library::characters(table),
+            Side::Rust => calls::characters(table),
+        }
+    }
+
     fn call(self, s: &mut [u8], call: &Call, out: &mut [u8]) -> Answer {
         let size = |n: u64| n as usize;
         match self {
@@ -219,6 +226,11 @@ pub fn agrees(side: Side, case: &Case) -> bool {
             let answer = side.pack(values, *word, *rptin, tail, &mut output);
             let result = result.map(|bytes| vec![Number::bytes(bytes)]);
             answer == of_reference(result) && output == due
+        }
+        (Case::Characters { table }, Outcome::Characters(due)) => {
+            let mut table = table.clone();
+            side.characters(&mut table);
+            table == due
         }
         (Case::Calls { buffer, calls }, _) => list_agrees(side, buffer, calls),
         _ => true,

@@ -71,6 +71,7 @@ mod symbols {
         pub fn lmr5_drop(report: *mut u8, n: usize, id: usize) -> Answer;
         pub fn lmr5_put_text(report: *mut u8, n: usize, text: *const u8, text_n: usize) -> Answer;
         pub fn lmr5_fetch_text(report: *const u8, n: usize, out: *mut u8, out_n: usize) -> Answer;
+        pub fn lmr5_character_table(table: *mut u16);
         pub fn lmr5_replay(
             report: *mut u8,
             n: usize,
@@ -82,8 +83,8 @@ mod symbols {
     }
 }
 
-// SAFETY of every call below: a slice's pointer is given with its length, and
-// the archive reads and writes within them only.
+// SAFETY of every call below: a slice's pointer is given with its length, an array's
+// has the length that is asked for, and the archive reads and writes within them only.
 
 #[inline(always)]
 pub fn judge(s: &[u8]) -> Answer {
@@ -179,6 +180,11 @@ pub fn put_text(s: &mut [u8], text: &[u8]) -> Answer {
 #[inline(always)]
 pub fn fetch_text(s: &[u8], out: &mut [u8]) -> Answer {
     unsafe { symbols::lmr5_fetch_text(s.as_ptr(), s.len(), out.as_mut_ptr(), out.len()) }
+}
+
+#[inline(always)]
+pub fn characters(table: &mut [u16; 256]) {
+    unsafe { symbols::lmr5_character_table(table.as_mut_ptr()) }
 }
 
 #[inline(always)]

@@ -49,6 +49,14 @@ fn parameter(text: &str) -> Vec<String> {
     }
 }
 
+/// What a function answers, from behind its parameters; none is `void`.
+fn result(text: &str) -> String {
+    let Some(answer) = text.trim_start().strip_prefix("->") else {
+        return "void".to_string();
+    };
+    number(answer.split_whitespace().next().expect("a result"))
+}
+
 fn functions(text: &str, declared: &mut Declared) {
     for part in text.split("#[no_mangle]").skip(1) {
         let rest = part
@@ -57,8 +65,7 @@ fn functions(text: &str, declared: &mut Declared) {
             .expect("an exported function");
         let (name, rest) = rest.split_once('(').expect("parameters");
         let (parameters, rest) = rest.split_once(')').expect("the parameters' end");
-        let result = rest.trim_start().strip_prefix("->").expect("a result");
-        let mut words = vec![number(result.split_whitespace().next().expect("a result"))];
+        let mut words = vec![result(rest)];
         for text in parameters.split(',').filter(|text| !text.trim().is_empty()) {
             words.extend(parameter(text));
         }

@@ -114,7 +114,8 @@ mod tests {
 
     const CODE: &str = "#[repr(C)]\npub struct Answer {\n    pub refusal: u32,\n}\n\
         fn store() {\n    contents[0] = c.word;\n}\n\
-        #[no_mangle]\npub extern \"C\" fn lmr5_f(\n    report: &[u8], // read\n    n: usize,\n    to: &mut [u64; 6],\n) -> Answer\n{}\n";
+        #[no_mangle]\npub extern \"C\" fn lmr5_f(\n    report: &[u8], // read\n    n: usize,\n    to: &mut [u64; 6],\n) -> Answer\n{}\n\
+        #[no_mangle]\npub extern \"C\" fn lmr5_t(table: &mut [u16; 256])\n{}\n";
     const TABLE: &str = "    field 648 (pos 0) 10 ∷  -- 1 BOX10\n    []\n";
     const SCRIPT: &str = "unfoldable pub scriptEntry : Entry → List ℕ\n\
         scriptEntry (edits (setField k v)) = 2 ∷ (bytes8 k)\nscriptEntry (edits (remove i)) = 9 ∷ bytes8 i\n\
@@ -130,7 +131,8 @@ mod tests {
         enum lmr5_log { LMR5_LOG_REFUSED = 0, LMR5_LOG_ACCEPTED = 1 };\n\
         enum lmr5_given { LMR5_GIVEN_NOTHING = 0, LMR5_GIVEN_VALUE = 1, LMR5_GIVEN_COUNT = 3, LMR5_GIVEN_MISSING = 128 };\n\
         enum lmr5_longest { LMR5_LONGEST_REPORT = 1853 };\n\
-        lmr5_answer lmr5_f(const uint8_t *report, size_t report_length, size_t n, uint64_t to[6]);\n}\n";
+        lmr5_answer lmr5_f(const uint8_t *report, size_t report_length, size_t n, uint64_t to[6]);\n\
+        void lmr5_t(uint16_t table[256]);\n}\n";
 
     fn sources() -> Sources<'static> {
         Sources {
@@ -162,6 +164,8 @@ mod tests {
             ("size_t n, ", ""),
             ("size_t n", "uint32_t n"),
             ("to[6]", "to[5]"),
+            ("table[256]", "table[255]"),
+            ("void lmr5_t", "uint32_t lmr5_t"),
             ("uint32_t refusal", "uint64_t refusal"),
             ("LMR5_BOX10 = 1", "LMR5_BOX10 = 2"),
             ("LMR5_BOX10 = 1", "LMR5_BOX = 1"),

@@ -220,3 +220,8 @@ pub fn fetch_text(s: &[u8], out: &mut [u8]) -> Answer {
     }
     Ok(given(Label::Count, text::read(ns, out) as i64))
 }
+
+#[inline(never)]
+pub fn characters(table: &mut [u16; 256]) {
+    text::characters(table);
+}

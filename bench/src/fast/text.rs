@@ -253,6 +253,32 @@ pub fn read(ns: &[u8], out: &mut [u8]) -> usize {
     o
 }
 
+/// The table of the characters from the rules: 4096 times a byte's nibbles, and their value.
+pub fn characters(table: &mut [u16; 256]) {
+    for (byte, entry) in (0..).zip(table.iter_mut()) {
+        *entry = 0x3F00 + byte;
+    }
+    let runs = [
+        (b'0', 10, 0x1000),
+        (b'A', 9, 0x20C1),
+        (b'J', 9, 0x20D1),
+        (b'S', 8, 0x20E2),
+    ];
+    for (byte, count, first) in runs {
+        let from = usize::from(byte);
+        for (entry, value) in table[from..from + count].iter_mut().zip(first..) {
+            *entry = value;
+        }
+    }
+    table[usize::from(b' ')] = 0x100A;
+    table[usize::from(b'{')] = 0x20C0;
+    table[usize::from(b'&')] = 0x20CA;
+    table[usize::from(b'+')] = 0x20CB;
+    table[usize::from(b'}')] = 0x20D0;
+    table[usize::from(b'-')] = 0x20DA;
+    table[usize::from(b'/')] = 0x20E1;
+}
+
 /// Writes a text's nibbles; none if there are over 255.
 pub fn write(text: &[u8], out: &mut [u8; 260]) -> Option<usize> {
     let mut at = 0usize;

@@ -1,7 +1,8 @@
--- The figures of FORMAT 12, as one list that one computed fact checks; and as a second list, cases in which two refusals fit at
--- once, for the orders of FORMAT 5 to 7, zeroed bytes, unpack and pack, and edges of FORMAT 2 to 9.
+-- The figures of FORMAT 12, as one list that one computed fact checks; as a second list, cases in which two refusals fit at
+-- once, for the orders of FORMAT 5 to 7, zeroed bytes, unpack and pack, and edges of FORMAT 2 to 9; as a third, the table of the
+-- characters.
 -- Assumes nothing.
-use Prim.Native.Nat.{ℕ, zero, suc, _+_, _-_, _^_}
+use Prim.Native.Nat.{ℕ, zero, suc, _+_, _-_, _/_, _^_}
 use mathlib.Core.List.{List, [], _∷_, _++_, map}
 use mathlib.Core.Option.{Option, none, some}
 use lib.ListN.{length, getD, take, drop, set, replicate}
@@ -12,7 +13,7 @@ use Rattle.format.specs.Field.{Field, minus, table, fieldAt, required, s
 use Rattle.format.specs.Bits.{bits, number, bitsOf, bitField, total, offset, readFields, writeFields}
 use Rattle.format.specs.Nibbles.{attachment, nibbles, bytes, padded, attachmentNibbles, tailNibbles, attachmentsOf, among}
 use Rattle.format.specs.Flags.{weights, weight, totalWeight, allMissing, qualityCode, flagsFit, flagBody, withFlag, flagsValid}
-use Rattle.format.specs.ShipText.{charCode, short, pairByte, codeNibbles, classify, byteOf, escapable, isSpace, symbolNibbles, fulls, rest, spaceRun, writeFrom}
+use Rattle.format.specs.ShipText.{charCode, short, pairByte, codeNibbles, upFrom, entry, charTable, classify, byteOf, escapable, isSpace, symbolNibbles, fulls, rest, spaceRun, writeFrom}
 use Rattle.format.specs.ShipText.{writeText, spaces, textStep, stateAfter, symbolsOf, readFrom, endFrom, atEnd, textValid, readText}
 use Rattle.format.specs.Observation.{Observation, widths, checksum, cardNumbers, cardNibbles, packing}
 use Rattle.format.specs.Report.{observationOf, codesOf, checksumOf, fieldChecks, bodyValid, attachmentChecks, reportChecks, Verdict, refused, accepted, judge}
@@ -400,3 +401,35 @@ unfolding manyAttachments longTail longReport codesWith codesWithout spoilt one 
     fieldChecks bodyValid attachmentChecks reportChecks judge stands contentOf putIn removeFrom made gives outputsOf writes overfull overEach allNibbles callChecks checks
     step layout effect course calls run claim freshObservation freshChecks fresh digitsFrom fieldLines listing
 orders-hold = tt
+
+-- ---- the table of the characters
+
+entryAt : ℕ → ℕ
+entryAt b = getD charTable b 0
+
+widthAt : ℕ → ℕ
+widthAt w = w / 4096
+
+pub characters : List Example
+characters =
+    example (length charTable ∷ []) (256 ∷ [])
+    -- 11 bytes of one nibble, 32 of two, 213 of three: 714 nibbles
+    ∷ example (total (map widthAt charTable) ∷ []) (714 ∷ [])
+    -- the figures of FORMAT 3.5: 0, A, a, the space
+    ∷ example (map entryAt (48 ∷ 65 ∷ 97 ∷ 32 ∷ [])) (4096 ∷ 8385 ∷ 16225 ∷ 4106 ∷ [])
+    -- the digits, and what stands about them
+    ∷ example (map entryAt (upFrom 46 13))
+    (0x3f2e ∷ 0x20e1 ∷ 0x1000 ∷ 0x1001 ∷ 0x1002 ∷ 0x1003 ∷ 0x1004 ∷ 0x1005 ∷ 0x1006 ∷ 0x1007 ∷ 0x1008 ∷ 0x1009 ∷ 0x3f3a ∷ [])
+    -- A to I, J to R, S to Z: the ends, and what stands about them
+    ∷ example (map entryAt (64 ∷ 65 ∷ 73 ∷ 74 ∷ 82 ∷ 83 ∷ 90 ∷ 91 ∷ [])) (0x3f40 ∷ 0x20c1 ∷ 0x20c9 ∷ 0x20d1 ∷ 0x20d9 ∷ 0x20e2 ∷ 0x20e9 ∷ 0x3f5b ∷ [])
+    -- the space and & + - with their neighbours
+    ∷ example (map entryAt (31 ∷ 32 ∷ 33 ∷ 37 ∷ 38 ∷ 39 ∷ 42 ∷ 43 ∷ 44 ∷ 45 ∷ []))
+    (0x3f1f ∷ 0x100a ∷ 0x3f21 ∷ 0x3f25 ∷ 0x20ca ∷ 0x3f27 ∷ 0x3f2a ∷ 0x20cb ∷ 0x3f2c ∷ 0x20da ∷ [])
+    -- z { | } ~, and both ends
+    ∷ example (map entryAt (122 ∷ 123 ∷ 124 ∷ 125 ∷ 126 ∷ [])) (0x3f7a ∷ 0x20c0 ∷ 0x3f7c ∷ 0x20d0 ∷ 0x3f7e ∷ [])
+    ∷ example (map entryAt (0 ∷ 127 ∷ 128 ∷ 255 ∷ 256 ∷ [])) (0x3f00 ∷ 0x3f7f ∷ 0x3f80 ∷ 0x3fff ∷ 0 ∷ [])
+    ∷ []
+
+pub characters-hold : T (every characters)
+unfolding entryAt widthAt characters example same every total upFrom entry charTable charCode codeNibbles
+characters-hold = tt

@@ -3,7 +3,7 @@
 use Prim.Native.Nat.{ℕ, zero, suc, _+_, _-_, _*_, _/_, _%_}
 use mathlib.Core.Bool.{Bool, true, false, cond, not, _&&_}
 use mathlib.Core.List.{List, [], _∷_, _++_, map}
-use lib.ListN.{replicate}
+use lib.ListN.{length, replicate}
 use lib.Dec.{ltb, eqb}
 use Rattle.format.specs.Order.{between}
 use Rattle.format.specs.declared.TextState.{TextState}
@@ -42,6 +42,21 @@ pairByte z n =
 -- a code's nibbles
 unfoldable pub codeNibbles : ℕ → List ℕ
 codeNibbles v = cond (ltb v 16) (v ∷ []) (cond (ltb v 256) (v / 16 ∷ v % 16 ∷ []) (v / 256 ∷ v / 16 % 16 ∷ v % 16 ∷ []))
+
+-- ---- the table of the characters
+
+-- so many numbers in their order, from a on
+unfoldable pub upFrom : ℕ → ℕ → List ℕ
+upFrom a zero = []
+upFrom a (suc n) = a ∷ upFrom (suc a) n
+
+-- a byte's entry: the number of its nibbles, and below it, in three digits of 16, their value
+unfoldable pub entry : ℕ → ℕ
+entry b = length (codeNibbles (charCode b)) * 4096 + charCode b
+
+-- the entries of the 256 bytes
+unfoldable pub charTable : List ℕ
+charTable = map entry (upFrom 0 256)
 
 -- ---- symbols
 

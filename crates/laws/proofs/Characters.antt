@@ -4,10 +4,14 @@ use Prim.Native.Nat.{ℕ, zero, suc, _+_, _*_, _/_, _%_, _≤_, _<_}
 use native.Mathlib.Omega.{arith}
 use mathlib.Core.Path.{_≡_, refl, sym, ap, ap₂, _∙_}
 use mathlib.Core.Bool.{Bool, true, false, cond, not, _&&_, _||_}
+use native.Mathlib.Nat.{add-zero, zero-add}
+use mathlib.Core.List.{map}
+use lib.ListN.{length, getD, length-map}
+use lib.Arith.{digits-div, digits-mod}
 use lib.Dec.{ltb, leb, eqb}
 use borrow.Author.Tests.{ltb-true, ltb-false, eqb-true, eqb-false, leb-true, le-ltb, ne-eqb, not-true}
 use Rattle.format.specs.Order.{between}
-use Rattle.format.specs.ShipText.{charCode, short, pairByte}
+use Rattle.format.specs.ShipText.{charCode, short, pairByte, codeNibbles, upFrom, entry, charTable}
 use Rattle.laws.proofs.Sequences.{and-true, cond-case, test-case}
 
 -- a test passes at each number below n
@@ -22,6 +26,28 @@ at-below (suc n) f k e h =
     let two = and-true (f n) (allBelow n f) e in
     test-case (eqb k n) (λ q. ap f (eqb-true k n q) ∙ two .0)
     (λ q. let i : k ≡ n → ⊥ = eqb-false k n q in at-below n f k (two .1) (omega arith))
+
+-- ---- the table
+
+pub up-from-length : (n a : ℕ) → length (upFrom a n) ≡ n
+unfolding upFrom
+up-from-length zero a = refl
+up-from-length (suc n) a = ap suc (up-from-length n (suc a))
+
+from-at : (f : ℕ → ℕ) (n a i : ℕ) → i < n → getD (map f (upFrom a n)) i 0 ≡ f (a + i)
+unfolding upFrom
+from-at f zero a i h = absurd (omega arith)
+from-at f (suc n) a zero h = ap f (sym (add-zero a))
+from-at f (suc n) a (suc i) h = let e : suc a + i ≡ a + suc i = omega arith in from-at f n (suc a) i (omega arith) ∙ ap f e
+
+pub table-length : length charTable ≡ 256
+unfolding charTable
+table-length = length-map (upFrom 0 256) entry ∙ up-from-length 256 0
+
+-- the rule at each byte
+pub table-entry : (b : ℕ) → b < 256 → getD charTable b 0 ≡ entry b
+unfolding charTable
+table-entry b h = from-at entry 256 0 b h ∙ ap entry (zero-add b)
 
 -- ---- bytes
 
@@ -58,6 +84,11 @@ escape-code b h e = eqb-true (charCode b) (3840 + b) (rw e at (at-below 256 byte
 pub code-bound : (b : ℕ) → b < 256 → charCode b < 4096
 unfolding short
 code-bound b h = test-case (short b) (λ e. omega (arith, ltb-true (charCode b) 256 e)) (λ e. omega (arith, escape-code b h e))
+
+-- an entry's two parts
+pub entry-parts : (b : ℕ) → b < 256 → (entry b / 4096 ≡ length (codeNibbles (charCode b))) × (entry b % 4096 ≡ charCode b)
+unfolding entry
+entry-parts b h = (digits-div _ (code-bound b h), digits-mod _ (code-bound b h))
 
 abbrev digitTest : ℕ → Bool
 digitTest n = eqb (charCode (48 + n)) n

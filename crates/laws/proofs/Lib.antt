@@ -9,6 +9,7 @@ pub mod Attachments
 pub mod AttachmentEdits
 pub mod Characters
 pub mod ShipText
+pub mod Agreement
 pub mod Stores
 pub mod Report
 pub mod Machine

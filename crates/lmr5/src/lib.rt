@@ -10,8 +10,10 @@ ghost use Rattle.format.specs.Calls as call;
 ghost use Rattle.format.specs.Buffer.{effect};
 ghost use Rattle.format.specs.Whole as spec;
 ghost use Rattle.format.specs.Reply.{refusal, answerOf};
+ghost use Rattle.format.specs.ShipText.{charTable};
 ghost use Rattle.laws.proofs.Bounds.{AnswerFits};
 ghost use Rattle.unpack.specs.Answers.{contentsNumbers};
+ghost use Rattle.characters.specs.Table.{Agrees};
 ghost use Rattle.script.specs.Script.{Performs};
 ghost use Rattle.lmr5.specs.Numbered.{numbered, single, left, numberedAfter, judging, numberedWrote, word, opening, numberedUnpacked};
 use format::Reply;
@@ -268,6 +270,15 @@ pub extern "C" fn lmr5_fetch_text(report: &[u8], out: &mut [u8]) -> Answer
     ensures { λ r. ⌜ left r (now (report .entry)) (now (out .exit) ∷ []) ≡ numberedAfter (effect (now (report .entry)) (call.fetches (call.fetchText (now (out .entry))))) ⌝ }
 {
     answer_of(call_fetches::fetch_text(&*report, out))
+}
+
+// ---- the table of the characters
+
+#[no_mangle]
+pub extern "C" fn lmr5_character_table(table: &mut [u16; 256])
+    ensures { λ _. ⌜ (now (table .exit) ≡ charTable) × Agrees (now (table .exit)) ⌝ }
+{
+    characters::generate(table);
 }
 
 // ---- a script of calls

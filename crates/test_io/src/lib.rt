@@ -61,6 +61,11 @@ fn low(n: u64) -> u8 {
     (n % 256) as u8
 }
 
+pub fn put2(n: u64) {
+    let b = [low(n / 256), low(n)];
+    io::write_all(STDOUT_FILENO, &b);
+}
+
 pub fn put4(n: u64) {
     let b = [low(n / 16777216), low(n / 65536), low(n / 256), low(n)];
     io::write_all(STDOUT_FILENO, &b);

@@ -1,4 +1,4 @@
-// Runs the calls on whole reports over vectors of the independent implementation.
+// Runs the calls outside the list over vectors of the independent implementation.
 use format::Scaled;
 use fresh::Started;
 use pack::Packed;
@@ -234,6 +234,31 @@ fn pack_one(trip: bool) {
     pack_in(&mut values[..n], trip);
 }
 
+fn get_entries(table: &mut [u16]) {
+    let mut i = 0;
+    while i < table.len() {
+        table[i] = (test_io::get2() % 65536) as u16;
+        i += 1;
+    }
+}
+
+fn put_entries(table: &[u16]) {
+    let mut i = 0;
+    while i < table.len() {
+        test_io::put2(table[i] as u64);
+        i += 1;
+    }
+}
+
+// The table of the characters, over what stood there.
+fn characters_one() {
+    let mut table = [0u16; 256];
+    get_entries(&mut table);
+    characters::generate(&mut table);
+    test_io::put_head(1, 0, 0);
+    put_entries(&table);
+}
+
 // One vector; false at the end of the input.
 fn one() -> bool {
     let k = test_io::next();
@@ -244,6 +269,7 @@ fn one() -> bool {
         1 | 2 | 4 | 6 | 7 => report_one(kind),
         3 => fresh_one(),
         5 | 8 => pack_one(kind == 8),
+        9 => characters_one(),
         _ => return false,
     }
     true

@@ -5,36 +5,13 @@ ghost use Prim.Native.Nat.{_+_, _*_, _≤_, _<_, _^_};
 ghost use lib.Dec.{leb};
 ghost use lib.ListN.{length, getD, drop, replicate};
 ghost use lib.Seq.{sets};
-ghost use Rattle.format.specs.ShipText.{charCode, pairByte, textValid, readText};
+ghost use Rattle.format.specs.ShipText.{pairByte, textValid, readText};
 ghost use Rattle.format.specs.Calls.{over};
 ghost use Rattle.nibble.specs.View.{view, part};
 ghost use Rattle.text.specs.Answers.{Writable, Shortest};
 ghost use Rattle.text.specs.Rows.{stateRows, nextState, pairRows};
 ghost use Rattle.text.specs.Codes.{code, codeAt, Begins};
 use nibble::Cursor;
-
-// ---- characters
-
-// The nibbles of a byte, as one number.
-pub fn char_code(b: u8) -> u16
-    ensures { λ r. ⌜ r ≡ charCode b ⌝ }
-{
-    let v = b as u16;
-    match b {
-        32 => 10,
-        38 => 202,
-        43 => 203,
-        45 => 218,
-        123 => 192,
-        125 => 208,
-        47 => 225,
-        48..=57 => v - 48,
-        65..=73 => v + 128,
-        74..=82 => v + 135,
-        83..=90 => v + 143,
-        _ => v + 3840,
-    }
-}
 
 // ---- whether a body is valid
 

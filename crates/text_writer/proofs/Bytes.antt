@@ -1,6 +1,6 @@
 -- The writer: one byte, and its loop.
 -- Assumes nothing.
-use Prim.Native.Nat.{ℕ, _+_, _≤_, _<_}
+use Prim.Native.Nat.{ℕ, _+_, _%_, _≤_, _<_}
 use native.Mathlib.Omega.{arith}
 use native.Mathlib.Numerals.{add-one}
 use mathlib.Core.Path.{_≡_, refl, sym, ap, ap₂, _∙_}
@@ -9,7 +9,10 @@ use lib.ListN.{length, getD, drop, length-append, drop-of-length-le}
 use lib.Seq.{drop-cons, sets}
 use lib.Dec.{eqb}
 use borrow.Author.Tests.{eq-eqb, ne-eqb, le-leb, lt-leb}
-use Rattle.format.specs.ShipText.{charCode, codeNibbles, classify, spaceRun, writeFrom, writeText}
+use Rattle.format.specs.ShipText.{charCode, charTable, classify, fulls, rest, spaceRun, writeFrom, writeText}
+use Rattle.characters.specs.Table.{nibblesAt}
+use Rattle.text_writer.specs.Pieces.{pieceBy}
+use Rattle.laws.proofs.Characters.{table-entry, entry-parts}
 use Rattle.laws.proofs.Sequences.{cond-case}
 use Rattle.laws.proofs.ShipText.{piece, waiting, write-byte}
 use Rattle.text_writer.specs.Answers.{writtenOf, Writes}
@@ -18,17 +21,39 @@ use Rattle.laws.proofs.Stores.{stores, stores-length, stores-over}
 
 -- ---- one byte
 
-pub byte-space : (at s b : ℕ) (d : List ℕ) → b ≡ 32 → (at ≡ at + length (piece s b)) × (s + 1 ≡ waiting s b) × (d ≡ sets d at (piece s b))
-unfolding piece waiting
-byte-space at s b d e = rw (eq-eqb b 32 e) (omega arith, refl, refl)
+-- a byte taken: the place, the spaces that wait, and what is laid if there is room
+abbrev pub Taken : List ℕ → ℕ → ℕ → ℕ → ℕ → ℕ → List ℕ → List ℕ → Type 0
+Taken t at s b x z d o = (x ≡ at + length (pieceBy t s b)) × (z ≡ waiting s b) × (x ≤ length d → o ≡ sets d at (pieceBy t s b))
 
-pub byte-code : (at s b a x : ℕ) (d o p : List ℕ) → (b ≡ 32 → ⊥) → (a ≡ at + length (spaceRun s)) × (o ≡ sets d at (spaceRun s))
-    → (x ≡ a + length (codeNibbles (charCode b))) × (p ≡ sets o a (codeNibbles (charCode b)))
-    → (x ≡ at + length (piece s b)) × (0 ≡ waiting s b) × (p ≡ sets d at (piece s b))
-unfolding piece waiting
-byte-code at s b a x d o p n f g =
-    rw (ne-eqb b 32 n)
-    (omega (arith, f .0, g .0, length-append (spaceRun s) (codeNibbles (charCode b))), refl, stores d o p (spaceRun s) (codeNibbles (charCode b)) at a (f .1) (f .0) (g .1))
+pub byte-space : (t : List ℕ) (at s b : ℕ) (d : List ℕ) → b ≡ 32 → Taken t at s b at (s + 1) d d
+unfolding pieceBy waiting
+byte-space t at s b d e = rw (eq-eqb b 32 e) (omega arith, refl, λ _. refl)
+
+pub byte-code : (t : List ℕ) (at s b a x : ℕ) (d o p : List ℕ) → (b ≡ 32 → ⊥) → (a ≡ at + length (spaceRun s)) × (o ≡ sets d at (spaceRun s))
+    → (x ≡ a + length (nibblesAt t b)) × (x ≤ length o → p ≡ sets o a (nibblesAt t b)) → Taken t at s b x 0 d p
+unfolding pieceBy waiting
+byte-code t at s b a x d o p n f g =
+    rw (ne-eqb b 32 n) (
+      omega (arith, f .0, g .0, length-append (spaceRun s) (nibblesAt t b)),
+      refl,
+      λ r. stores d o p (spaceRun s) (nibblesAt t b) at a (f .1) (f .0) (g .1 (omega (arith, stores-length d o (spaceRun s) at (f .1)))),
+    )
+
+no-run : (at : ℕ) (d : List ℕ) → (at ≡ at + length (spaceRun 0)) × (d ≡ sets d at (spaceRun 0))
+unfolding spaceRun fulls rest
+no-run at d = (omega arith, refl)
+
+-- the same with no space before it
+pub byte-alone : (t : List ℕ) (at s b x : ℕ) (d p : List ℕ) → (b ≡ 32 → ⊥) → s ≡ 0
+    → (x ≡ at + length (nibblesAt t b)) × (x ≤ length d → p ≡ sets d at (nibblesAt t b)) → Taken t at s b x 0 d p
+byte-alone t at s b x d p n e g = byte-code t at s b at x d d p n (rw e (no-run at d)) g
+
+-- by the table of the characters it is the writer's piece
+piece-is : (t : List ℕ) (s b : ℕ) → t ≡ charTable → b < 256 → pieceBy t s b ≡ piece s b
+unfolding pieceBy piece
+piece-is t s b e h =
+    let v : getD t b 0 % 4096 ≡ charCode b = ap (λ (l : List ℕ). getD l b 0 % 4096) e ∙ ap (λ (x : ℕ). x % 4096) (table-entry b h) ∙ entry-parts b h .1 in
+    rw v
 
 -- ---- the loop
 
@@ -54,8 +79,11 @@ module _ (t d : List ℕ) where
   pub writing-length : (at s i : ℕ) (out : List ℕ) → Writing t d at s i out → length out ≡ length d
   writing-length at s i out w = stores-length d out (w .done) 0 (w .laid)
 
-  module _ (at s i x z b : ℕ) (out o : List ℕ) (w : Writing t d at s i out) (h : i < length t) (e : b ≡ getD t i 0) (k : b < 256)
-      (f : (x ≡ at + length (piece s b)) × (z ≡ waiting s b) × (o ≡ sets out at (piece s b))) where
+  module _ (codes : List ℕ) (c : codes ≡ charTable) (at s i x z b : ℕ) (out o : List ℕ) (w : Writing t d at s i out) (h : i < length t) (e : b ≡ getD t i 0) (k : b < 256)
+      (taken : Taken codes at s b x z out o) where
+    f : (x ≡ at + length (piece s b)) × (z ≡ waiting s b) × (x ≤ length out → o ≡ sets out at (piece s b))
+    f = rw (piece-is codes s b c k) at taken
+
     step-rest : writeText t ≡ (w .done ++ piece s b) ++ writeFrom z (map classify (drop (i + 1) t))
     step-rest =
         w .rest
@@ -67,8 +95,8 @@ module _ (t d : List ℕ) where
     step-place : x ≡ length (w .done ++ piece s b)
     step-place = omega (arith, f .0, w .place, length-append (w .done) (piece s b))
 
-    pub writing-more : x ≤ 255 → Writing t d x z (i + 1) o
-    writing-more r =
+    pub writing-more : length d ≡ 255 → x ≤ 255 → Writing t d x z (i + 1) o
+    writing-more n r =
         let p : at ≡ 0 + length (w .done) = omega (arith, w .place) in
         record {
           inside = omega arith;
@@ -77,7 +105,7 @@ module _ (t d : List ℕ) where
           done = w .done ++ piece s b;
           place = step-place;
           rest = step-rest;
-          laid = stores d out o (w .done) (piece s b) 0 at (w .laid) p (f .2);
+          laid = stores d out o (w .done) (piece s b) 0 at (w .laid) p (f .2 (omega (arith, writing-length at s i out w)));
         }
 
     pub writing-long : 255 < x → Writes t d o TooLong

@@ -3,33 +3,63 @@
 use native.Mathlib.Omega.{arith}
 use borrow.Author.Needs.{needs}
 use Rattle.laws.proofs.ShipText.{run-length}
-use Rattle.text_writer.proofs.Bytes.{byte-space, byte-code}
+use Rattle.text_writer.proofs.Bytes.{byte-space, byte-alone, byte-code}
 use Rattle.text_writer.proofs.put_byte.Statement.{statement}
 use Rattle.text_writer.proofs.put_byte.Tie as tie
 
-add-t8 : tie.Need-add-t8
-add-t8 c = search needs
+add-t10 : tie.Need-add-t10
+add-t10 c = search needs
 
 returns : tie.Need-returns
-returns c = byte-space _ _ _ _ (c .if1 .taken)
+returns c = byte-space _ _ _ _ _ (c .if1 .taken)
 
-put-run-requires : tie.Need-put-run-requires
-put-run-requires c κs = search needs
+mul-put-entry : tie.Need-mul-put-entry
+mul-put-entry c = search needs
 
-put-char-requires : tie.Need-put-char-requires
-put-char-requires c κs = (
-  omega (arith, c .before .before .before .put-run .ensures .0, run-length (c .before .before .before .before .before .before .before .args .s)),
-  omega (arith, c .before .before .before .put-run .kept .0, c .before .before .before .before .before .before .before .pre .2),
-)
+shared-slice-read-put-entry : tie.Need-shared-slice-read-put-entry
+shared-slice-read-put-entry c = search needs
+
+put-entry-requires : tie.Need-put-entry-requires
+put-entry-requires c κs = (search needs, c .before .before .before .before .before .before .pre .0 .count _ (search needs))
 
 same-length : tie.Need-same-length
 same-length c = search needs
 
 returns-2 : tie.Need-returns-2
-returns-2 c =
-    byte-code _ _ _ _ _ _ _ _ (c .before .before .before .before .before .before .before .before .if1 .left)
-    (c .before .before .before .before .before .before .put-run .ensures) (c .before .before .put-char .ensures)
+returns-2 c = byte-alone _ _ _ _ _ _ _ (c .before .before .before .before .before .before .if1 .left) (c .before .before .before .before .before .if2 .taken) (c .before .before .put-entry .ensures)
+
+put-run-requires : tie.Need-put-run-requires
+put-run-requires c κs = search needs
+
+mul-put-entry-2 : tie.Need-mul-put-entry-2
+mul-put-entry-2 c = search needs
+
+shared-slice-read-put-entry-2 : tie.Need-shared-slice-read-put-entry-2
+shared-slice-read-put-entry-2 c = search needs
+
+put-entry-requires-2 : tie.Need-put-entry-requires-2
+put-entry-requires-2 c κs = (omega (arith, c .before .before .before .before .put-run .ensures .0, run-length (c .before .before .before .before .before .before .before .before .before .before .args .s)), c .before .before .before .before .before .before .before .before .before .before .pre .0 .count _ (search needs))
+
+same-length-2 : tie.Need-same-length-2
+same-length-2 c = search needs
+
+returns-3 : tie.Need-returns-3
+returns-3 c = byte-code _ _ _ _ _ _ _ _ _ (c .before .before .before .before .before .before .before .before .before .before .if1 .left) (c .before .before .before .before .before .before .before .put-run .ensures) (c .before .before .put-entry2 .ensures)
 
 pub put-byte-spec : {M : Type 1} → statement M
 put-byte-spec =
-    tie.close (tie.spec add-t8 returns put-run-requires put-char-requires same-length returns-2)
+    tie.close
+    (tie.spec
+    add-t10
+    returns
+    mul-put-entry
+    shared-slice-read-put-entry
+    put-entry-requires
+    same-length
+    returns-2
+    put-run-requires
+    mul-put-entry-2
+    shared-slice-read-put-entry-2
+    put-entry-requires-2
+    same-length-2
+    returns-3)

@@ -1,15 +1,9 @@
 -- `text_writer::put_run` meets its contract.
 -- Assumes nothing.
-use mathlib.Core.Path.{ap}
 use borrow.Author.Needs.{needs}
-use Rattle.format.specs.ShipText.{fulls, rest, spaceRun}
-use Rattle.laws.proofs.Stores.{store-none, run-stored}
+use Rattle.laws.proofs.Stores.{run-stored}
 use Rattle.text_writer.proofs.put_run.Statement.{statement}
 use Rattle.text_writer.proofs.put_run.Tie as tie
-
-returns : tie.Need-returns
-unfolding spaceRun fulls rest
-returns c = store-none _ _ _ (ap spaceRun (c .if1 .taken))
 
 put-fulls-requires : tie.Need-put-fulls-requires
 put-fulls-requires c κs = search needs
@@ -26,17 +20,10 @@ put-rest-requires c κs = search needs
 same-length : tie.Need-same-length
 same-length c = search needs
 
-returns-2 : tie.Need-returns-2
-returns-2 c = run-stored _ _ _ _ _ _ (c .before .before .before .before .before .before .put-fulls .ensures) (c .before .before .put-rest .ensures)
+returns : tie.Need-returns
+returns c = run-stored _ _ _ _ _ _ (c .before .before .before .before .before .before .put-fulls .ensures) (c .before .before .put-rest .ensures)
 
 pub put-run-spec : {M : Type 1} → statement M
 put-run-spec =
     tie.close
-    (tie.spec
-    returns
-    put-fulls-requires
-    mul-put-rest
-    add-put-rest
-    put-rest-requires
-    same-length
-    returns-2)
+    (tie.spec put-fulls-requires mul-put-rest add-put-rest put-rest-requires same-length returns)

@@ -10,10 +10,10 @@ use Rattle.text_writer.proofs.put_text.Statement.{statement}
 use Rattle.text_writer.proofs.put_text.Tie as tie
 
 abbrev Inv-loop : tie.InvT-loop
-Inv-loop t out₀ at₀ s₀ i₀ out at s i = Writing t out₀ at s i out
+Inv-loop codes t out₀ at₀ s₀ i₀ out at s i = Writing t out₀ at s i out
 
 abbrev μ-loop : tie.MeasureT-loop
-μ-loop t out₀ at₀ s₀ i₀ out at s i = length t - i
+μ-loop codes t out₀ at₀ s₀ i₀ out at s i = length t - i
 
 loop-holds : tie.Need-loop-holds Inv-loop μ-loop
 loop-holds c = writing-none _ _
@@ -22,19 +22,14 @@ shared-slice-read-put-byte : tie.Need-shared-slice-read-put-byte Inv-loop μ-loo
 shared-slice-read-put-byte c = search needs
 
 put-byte-requires : tie.Need-put-byte-requires Inv-loop μ-loop
-put-byte-requires c κs = (
-  c .before .before .before .loop .inv .room,
-  omega (arith, c .before .before .before .loop .inv .few, c .before .before .before .before .before .before .good .0 .1),
-  omega (arith, writing-length _ _ _ _ _ _ (c .before .before .before .loop .inv), c .before .before .before .before .before .before .pre),
-)
+put-byte-requires c κs = (c .before .before .before .before .before .before .before .pre .1, c .before .before .before .loop .inv .room, omega (arith, c .before .before .before .loop .inv .few, c .before .before .before .before .before .before .before .good .1 .1))
 
 same-length : tie.Need-same-length Inv-loop μ-loop
-same-length c = c .before .before .before .put-byte .kept .0 ∙ writing-length _ _ _ _ _ _ (c .before .before .before .before .before .before .before .loop .inv)
+same-length c = c .before .before .before .put-byte .kept .1 .0 ∙ writing-length _ _ _ _ _ _ (c .before .before .before .before .before .before .before .loop .inv)
 
 returns : tie.Need-returns Inv-loop μ-loop
 returns c =
-    let loop = c .before .before .before .before .before .before .before .loop in
-    writing-long _ _ _ _ _ _ _ _ _ _ (loop .inv) (search needs) refl (omega (arith, c .before .before .before .before .shared-slice-known2 .given (loop .i)))
+    writing-long _ _ _ (c .before .before .before .before .before .before .before .before .before .before .before .pre .0) _ _ _ _ _ _ _ _ (c .before .before .before .before .before .before .before .loop .inv) (search needs) refl (omega (arith, c .before .before .before .before .shared-slice-known3 .given (c .before .before .before .before .before .before .before .loop .i)))
     (c .before .before .before .put-byte .ensures) (c .if1 .taken)
 
 add-i : tie.Need-add-i Inv-loop μ-loop
@@ -45,15 +40,14 @@ loop-less c = search needs
 
 loop-again : tie.Need-loop-again Inv-loop μ-loop
 loop-again c =
-    let loop = c .before .before .before .before .before .before .before .loop in
-    writing-more _ _ _ _ _ _ _ _ _ _ (loop .inv) (search needs) refl (omega (arith, c .before .before .before .before .shared-slice-known2 .given (loop .i)))
-    (c .before .before .before .put-byte .ensures) (c .if1 .left)
+    writing-more _ _ _ (c .before .before .before .before .before .before .before .before .before .before .before .pre .0) _ _ _ _ _ _ _ _ (c .before .before .before .before .before .before .before .loop .inv) (search needs) refl (omega (arith, c .before .before .before .before .shared-slice-known3 .given (c .before .before .before .before .before .before .before .loop .i)))
+    (c .before .before .before .put-byte .ensures) (c .before .before .before .before .before .before .before .before .before .before .before .pre .2) (c .if1 .left)
 
 same-length-2 : tie.Need-same-length-2 Inv-loop μ-loop
 same-length-2 c = writing-length _ _ _ _ _ _ (c .before .loop .inv)
 
 returns-2 : tie.Need-returns-2 Inv-loop μ-loop
-returns-2 c = writing-end _ _ _ _ _ _ (c .before .loop .inv) (search needs) (c .before .before .before .before .pre)
+returns-2 c = writing-end _ _ _ _ _ _ (c .before .loop .inv) (search needs) (c .before .before .before .before .before .pre .2)
 
 pub put-text-spec : {M : Type 1} → statement M
 put-text-spec =

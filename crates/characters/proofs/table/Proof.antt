@@ -1,0 +1,14 @@
+-- `characters::table` meets its contract: the constant has the rule's entry at each of the 256 bytes, which antt computes.
+-- Assumes nothing.
+use mathlib.Core.Path.{refl}
+use Rattle.format.specs.ShipText.{charCode, codeNibbles, upFrom, entry, charTable}
+use Rattle.characters.proofs.Entries.{formed}
+use Rattle.characters.proofs.table.Statement.{statement}
+use Rattle.characters.proofs.table.Tie as tie
+
+returns : tie.Need-returns
+unfolding charTable upFrom entry codeNibbles charCode
+returns c = (refl, formed _ refl)
+
+pub table-spec : {M : Type 1} → statement M
+table-spec = tie.close (tie.spec returns)
