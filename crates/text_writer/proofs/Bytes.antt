@@ -1,6 +1,6 @@
 -- The writer: one byte, and its loop.
 -- Assumes nothing.
-use Prim.Native.Nat.{ℕ, _+_, _%_, _≤_, _<_}
+use Prim.Native.Nat.{ℕ, _+_, _-_, _%_, _≤_, _<_}
 use native.Mathlib.Omega.{arith}
 use native.Mathlib.Numerals.{add-one}
 use mathlib.Core.Path.{_≡_, refl, sym, ap, ap₂, _∙_}
@@ -21,22 +21,24 @@ use Rattle.laws.proofs.Stores.{stores, stores-length, stores-over}
 
 -- ---- one byte
 
--- a byte taken: the place, the spaces that wait, and what is laid if there is room
+-- a byte taken behind s - 1 spaces: the place, one more than the spaces that wait, and what is laid if there is room
 abbrev pub Taken : List ℕ → ℕ → ℕ → ℕ → ℕ → ℕ → List ℕ → List ℕ → Type 0
-Taken t at s b x z d o = (x ≡ at + length (pieceBy t s b)) × (z ≡ waiting s b) × (x ≤ length d → o ≡ sets d at (pieceBy t s b))
+Taken t at s b x z d o =
+    (x ≡ at + length (pieceBy t (s - 1) b)) × (z ≡ waiting (s - 1) b + 1) × (x ≤ length d → o ≡ sets d at (pieceBy t (s - 1) b))
 
-pub byte-space : (t : List ℕ) (at s b : ℕ) (d : List ℕ) → b ≡ 32 → Taken t at s b at (s + 1) d d
+pub byte-space : (t : List ℕ) (at s b : ℕ) (d : List ℕ) → 1 ≤ s → b ≡ 32 → Taken t at s b at (s + 1) d d
 unfolding pieceBy waiting
-byte-space t at s b d e = rw (eq-eqb b 32 e) (omega arith, refl, λ _. refl)
+byte-space t at s b d h e = rw (eq-eqb b 32 e) (omega arith, omega arith, λ _. refl)
 
-pub byte-code : (t : List ℕ) (at s b a x : ℕ) (d o p : List ℕ) → (b ≡ 32 → ⊥) → (a ≡ at + length (spaceRun s)) × (o ≡ sets d at (spaceRun s))
-    → (x ≡ a + length (nibblesAt t b)) × (x ≤ length o → p ≡ sets o a (nibblesAt t b)) → Taken t at s b x 0 d p
+pub byte-code : (t : List ℕ) (at s b a x : ℕ) (d o p : List ℕ) → (b ≡ 32 → ⊥) → (a ≡ at + length (spaceRun (s - 1))) × (o ≡ sets d at (spaceRun (s - 1)))
+    → (x ≡ a + length (nibblesAt t b)) × (x ≤ length o → p ≡ sets o a (nibblesAt t b)) → Taken t at s b x 1 d p
 unfolding pieceBy waiting
 byte-code t at s b a x d o p n f g =
+    let run = spaceRun (s - 1) in
     rw (ne-eqb b 32 n) (
-      omega (arith, f .0, g .0, length-append (spaceRun s) (nibblesAt t b)),
+      omega (arith, f .0, g .0, length-append run (nibblesAt t b)),
       refl,
-      λ r. stores d o p (spaceRun s) (nibblesAt t b) at a (f .1) (f .0) (g .1 (omega (arith, stores-length d o (spaceRun s) at (f .1)))),
+      λ r. stores d o p run (nibblesAt t b) at a (f .1) (f .0) (g .1 (omega (arith, stores-length d o run at (f .1)))),
     )
 
 no-run : (at : ℕ) (d : List ℕ) → (at ≡ at + length (spaceRun 0)) × (d ≡ sets d at (spaceRun 0))
@@ -44,9 +46,11 @@ unfolding spaceRun fulls rest
 no-run at d = (omega arith, refl)
 
 -- the same with no space before it
-pub byte-alone : (t : List ℕ) (at s b x : ℕ) (d p : List ℕ) → (b ≡ 32 → ⊥) → s ≡ 0
-    → (x ≡ at + length (nibblesAt t b)) × (x ≤ length d → p ≡ sets d at (nibblesAt t b)) → Taken t at s b x 0 d p
-byte-alone t at s b x d p n e g = byte-code t at s b at x d d p n (rw e (no-run at d)) g
+pub byte-alone : (t : List ℕ) (at s b x : ℕ) (d p : List ℕ) → (b ≡ 32 → ⊥) → s ≡ 1
+    → (x ≡ at + length (nibblesAt t b)) × (x ≤ length d → p ≡ sets d at (nibblesAt t b)) → Taken t at s b x 1 d p
+byte-alone t at s b x d p n e g =
+    let none : s - 1 ≡ 0 = omega arith in
+    byte-code t at s b at x d d p n (rw none (no-run at d)) g
 
 -- by the table of the characters it is the writer's piece
 piece-is : (t : List ℕ) (s b : ℕ) → t ≡ charTable → b < 256 → pieceBy t s b ≡ piece s b
@@ -79,39 +83,45 @@ module _ (t d : List ℕ) where
   pub writing-length : (at s i : ℕ) (out : List ℕ) → Writing t d at s i out → length out ≡ length d
   writing-length at s i out w = stores-length d out (w .done) 0 (w .laid)
 
-  module _ (codes : List ℕ) (c : codes ≡ charTable) (at s i x z b : ℕ) (out o : List ℕ) (w : Writing t d at s i out) (h : i < length t) (e : b ≡ getD t i 0) (k : b < 256)
-      (taken : Taken codes at s b x z out o) where
-    f : (x ≡ at + length (piece s b)) × (z ≡ waiting s b) × (x ≤ length out → o ≡ sets out at (piece s b))
-    f = rw (piece-is codes s b c k) at taken
+  module _ (codes : List ℕ) (c : codes ≡ charTable) (at s i x z b : ℕ) (out o : List ℕ) (w : Writing t d at (s - 1) i out) (h : i < length t)
+      (e : b ≡ getD t i 0) (k : b < 256) (taken : Taken codes at s b x z out o) where
+    f : (x ≡ at + length (piece (s - 1) b)) × (z ≡ waiting (s - 1) b + 1) × (x ≤ length out → o ≡ sets out at (piece (s - 1) b))
+    f = rw (piece-is codes (s - 1) b c k) at taken
 
-    step-rest : writeText t ≡ (w .done ++ piece s b) ++ writeFrom z (map classify (drop (i + 1) t))
+    waits : waiting (s - 1) b ≡ z - 1
+    waits = omega (arith, f .1)
+
+    step-rest : writeText t ≡ (w .done ++ piece (s - 1) b) ++ writeFrom (z - 1) (map classify (drop (i + 1) t))
     step-rest =
         w .rest
-        ∙ ap (λ (l : List ℕ). w .done ++ writeFrom s (map classify l)) (drop-cons t i 0 h ∙ ap₂ _∷_ (sym e) (ap (λ (m : ℕ). drop m t) (sym (add-one i))))
-        ∙ ap (λ (l : List ℕ). w .done ++ l) (write-byte s b (map classify (drop (i + 1) t)) k)
-        ∙ sym (append-assoc (w .done) (piece s b) (writeFrom (waiting s b) (map classify (drop (i + 1) t))))
-        ∙ ap (λ (m : ℕ). (w .done ++ piece s b) ++ writeFrom m (map classify (drop (i + 1) t))) (sym (f .1))
+        ∙ ap (λ (l : List ℕ). w .done ++ writeFrom (s - 1) (map classify l)) (drop-cons t i 0 h ∙ ap₂ _∷_ (sym e) (ap (λ (m : ℕ). drop m t) (sym (add-one i))))
+        ∙ ap (λ (l : List ℕ). w .done ++ l) (write-byte (s - 1) b (map classify (drop (i + 1) t)) k)
+        ∙ sym (append-assoc (w .done) (piece (s - 1) b) (writeFrom (waiting (s - 1) b) (map classify (drop (i + 1) t))))
+        ∙ ap (λ (m : ℕ). (w .done ++ piece (s - 1) b) ++ writeFrom m (map classify (drop (i + 1) t))) waits
 
-    step-place : x ≡ length (w .done ++ piece s b)
-    step-place = omega (arith, f .0, w .place, length-append (w .done) (piece s b))
+    step-place : x ≡ length (w .done ++ piece (s - 1) b)
+    step-place = omega (arith, f .0, w .place, length-append (w .done) (piece (s - 1) b))
 
-    pub writing-more : length d ≡ 255 → x ≤ 255 → Writing t d x z (i + 1) o
+    pub writing-more : length d ≡ 255 → x ≤ 255 → (1 ≤ z) × Writing t d x (z - 1) (i + 1) o
     writing-more n r =
-        let p : at ≡ 0 + length (w .done) = omega (arith, w .place) in
-        record {
-          inside = omega arith;
-          few = omega (arith, f .1, waiting-bound s b, w .few);
-          room = r;
-          done = w .done ++ piece s b;
-          place = step-place;
-          rest = step-rest;
-          laid = stores d out o (w .done) (piece s b) 0 at (w .laid) p (f .2 (omega (arith, writing-length at s i out w)));
-        }
+        let p : at ≡ 0 + length (w .done) = omega (arith, w .place) in (
+          omega (arith, f .1),
+          record {
+            inside = omega arith;
+            few = omega (arith, f .1, waiting-bound (s - 1) b, w .few);
+            room = r;
+            done = w .done ++ piece (s - 1) b;
+            place = step-place;
+            rest = step-rest;
+            laid = stores d out o (w .done) (piece (s - 1) b) 0 at (w .laid) p (f .2 (omega (arith, writing-length at (s - 1) i out w)));
+          },
+        )
 
     pub writing-long : 255 < x → Writes t d o TooLong
     unfolding writtenOf
     writing-long r =
-        let l : 255 < length (writeText t) = omega (arith, step-place, ap length step-rest, length-append (w .done ++ piece s b) (writeFrom z (map classify (drop (i + 1) t)))) in
+        let rest = writeFrom (z - 1) (map classify (drop (i + 1) t)) in
+        let l : 255 < length (writeText t) = omega (arith, step-place, ap length step-rest, length-append (w .done ++ piece (s - 1) b) rest) in
         record { answer = rw (lt-leb (length (writeText t)) 255 l); nibbles = λ n. absurd (omega arith) }
 
   pub writing-end : (at s i : ℕ) (out : List ℕ) → Writing t d at s i out → length t ≤ i → length d ≡ 255 → Writes t d out (Fits at)

@@ -1,6 +1,6 @@
 // The ship text of attachment 4: the nibbles of a text.
 ghost use mathlib.Core.Path.{_≡_};
-ghost use Prim.Native.Nat.{_+_, _*_, _/_, _%_, _≤_, _<_, _^_};
+ghost use Prim.Native.Nat.{_+_, _-_, _*_, _/_, _%_, _≤_, _<_, _^_};
 ghost use lib.ListN.{length, set};
 ghost use lib.Seq.{sets};
 ghost use Rattle.format.specs.ShipText.{codeNibbles, charTable, fulls, rest, spaceRun};
@@ -85,26 +85,27 @@ fn put_entry(out: &mut [u8], at: usize, w: u16) -> usize
 
 struct Placed {
     at: usize,
-    // The spaces that wait.
-    waiting: usize,
+    // The spaces that wait, and one.
+    next: usize,
 }
 
-// Takes a byte of the text behind s spaces: the nibbles are those of the table, whichever it is.
+// Takes a byte of the text behind s - 1 spaces: the nibbles are those of the table, whichever it is. The compiler takes a count
+// of 0 for the rare case, so that they are counted from 1.
 fn put_byte(codes: &[u16], out: &mut [u8], at: usize, s: usize, b: u8) -> Placed
-    requires { ⌜ Formed (now codes) × (at ≤ 255) × (s < 2 ^ 63) ⌝ }
-    ensures { λ r. ⌜ (r .at ≡ at + length (pieceBy (now (codes .entry)) s b)) × (r .waiting ≡ waiting s b)
-        × (r .at ≤ length (now (out .entry)) → now (out .exit) ≡ sets (now (out .entry)) at (pieceBy (now (codes .entry)) s b)) ⌝ }
+    requires { ⌜ Formed (now codes) × (at ≤ 255) × (1 ≤ s) × (s ≤ 2 ^ 63) ⌝ }
+    ensures { λ r. ⌜ (r .at ≡ at + length (pieceBy (now (codes .entry)) (s - 1) b)) × (r .next ≡ waiting (s - 1) b + 1)
+        × (r .at ≤ length (now (out .entry)) → now (out .exit) ≡ sets (now (out .entry)) at (pieceBy (now (codes .entry)) (s - 1) b)) ⌝ }
 {
     if b == 32 {
-        return Placed { at, waiting: s + 1 };
+        return Placed { at, next: s + 1 };
     }
-    if s == 0 {
+    if s == 1 {
         let e = put_entry(out, at, codes[b as usize]);
-        return Placed { at: e, waiting: 0 };
+        return Placed { at: e, next: 1 };
     }
-    let a = put_run(out, at, s);
+    let a = put_run(out, at, s - 1);
     let e = put_entry(out, a, codes[b as usize]);
-    Placed { at: e, waiting: 0 }
+    Placed { at: e, next: 1 }
 }
 
 pub enum Written {
@@ -119,12 +120,12 @@ fn put_text(codes: &[u16], t: &[u8], out: &mut [u8]) -> Written
     ensures { λ r. ⌜ Writes (now (t .entry)) (now (out .entry)) (now (out .exit)) r ⌝ }
 {
     let mut at = 0;
-    let mut s = 0;
+    let mut s = 1;
     let mut i = 0;
     while i < t.len() {
         let p = put_byte(codes, out, at, s, t[i]);
         at = p.at;
-        s = p.waiting;
+        s = p.next;
         if 255 < at {
             return Written::TooLong;
         }

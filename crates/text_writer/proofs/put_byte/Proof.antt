@@ -1,5 +1,6 @@
 -- `text_writer::put_byte` meets its contract.
 -- Assumes nothing.
+use Prim.Native.Nat.{_-_}
 use native.Mathlib.Omega.{arith}
 use borrow.Author.Needs.{needs}
 use Rattle.laws.proofs.ShipText.{run-length}
@@ -11,7 +12,7 @@ add-t10 : tie.Need-add-t10
 add-t10 c = search needs
 
 returns : tie.Need-returns
-returns c = byte-space _ _ _ _ _ (c .if1 .taken)
+returns c = byte-space _ _ _ _ _ (search needs) (c .if1 .taken)
 
 mul-put-entry : tie.Need-mul-put-entry
 mul-put-entry c = search needs
@@ -28,6 +29,9 @@ same-length c = search needs
 returns-2 : tie.Need-returns-2
 returns-2 c = byte-alone _ _ _ _ _ _ _ (c .before .before .before .before .before .before .if1 .left) (c .before .before .before .before .before .if2 .taken) (c .before .before .put-entry .ensures)
 
+sub-put-run : tie.Need-sub-put-run
+sub-put-run c = search needs
+
 put-run-requires : tie.Need-put-run-requires
 put-run-requires c κs = search needs
 
@@ -38,7 +42,7 @@ shared-slice-read-put-entry-2 : tie.Need-shared-slice-read-put-entry-2
 shared-slice-read-put-entry-2 c = search needs
 
 put-entry-requires-2 : tie.Need-put-entry-requires-2
-put-entry-requires-2 c κs = (omega (arith, c .before .before .before .before .put-run .ensures .0, run-length (c .before .before .before .before .before .before .before .before .before .before .args .s)), c .before .before .before .before .before .before .before .before .before .before .pre .0 .count _ (search needs))
+put-entry-requires-2 c κs = (omega (arith, c .before .before .before .before .put-run .ensures .0, run-length (c .before .before .before .before .before .before .before .before .before .before .args .s - 1)), c .before .before .before .before .before .before .before .before .before .before .pre .0 .count _ (search needs))
 
 same-length-2 : tie.Need-same-length-2
 same-length-2 c = search needs
@@ -57,6 +61,7 @@ put-byte-spec =
     put-entry-requires
     same-length
     returns-2
+    sub-put-run
     put-run-requires
     mul-put-entry-2
     shared-slice-read-put-entry-2

@@ -1,6 +1,6 @@
 -- `text_writer::put_text` meets its contract.
 -- Assumes nothing.
-use Prim.Native.Nat.{_-_}
+use Prim.Native.Nat.{_-_, _≤_}
 use native.Mathlib.Omega.{arith}
 use mathlib.Core.Path.{refl, _∙_}
 use lib.ListN.{length}
@@ -10,26 +10,26 @@ use Rattle.text_writer.proofs.put_text.Statement.{statement}
 use Rattle.text_writer.proofs.put_text.Tie as tie
 
 abbrev Inv-loop : tie.InvT-loop
-Inv-loop codes t out₀ at₀ s₀ i₀ out at s i = Writing t out₀ at s i out
+Inv-loop codes t out₀ at₀ s₀ i₀ out at s i = (1 ≤ s) × Writing t out₀ at (s - 1) i out
 
 abbrev μ-loop : tie.MeasureT-loop
 μ-loop codes t out₀ at₀ s₀ i₀ out at s i = length t - i
 
 loop-holds : tie.Need-loop-holds Inv-loop μ-loop
-loop-holds c = writing-none _ _
+loop-holds c = (omega arith, writing-none _ _)
 
 shared-slice-read-put-byte : tie.Need-shared-slice-read-put-byte Inv-loop μ-loop
 shared-slice-read-put-byte c = search needs
 
 put-byte-requires : tie.Need-put-byte-requires Inv-loop μ-loop
-put-byte-requires c κs = (c .before .before .before .before .before .before .before .pre .1, c .before .before .before .loop .inv .room, omega (arith, c .before .before .before .loop .inv .few, c .before .before .before .before .before .before .before .good .1 .1))
+put-byte-requires c κs = (c .before .before .before .before .before .before .before .pre .1, c .before .before .before .loop .inv .1 .room, c .before .before .before .loop .inv .0, omega (arith, c .before .before .before .loop .inv .1 .few, c .before .before .before .before .before .before .before .good .1 .1))
 
 same-length : tie.Need-same-length Inv-loop μ-loop
-same-length c = c .before .before .before .put-byte .kept .1 .0 ∙ writing-length _ _ _ _ _ _ (c .before .before .before .before .before .before .before .loop .inv)
+same-length c = c .before .before .before .put-byte .kept .1 .0 ∙ writing-length _ _ _ _ _ _ (c .before .before .before .before .before .before .before .loop .inv .1)
 
 returns : tie.Need-returns Inv-loop μ-loop
 returns c =
-    writing-long _ _ _ (c .before .before .before .before .before .before .before .before .before .before .before .pre .0) _ _ _ _ _ _ _ _ (c .before .before .before .before .before .before .before .loop .inv) (search needs) refl (omega (arith, c .before .before .before .before .shared-slice-known3 .given (c .before .before .before .before .before .before .before .loop .i)))
+    writing-long _ _ _ (c .before .before .before .before .before .before .before .before .before .before .before .pre .0) _ _ _ _ _ _ _ _ (c .before .before .before .before .before .before .before .loop .inv .1) (search needs) refl (omega (arith, c .before .before .before .before .shared-slice-known3 .given (c .before .before .before .before .before .before .before .loop .i)))
     (c .before .before .before .put-byte .ensures) (c .if1 .taken)
 
 add-i : tie.Need-add-i Inv-loop μ-loop
@@ -40,14 +40,14 @@ loop-less c = search needs
 
 loop-again : tie.Need-loop-again Inv-loop μ-loop
 loop-again c =
-    writing-more _ _ _ (c .before .before .before .before .before .before .before .before .before .before .before .pre .0) _ _ _ _ _ _ _ _ (c .before .before .before .before .before .before .before .loop .inv) (search needs) refl (omega (arith, c .before .before .before .before .shared-slice-known3 .given (c .before .before .before .before .before .before .before .loop .i)))
+    writing-more _ _ _ (c .before .before .before .before .before .before .before .before .before .before .before .pre .0) _ _ _ _ _ _ _ _ (c .before .before .before .before .before .before .before .loop .inv .1) (search needs) refl (omega (arith, c .before .before .before .before .shared-slice-known3 .given (c .before .before .before .before .before .before .before .loop .i)))
     (c .before .before .before .put-byte .ensures) (c .before .before .before .before .before .before .before .before .before .before .before .pre .2) (c .if1 .left)
 
 same-length-2 : tie.Need-same-length-2 Inv-loop μ-loop
-same-length-2 c = writing-length _ _ _ _ _ _ (c .before .loop .inv)
+same-length-2 c = writing-length _ _ _ _ _ _ (c .before .loop .inv .1)
 
 returns-2 : tie.Need-returns-2 Inv-loop μ-loop
-returns-2 c = writing-end _ _ _ _ _ _ (c .before .loop .inv) (search needs) (c .before .before .before .before .before .pre .2)
+returns-2 c = writing-end _ _ _ _ _ _ (c .before .loop .inv .1) (search needs) (c .before .before .before .before .before .pre .2)
 
 pub put-text-spec : {M : Type 1} → statement M
 put-text-spec =
