@@ -1,6 +1,7 @@
 /*
- * Tries the header's numbers of refusals, flags and flag values on the library: for each refusal a call that has to be
- * refused so, and the ends of the flags and of their values. Says each difference, and fails if there is one.
+ * Tries the header's numbers of refusals, flags, flag values and characters on the library: for each refusal a call that has
+ * to be refused so, the ends of the flags and of their values, the entries that the header names and what stands about the
+ * table. Says each difference, and fails if there is one.
  */
 #include "lmr5.h"
 
@@ -79,11 +80,34 @@ static void flags(void) {
     see("value 11", lmr5_set_flag(report, ROOM, last, most + 1), LMR5_REFUSED_VALUE, last);
 }
 
+static void see_entry(const char *what, uint16_t entry, uint16_t due) {
+    if (entry == due)
+        return;
+    printf("include/lmr5.h: the entry of %s: 0x%04x\n", what, (unsigned)entry);
+    differences++;
+}
+
+/* The table lies between two entries that stay. */
+static void characters(void) {
+    uint16_t room[258];
+    for (size_t i = 0; i < 258; i++)
+        room[i] = 0xa5a5;
+    lmr5_character_table(room + 1);
+    see_entry("A", room[1 + 'A'], 0x20c1);
+    see_entry("a", room[1 + 'a'], 0x3f61);
+    see_entry("the space", room[1 + ' '], 0x100a);
+    see_entry("byte 0", room[1], 0x3f00);
+    see_entry("byte 255", room[1 + 255], 0x3fff);
+    see_entry("what stands before", room[0], 0xa5a5);
+    see_entry("what stands behind", room[257], 0xa5a5);
+}
+
 int main(void) {
     by_the_report();
     by_an_argument();
     flags();
+    characters();
     if (differences == 0)
-        puts("include/lmr5.h: the numbers of refusals and flags as in the library");
+        puts("include/lmr5.h: the numbers of refusals, flags and characters as in the library");
     return differences != 0;
 }

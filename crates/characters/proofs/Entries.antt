@@ -1,6 +1,6 @@
 -- Runs of entries, stored one after another, and the table that the rules give, which agrees with the reader.
 -- Assumes nothing.
-use Prim.Native.Nat.{ℕ, zero, suc, _+_, _%_, _≤_, _<_}
+use Prim.Native.Nat.{ℕ, zero, suc, _+_, _%_, _<_}
 use native.Mathlib.Omega.{arith}
 use native.Mathlib.Nat.{add-zero}
 use mathlib.Core.Path.{_≡_, refl, sym, ap, _∙_}
@@ -31,11 +31,6 @@ pub run-more : (d o : List ℕ) (at a i : ℕ) → o ≡ sets d at (upFrom a i) 
 run-more d o at a i e =
     let k : at + i ≡ at + length (upFrom a i) = omega (arith, up-from-length i a) in
     stores d o (set o (at + i) (a + i)) (upFrom a i) ((a + i) ∷ []) at (at + i) e k refl ∙ ap (sets d at) (up-from-more i a)
-
-pub run-end : (d o : List ℕ) (at a n i : ℕ) → o ≡ sets d at (upFrom a i) → i ≤ n → n ≤ i → o ≡ sets d at (upFrom a n)
-run-end d o at a n i e h k =
-    let j : i ≡ n = omega arith in
-    e ∙ ap (λ (x : ℕ). sets d at (upFrom a x)) j
 
 -- ---- the table
 

@@ -26,6 +26,12 @@ stores d o p xs ys at k e f g = g ∙ ap₂ (λ (l : List ℕ) (j : ℕ). sets l
 pub stores-length : (d o xs : List ℕ) (at : ℕ) → o ≡ sets d at xs → length o ≡ length d
 stores-length d o xs at e = ap length e ∙ length-sets d at xs
 
+-- a loop's stores, at its end
+pub stores-end : (f : ℕ → List ℕ) (d o : List ℕ) (at n i : ℕ) → o ≡ sets d at (f i) → i ≤ n → n ≤ i → o ≡ sets d at (f n)
+stores-end f d o at n i e h k =
+    let j : i ≡ n = omega arith in
+    e ∙ ap (λ (m : ℕ). sets d at (f m)) j
+
 -- stores from the first place on
 pub stores-over : (d o xs : List ℕ) → length xs ≤ length d → o ≡ sets d 0 xs → o ≡ over xs d
 stores-over d o xs h e =
@@ -57,11 +63,6 @@ bytes-more d o at i b e =
     let k : at + i ≡ at + length (replicate {A = ℕ} i b) = omega (arith, length-replicate {A = ℕ} i b) in
     stores d o (set o (at + i) b) (replicate i b) (b ∷ []) at (at + i) e k refl ∙ ap (sets d at) (replicate-append-replicate i 1 b)
 
-pub bytes-end : (d o : List ℕ) (at n i b : ℕ) → o ≡ sets d at (replicate i b) → i ≤ n → n ≤ i → o ≡ sets d at (replicate n b)
-bytes-end d o at n i b e h k =
-    let j : i ≡ n = omega arith in
-    e ∙ ap (λ (x : ℕ). sets d at (replicate x b)) j
-
 pub byte-one : (d : List ℕ) (at n b : ℕ) → n ≡ 1 → set d at b ≡ sets d at (replicate n b)
 byte-one d at n b e = rw e
 
@@ -77,9 +78,6 @@ fulls-turn d o p q at i e f g =
     let k : at + 2 * i ≡ at + length (fulls i) = omega (arith, fulls-length i) in
     stores d o q (fulls i) (11 ∷ 15 ∷ []) at (at + 2 * i) e k (store-two o (at + 2 * i) (11 ∷ 15 ∷ []) p q 11 15 refl f g .1)
     ∙ ap (sets d at) (sym (fulls-more i) ∙ ap fulls (sym (add-one i)))
-
-pub fulls-end : (d o : List ℕ) (at k i : ℕ) → o ≡ sets d at (fulls i) → i ≤ k → k ≤ i → o ≡ sets d at (fulls k)
-fulls-end d o at k i e h g = let j : i ≡ k = omega arith in e ∙ ap (λ (m : ℕ). sets d at (fulls m)) j
 
 pub rest-is : (r : ℕ) → 3 ≤ r → rest r ≡ 11 ∷ (r - 3) ∷ []
 unfolding rest

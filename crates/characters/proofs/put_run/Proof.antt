@@ -6,8 +6,8 @@ use mathlib.Core.Path.{_≡_}
 use borrow.Author.Needs.{needs}
 use lib.Seq.{sets}
 use Rattle.format.specs.ShipText.{upFrom}
-use Rattle.laws.proofs.Stores.{stores-length}
-use Rattle.characters.proofs.Entries.{run-none, run-more, run-end}
+use Rattle.laws.proofs.Stores.{stores-length, stores-end}
+use Rattle.characters.proofs.Entries.{run-none, run-more}
 use Rattle.characters.proofs.put_run.Statement.{statement}
 use Rattle.characters.proofs.put_run.Tie as tie
 
@@ -48,7 +48,7 @@ same-length : tie.Need-same-length Inv-loop μ-loop
 same-length c = stores-length _ _ (upFrom (c .before .before .args .first) (c .before .loop .i)) (c .before .before .args .at) (c .before .loop .inv .1)
 
 returns : tie.Need-returns Inv-loop μ-loop
-returns c = run-end _ _ _ _ _ (c .before .loop .i) (c .before .loop .inv .1) (c .before .loop .inv .0) (c .loop-test .left)
+returns c = stores-end (upFrom (c .before .before .args .first)) _ _ _ _ _ (c .before .loop .inv .1) (c .before .loop .inv .0) (c .loop-test .left)
 
 pub put-run-spec : {M : Type 1} → statement M
 put-run-spec =

@@ -1,11 +1,11 @@
 -- `text::put_bytes` meets its contract.
 -- Assumes nothing.
-use Prim.Native.Nat.{_-_, _≤_}
+use Prim.Native.Nat.{ℕ, _-_, _≤_}
 use native.Mathlib.Omega.{arith}
 use mathlib.Core.Path.{_≡_, refl}
 use lib.Seq.{sets}
 use lib.ListN.{replicate, length-set}
-use Rattle.laws.proofs.Stores.{stores-length, byte-one, bytes-more, bytes-end}
+use Rattle.laws.proofs.Stores.{stores-length, stores-end, byte-one, bytes-more}
 use Rattle.text.proofs.put_bytes.Statement.{statement}
 use Rattle.text.proofs.put_bytes.Tie as tie
 
@@ -46,7 +46,9 @@ same-length-2 : tie.Need-same-length-2 Inv-loop μ-loop
 same-length-2 c = stores-length _ _ (replicate (c .before .loop .i) (c .before .before .before .args .b)) (c .before .before .before .args .at) (c .before .loop .inv .1)
 
 returns-2 : tie.Need-returns-2 Inv-loop μ-loop
-returns-2 c = bytes-end _ _ _ _ (c .before .loop .i) _ (c .before .loop .inv .1) (c .before .loop .inv .0) (c .loop-test .left)
+returns-2 c =
+    let args = c .before .before .before .args in
+    stores-end (λ (x : ℕ). replicate x (args .b)) _ _ (args .at) _ _ (c .before .loop .inv .1) (c .before .loop .inv .0) (c .loop-test .left)
 
 pub put-bytes-spec : {M : Type 1} → statement M
 put-bytes-spec =

@@ -7,7 +7,7 @@ use mathlib.Core.Path.{_≡_}
 use lib.Seq.{sets}
 use borrow.Author.Needs.{needs}
 use Rattle.format.specs.ShipText.{fulls}
-use Rattle.laws.proofs.Stores.{stores-length, fulls-none, fulls-turn, fulls-end}
+use Rattle.laws.proofs.Stores.{stores-length, stores-end, fulls-none, fulls-turn}
 use Rattle.text_writer.proofs.put_fulls.Statement.{statement}
 use Rattle.text_writer.proofs.put_fulls.Tie as tie
 
@@ -58,7 +58,7 @@ same-length : tie.Need-same-length Inv-loop μ-loop
 same-length c = stores-length _ _ (fulls (c .before .loop .i)) (c .before .before .before .args .at) (c .before .loop .inv .1)
 
 returns : tie.Need-returns Inv-loop μ-loop
-returns c = fulls-end _ _ _ _ (c .before .loop .i) (c .before .loop .inv .1) (search needs) (search needs)
+returns c = stores-end fulls _ _ _ _ _ (c .before .loop .inv .1) (search needs) (search needs)
 
 pub put-fulls-spec : {M : Type 1} → statement M
 put-fulls-spec =
