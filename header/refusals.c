@@ -1,7 +1,7 @@
 /*
- * Tries the header's numbers of refusals, flags, flag values and characters on the library: for each refusal a call that has
- * to be refused so, the ends of the flags and of their values, the entries that the header names and what stands about the
- * table. Says each difference, and fails if there is one.
+ * Tries the header's numbers of refusals, flags and flag values on the library: for each refusal a call that has to be
+ * refused so, and the ends of the flags and of their values. Tries some entries of the table of the characters too, and that
+ * nothing about the table is written. Says each difference, and fails if there is one.
  */
 #include "lmr5.h"
 
@@ -108,6 +108,6 @@ int main(void) {
     flags();
     characters();
     if (differences == 0)
-        puts("include/lmr5.h: the numbers of refusals, flags and characters as in the library");
+        puts("include/lmr5.h: the numbers of refusals and flags as in the library, and entries of the table of the characters");
     return differences != 0;
 }

@@ -286,9 +286,9 @@ lmr5_answer lmr5_fetch_text(const uint8_t *report, size_t report_length, uint8_t
 
 /*
  * Writes all 256 entries of `table`. table[b] is the code of byte b in a ship text: 4096 times the number of its nibbles, plus
- * the nibbles read as one number. A byte without a short code has 3 nibbles, 15 and the byte. 'A' is 0x20c1, 'a' is 0x3f61.
- * One space is 0x100a; how a run of spaces is written no entry says. lmr5_put_text writes every byte but the space by these
- * entries.
+ * the nibbles as one number, the first one highest. 'A', nibbles 12 and 1, is 0x20c1. 'a' has no short code and is escaped:
+ * 0x3f61, nibbles 15, 6 and 1. One space is 0x100a; how a run of spaces is written no entry says. lmr5_put_text writes every
+ * byte but the space by these entries.
  */
 void lmr5_character_table(uint16_t table[256]);
 

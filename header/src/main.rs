@@ -1,7 +1,7 @@
 //! Compares include/lmr5.h with the functions and structs that crates/lmr5 exports, and its numbers with the definitions:
 //! fields, contents, kinds of a script's entries, the log's first bytes, labels, the longest report. Compares the field table
 //! of docs/FORMAT.md with the definitions. Says each difference, and fails if there is one. Its argument is the repository's
-//! folder. refusals.c tries the numbers of refusals and flags.
+//! folder. refusals.c tries the numbers of refusals and flags, and the table of the characters.
 mod code;
 mod header;
 mod page;

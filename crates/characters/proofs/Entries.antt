@@ -1,4 +1,4 @@
--- Runs of entries, stored one after another, and the table that the rules give, which agrees with the reader.
+-- Runs of entries, stored one after another, and the table that the rules give, which the reader reads back.
 -- Assumes nothing.
 use Prim.Native.Nat.{ℕ, zero, suc, _+_, _%_, _<_}
 use native.Mathlib.Omega.{arith}
@@ -8,9 +8,9 @@ use mathlib.Core.List.{List, [], _∷_, _++_, append-nil}
 use lib.ListN.{length, getD, set, drop-of-length-le}
 use lib.Seq.{sets}
 use Rattle.format.specs.ShipText.{upFrom, entry, charTable, charCode, codeNibbles}
-use Rattle.laws.proofs.Characters.{up-from-length, table-length, table-entry, entry-parts}
+use Rattle.laws.proofs.Characters.{up-from-length, char-table-length, char-table-entry, entry-parts}
 use Rattle.laws.proofs.Agreement.{entry-read, read-byte, read-entry}
-use Rattle.characters.specs.Table.{Formed, Agrees}
+use Rattle.characters.specs.Table.{Formed, ReadBack}
 use Rattle.laws.proofs.Stores.{stores, stores-over}
 
 -- ---- the loop
@@ -53,16 +53,16 @@ ruled a b c d e f g h i j k l a′ b′ c′ d′ e′ f′ g′ h′ i′ j′ 
 
 module _ (t : List ℕ) (e : t ≡ charTable) where
   at : (b : ℕ) → b < 256 → getD t b 0 ≡ entry b
-  at b h = ap (λ (l : List ℕ). getD l b 0) e ∙ table-entry b h
+  at b h = ap (λ (l : List ℕ). getD l b 0) e ∙ char-table-entry b h
 
   pub formed : Formed t
   formed = record {
-    all = ap length e ∙ table-length;
+    all = ap length e ∙ char-table-length;
     count = λ b h. rw (at b h) (entry-parts b h .0 ∙ ap (λ (x : ℕ). length (codeNibbles x)) (sym (entry-parts b h .1)));
   }
 
-  pub agrees : Agrees t
-  agrees = record {
+  pub read-back : ReadBack t
+  read-back = record {
     reads = λ b h. rw (at b h) (entry-read b h);
     only = λ b ns v f. read-entry b ns v f ∙ ap (λ (x : ℕ). codeNibbles (x % 4096)) (sym (at b (read-byte b ns v f)));
   }

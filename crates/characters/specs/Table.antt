@@ -17,6 +17,6 @@ pub record Formed (t : List ℕ) : Type 0 where
 
 -- the nibbles of each byte are read as that byte, and no others are. The digit 0 stands behind them, since a space is read where
 -- something follows it
-pub record Agrees (t : List ℕ) : Type 0 where
+pub record ReadBack (t : List ℕ) : Type 0 where
   pub reads : (b : ℕ) → b < 256 → (textValid (nibblesAt t b ++ (0 ∷ [])) ≡ true) × (readText (nibblesAt t b ++ (0 ∷ [])) ≡ b ∷ 48 ∷ [])
   pub only : (b : ℕ) (ns : List ℕ) → textValid (ns ++ (0 ∷ [])) ≡ true → readText (ns ++ (0 ∷ [])) ≡ b ∷ 48 ∷ [] → ns ≡ nibblesAt t b

@@ -4,7 +4,7 @@ ghost use mathlib.Core.Path.{_≡_};
 ghost use lib.ListN.{length};
 ghost use lib.Seq.{sets};
 ghost use Rattle.format.specs.ShipText.{upFrom, charTable};
-ghost use Rattle.characters.specs.Table.{Formed, Agrees};
+ghost use Rattle.characters.specs.Table.{Formed, ReadBack};
 
 // For each byte 4096 times the number of its nibbles, plus their value.
 const TABLE: [u16; 256] = [
@@ -295,7 +295,7 @@ fn put_escapes(out: &mut [u16])
 
 // The generator: the table from the rules. It does not read the constant.
 pub fn generate(out: &mut [u16; 256])
-    ensures { λ _. ⌜ (now (out .exit) ≡ charTable) × Agrees (now (out .exit)) ⌝ }
+    ensures { λ _. ⌜ (now (out .exit) ≡ charTable) × ReadBack (now (out .exit)) ⌝ }
 {
     put_escapes(out);
     // 0 to 9, space

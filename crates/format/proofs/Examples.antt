@@ -1,6 +1,6 @@
--- The figures of FORMAT 12, as one list that one computed fact checks; as a second list, cases in which two refusals fit at
--- once, for the orders of FORMAT 5 to 7, zeroed bytes, unpack and pack, and edges of FORMAT 2 to 9; as a third, the table of the
--- characters.
+-- Three lists of examples, each checked by one computed fact. The first has the figures of FORMAT 12. The second has cases in
+-- which two refusals fit at once, for the orders of FORMAT 5 to 7, zeroed bytes, unpack and pack, and edges of FORMAT 2 to 9.
+-- The third has the table of the characters.
 -- Assumes nothing.
 use Prim.Native.Nat.{ℕ, zero, suc, _+_, _-_, _/_, _^_}
 use mathlib.Core.List.{List, [], _∷_, _++_, map}
@@ -407,14 +407,14 @@ orders-hold = tt
 entryAt : ℕ → ℕ
 entryAt b = getD charTable b 0
 
-widthAt : ℕ → ℕ
-widthAt w = w / 4096
+nibblesOf : ℕ → ℕ
+nibblesOf w = w / 4096
 
 pub characters : List Example
 characters =
     example (length charTable ∷ []) (256 ∷ [])
     -- 11 bytes of one nibble, 32 of two, 213 of three: 714 nibbles
-    ∷ example (total (map widthAt charTable) ∷ []) (714 ∷ [])
+    ∷ example (total (map nibblesOf charTable) ∷ []) (714 ∷ [])
     -- the figures of FORMAT 3.5: 0, A, a, the space
     ∷ example (map entryAt (48 ∷ 65 ∷ 97 ∷ 32 ∷ [])) (4096 ∷ 8385 ∷ 16225 ∷ 4106 ∷ [])
     -- the digits, and what stands about them
@@ -431,5 +431,5 @@ characters =
     ∷ []
 
 pub characters-hold : T (every characters)
-unfolding entryAt widthAt characters example same every total upFrom entry charTable charCode codeNibbles
+unfolding entryAt nibblesOf characters example same every total upFrom entry charTable charCode codeNibbles
 characters-hold = tt

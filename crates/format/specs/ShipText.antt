@@ -1,4 +1,4 @@
--- FORMAT 3.5, the ship text of id 4: the characters, the writer, the reader. They work on symbols: a plain one is a byte with a
+-- FORMAT 3.5, the ship text of id 4: the characters and their table, the writer, the reader. They work on symbols: a plain one is a byte with a
 -- short code, an original one is a byte that is escaped. Each byte of a text is one of the two.
 use Prim.Native.Nat.{ℕ, zero, suc, _+_, _-_, _*_, _/_, _%_}
 use mathlib.Core.Bool.{Bool, true, false, cond, not, _&&_}

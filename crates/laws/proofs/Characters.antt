@@ -40,14 +40,14 @@ from-at f zero a i h = absurd (omega arith)
 from-at f (suc n) a zero h = ap f (sym (add-zero a))
 from-at f (suc n) a (suc i) h = let e : suc a + i ≡ a + suc i = omega arith in from-at f n (suc a) i (omega arith) ∙ ap f e
 
-pub table-length : length charTable ≡ 256
+pub char-table-length : length charTable ≡ 256
 unfolding charTable
-table-length = length-map (upFrom 0 256) entry ∙ up-from-length 256 0
+char-table-length = length-map (upFrom 0 256) entry ∙ up-from-length 256 0
 
 -- the rule at each byte
-pub table-entry : (b : ℕ) → b < 256 → getD charTable b 0 ≡ entry b
+pub char-table-entry : (b : ℕ) → b < 256 → getD charTable b 0 ≡ entry b
 unfolding charTable
-table-entry b h = from-at entry 256 0 b h ∙ ap entry (zero-add b)
+char-table-entry b h = from-at entry 256 0 b h ∙ ap entry (zero-add b)
 
 -- ---- bytes
 

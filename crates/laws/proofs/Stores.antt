@@ -51,10 +51,10 @@ module _ (d : List ℕ) (at : ℕ) (xs : List ℕ) where
   store-two o p a b e f g = rw e (refl, rw add-one at (g ∙ ap (λ (l : List ℕ). set l (at + 1) b) f))
 
   pub store-three : (o p q : List ℕ) (a b c : ℕ) → xs ≡ a ∷ b ∷ c ∷ [] → o ≡ set d at a → p ≡ set o (at + 1) b → q ≡ set p (at + 2) c
-      → (at + 3 ≡ at + length xs) × (q ≡ sets d at xs)
+      → q ≡ sets d at xs
   store-three o p q a b c e f g h =
       let k : at + 2 ≡ suc (suc at) = omega arith in
-      rw e (refl, rw (k, add-one) at (h ∙ ap (λ (l : List ℕ). set l (at + 2) c) (g ∙ ap (λ (l : List ℕ). set l (at + 1) b) f)))
+      rw e (rw (k, add-one) at (h ∙ ap (λ (l : List ℕ). set l (at + 2) c) (g ∙ ap (λ (l : List ℕ). set l (at + 1) b) f)))
 
 -- ---- one byte so many times
 

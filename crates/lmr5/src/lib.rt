@@ -13,7 +13,7 @@ ghost use Rattle.format.specs.Reply.{refusal, answerOf};
 ghost use Rattle.format.specs.ShipText.{charTable};
 ghost use Rattle.laws.proofs.Bounds.{AnswerFits};
 ghost use Rattle.unpack.specs.Answers.{contentsNumbers};
-ghost use Rattle.characters.specs.Table.{Agrees};
+ghost use Rattle.characters.specs.Table.{ReadBack};
 ghost use Rattle.script.specs.Script.{Performs};
 ghost use Rattle.lmr5.specs.Numbered.{numbered, single, left, numberedAfter, judging, numberedWrote, word, opening, numberedUnpacked};
 use format::Reply;
@@ -276,7 +276,7 @@ pub extern "C" fn lmr5_fetch_text(report: &[u8], out: &mut [u8]) -> Answer
 
 #[no_mangle]
 pub extern "C" fn lmr5_character_table(table: &mut [u16; 256])
-    ensures { λ _. ⌜ (now (table .exit) ≡ charTable) × Agrees (now (table .exit)) ⌝ }
+    ensures { λ _. ⌜ (now (table .exit) ≡ charTable) × ReadBack (now (table .exit)) ⌝ }
 {
     characters::generate(table);
 }

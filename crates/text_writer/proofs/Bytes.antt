@@ -12,7 +12,7 @@ use borrow.Author.Tests.{eq-eqb, ne-eqb, le-leb, lt-leb}
 use Rattle.format.specs.ShipText.{charCode, charTable, classify, fulls, rest, spaceRun, writeFrom, writeText}
 use Rattle.characters.specs.Table.{nibblesAt}
 use Rattle.text_writer.specs.Pieces.{pieceBy}
-use Rattle.laws.proofs.Characters.{table-entry, entry-parts}
+use Rattle.laws.proofs.Characters.{char-table-entry, entry-parts}
 use Rattle.laws.proofs.Sequences.{cond-case}
 use Rattle.laws.proofs.ShipText.{piece, waiting, write-byte}
 use Rattle.text_writer.specs.Answers.{writtenOf, Writes}
@@ -56,7 +56,7 @@ byte-alone t at s b x d p n e g =
 piece-is : (t : List ℕ) (s b : ℕ) → t ≡ charTable → b < 256 → pieceBy t s b ≡ piece s b
 unfolding pieceBy piece
 piece-is t s b e h =
-    let v : getD t b 0 % 4096 ≡ charCode b = ap (λ (l : List ℕ). getD l b 0 % 4096) e ∙ ap (λ (x : ℕ). x % 4096) (table-entry b h) ∙ entry-parts b h .1 in
+    let v : getD t b 0 % 4096 ≡ charCode b = ap (λ (l : List ℕ). getD l b 0 % 4096) e ∙ ap (λ (x : ℕ). x % 4096) (char-table-entry b h) ∙ entry-parts b h .1 in
     rw v
 
 -- ---- the loop

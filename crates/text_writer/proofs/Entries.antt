@@ -65,5 +65,5 @@ module _ (w : ℕ) (h : w / 4096 ≡ length (codeNibbles (w % 4096))) where
             let u : w / 16 ≡ 768 + w % 4096 / 16 = omega arith in
             let middle : w / 16 % 16 ≡ w % 4096 / 16 % 16 = omega arith in
             store-three d at (codeNibbles (w % 4096)) o p q (w % 4096 / 256) (w % 4096 / 16 % 16) (w % 4096 % 16) (code-three (w % 4096) l)
-            (f ∙ ap (set d at) first) (g ∙ ap (set o (at + 1)) middle) (j ∙ ap (set p (at + 2)) (omega arith)) .1
+            (f ∙ ap (set d at) first) (g ∙ ap (set o (at + 1)) middle) (j ∙ ap (set p (at + 2)) (omega arith))
       ]

@@ -1,7 +1,7 @@
 -- `characters::generate` meets its contract: what its rules give is computed, and compared with the table.
 -- Assumes nothing.
 use borrow.Author.Needs.{needs}
-use Rattle.characters.proofs.Entries.{ruled, agrees}
+use Rattle.characters.proofs.Entries.{ruled, read-back}
 use Rattle.characters.proofs.generate.Statement.{statement}
 use Rattle.characters.proofs.generate.Tie as tie
 
@@ -43,21 +43,23 @@ put-run-requires-11 c κs = search needs
 
 returns : tie.Need-returns
 returns c =
+    let after6 = c .before .before .before .before .before .before .before .before .before .before in
+    let after2 = after6 .before .before .before .before .before .before .before .before in
     let table =
     ruled _ _ _ _ _ _ _ _ _ _ _ _
-    (c .before .before .before .before .before .before .before .before .before .before .before .before .before .before .before .before .before .before .before .before .before .before .put-escapes .ensures)
-    (c .before .before .before .before .before .before .before .before .before .before .before .before .before .before .before .before .before .before .before .before .put-run .ensures)
-    (c .before .before .before .before .before .before .before .before .before .before .before .before .before .before .before .before .before .before .put-run2 .ensures)
-    (c .before .before .before .before .before .before .before .before .before .before .before .before .before .before .before .before .put-run3 .ensures)
-    (c .before .before .before .before .before .before .before .before .before .before .before .before .before .before .put-run4 .ensures)
-    (c .before .before .before .before .before .before .before .before .before .before .before .before .put-run5 .ensures)
-    (c .before .before .before .before .before .before .before .before .before .before .put-run6 .ensures)
+    (after2 .before .before .before .before .put-escapes .ensures)
+    (after2 .before .before .put-run .ensures)
+    (after2 .put-run2 .ensures)
+    (after6 .before .before .before .before .before .before .put-run3 .ensures)
+    (after6 .before .before .before .before .put-run4 .ensures)
+    (after6 .before .before .put-run5 .ensures)
+    (after6 .put-run6 .ensures)
     (c .before .before .before .before .before .before .before .before .put-run7 .ensures)
     (c .before .before .before .before .before .before .put-run8 .ensures)
     (c .before .before .before .before .put-run9 .ensures)
     (c .before .before .put-run10 .ensures)
     (c .put-run11 .ensures) in
-    (table, agrees _ table)
+    (table, read-back _ table)
 
 pub generate-spec : {M : Type 1} → statement M
 generate-spec =

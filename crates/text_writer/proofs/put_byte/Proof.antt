@@ -42,13 +42,17 @@ shared-slice-read-put-entry-2 : tie.Need-shared-slice-read-put-entry-2
 shared-slice-read-put-entry-2 c = search needs
 
 put-entry-requires-2 : tie.Need-put-entry-requires-2
-put-entry-requires-2 c κs = (omega (arith, c .before .before .before .before .put-run .ensures .0, run-length (c .before .before .before .before .before .before .before .before .before .before .args .s - 1)), c .before .before .before .before .before .before .before .before .before .before .pre .0 .count _ (search needs))
+put-entry-requires-2 c κs =
+    let start = c .before .before .before .before .before .before .before .before .before .before in
+    (omega (arith, c .before .before .before .before .put-run .ensures .0, run-length (start .args .s - 1)), start .pre .0 .count _ (search needs))
 
 same-length-2 : tie.Need-same-length-2
 same-length-2 c = search needs
 
 returns-3 : tie.Need-returns-3
-returns-3 c = byte-code _ _ _ _ _ _ _ _ _ (c .before .before .before .before .before .before .before .before .before .before .if1 .left) (c .before .before .before .before .before .before .before .put-run .ensures) (c .before .before .put-entry2 .ensures)
+returns-3 c =
+    let if1 = c .before .before .before .before .before .before .before .before .before .before .if1 in
+    byte-code _ _ _ _ _ _ _ _ _ (if1 .left) (c .before .before .before .before .before .before .before .put-run .ensures) (c .before .before .put-entry2 .ensures)
 
 pub put-byte-spec : {M : Type 1} → statement M
 put-byte-spec =

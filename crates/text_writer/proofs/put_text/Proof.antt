@@ -22,15 +22,20 @@ shared-slice-read-put-byte : tie.Need-shared-slice-read-put-byte Inv-loop μ-loo
 shared-slice-read-put-byte c = search needs
 
 put-byte-requires : tie.Need-put-byte-requires Inv-loop μ-loop
-put-byte-requires c κs = (c .before .before .before .before .before .before .before .pre .1, c .before .before .before .loop .inv .1 .room, c .before .before .before .loop .inv .0, omega (arith, c .before .before .before .loop .inv .1 .few, c .before .before .before .before .before .before .before .good .1 .1))
+put-byte-requires c κs =
+    let loop = c .before .before .before .loop in
+    let start = c .before .before .before .before .before .before .before in
+    (start .pre .1, loop .inv .1 .room, loop .inv .0, omega (arith, loop .inv .1 .few, start .good .1 .1))
 
 same-length : tie.Need-same-length Inv-loop μ-loop
 same-length c = c .before .before .before .put-byte .kept .1 .0 ∙ writing-length _ _ _ _ _ _ (c .before .before .before .before .before .before .before .loop .inv .1)
 
 returns : tie.Need-returns Inv-loop μ-loop
 returns c =
-    writing-long _ _ _ (c .before .before .before .before .before .before .before .before .before .before .before .pre .0) _ _ _ _ _ _ _ _ (c .before .before .before .before .before .before .before .loop .inv .1) (search needs) refl (omega (arith, c .before .before .before .before .shared-slice-known3 .given (c .before .before .before .before .before .before .before .loop .i)))
-    (c .before .before .before .put-byte .ensures) (c .if1 .taken)
+    let pre = c .before .before .before .before .before .before .before .before .before .before .before .pre in
+    let loop = c .before .before .before .before .before .before .before .loop in
+    let byte = c .before .before .before .before .shared-slice-known3 .given (loop .i) in
+    writing-long _ _ _ (pre .0) _ _ _ _ _ _ _ _ (loop .inv .1) (search needs) refl (omega (arith, byte)) (c .before .before .before .put-byte .ensures) (c .if1 .taken)
 
 add-i : tie.Need-add-i Inv-loop μ-loop
 add-i c = omega arith
@@ -40,8 +45,10 @@ loop-less c = search needs
 
 loop-again : tie.Need-loop-again Inv-loop μ-loop
 loop-again c =
-    writing-more _ _ _ (c .before .before .before .before .before .before .before .before .before .before .before .pre .0) _ _ _ _ _ _ _ _ (c .before .before .before .before .before .before .before .loop .inv .1) (search needs) refl (omega (arith, c .before .before .before .before .shared-slice-known3 .given (c .before .before .before .before .before .before .before .loop .i)))
-    (c .before .before .before .put-byte .ensures) (c .before .before .before .before .before .before .before .before .before .before .before .pre .2) (c .if1 .left)
+    let pre = c .before .before .before .before .before .before .before .before .before .before .before .pre in
+    let loop = c .before .before .before .before .before .before .before .loop in
+    let byte = c .before .before .before .before .shared-slice-known3 .given (loop .i) in
+    writing-more _ _ _ (pre .0) _ _ _ _ _ _ _ _ (loop .inv .1) (search needs) refl (omega (arith, byte)) (c .before .before .before .put-byte .ensures) (pre .2) (c .if1 .left)
 
 same-length-2 : tie.Need-same-length-2 Inv-loop μ-loop
 same-length-2 c = writing-length _ _ _ _ _ _ (c .before .loop .inv .1)
