@@ -288,21 +288,19 @@ fn characters(table: Table) -> Case {
     }
 }
 
+/// As many calls, and as many accepted, as were drawn among the others.
 #[test]
-fn characters_are_counted_and_never_refused() {
+fn characters_are_counted() {
     let mut tally = Tally::default();
     let mut harness = Harness::new(STAND_IN);
-    for entry in [0, 1, u16::MAX] {
-        let trial = Trial::Whole(characters([entry; 256]));
+    let mut drawn = 0;
+    for trial in (0..1000).flat_map(|case| trials(SEED, case)) {
+        let is_table = matches!(trial, Trial::Whole(Case::Characters { .. }));
+        drawn += usize::from(is_table);
         assert!(compare(&mut harness, &mut tally, &trial).is_none());
     }
-    let line = format!(
-        "{:<12}{:>9}{:>9}{}",
-        "characters",
-        3,
-        3,
-        "       -".repeat(14)
-    );
+    assert!(drawn > 20, "{drawn}");
+    let line = format!("characters  {drawn:>9}{drawn:>9}{}", "       -".repeat(14));
     let shown = tally.to_string();
     assert!(shown.lines().any(|shown| shown == line), "{shown}");
 }

@@ -1,9 +1,12 @@
 //! The table of the characters: by hand, beside the writer and the reader, and in
 //! the lines, the records and the lists.
 
+mod common;
+
 use std::collections::BTreeSet;
 
-use reference::call::Call;
+use common::{SHORT, table_by_hand};
+use reference::call::{Answer, Call};
 use reference::cases::{Case, Outcome, fixed};
 use reference::gate::{SEED, list_cases, record, text_cases, whole_cases};
 use reference::line::line;
@@ -11,62 +14,6 @@ use reference::outside::characters;
 use reference::prng::Prng;
 use reference::refusal::refusal;
 use reference::text::{Table, read, table, write};
-
-/// The short codes, from the requirements and Table F4-3.
-const SHORT: [(u8, u16); 43] = [
-    (b'0', 0x1000),
-    (b'1', 0x1001),
-    (b'2', 0x1002),
-    (b'3', 0x1003),
-    (b'4', 0x1004),
-    (b'5', 0x1005),
-    (b'6', 0x1006),
-    (b'7', 0x1007),
-    (b'8', 0x1008),
-    (b'9', 0x1009),
-    (b' ', 0x100A),
-    (b'{', 0x20C0),
-    (b'A', 0x20C1),
-    (b'B', 0x20C2),
-    (b'C', 0x20C3),
-    (b'D', 0x20C4),
-    (b'E', 0x20C5),
-    (b'F', 0x20C6),
-    (b'G', 0x20C7),
-    (b'H', 0x20C8),
-    (b'I', 0x20C9),
-    (b'&', 0x20CA),
-    (b'+', 0x20CB),
-    (b'}', 0x20D0),
-    (b'J', 0x20D1),
-    (b'K', 0x20D2),
-    (b'L', 0x20D3),
-    (b'M', 0x20D4),
-    (b'N', 0x20D5),
-    (b'O', 0x20D6),
-    (b'P', 0x20D7),
-    (b'Q', 0x20D8),
-    (b'R', 0x20D9),
-    (b'-', 0x20DA),
-    (b'/', 0x20E1),
-    (b'S', 0x20E2),
-    (b'T', 0x20E3),
-    (b'U', 0x20E4),
-    (b'V', 0x20E5),
-    (b'W', 0x20E6),
-    (b'X', 0x20E7),
-    (b'Y', 0x20E8),
-    (b'Z', 0x20E9),
-];
-
-/// The short codes, and 15 and the byte for all others.
-fn by_hand() -> Table {
-    let mut table = std::array::from_fn(|byte| 0x3F00 + byte as u16);
-    for (byte, entry) in SHORT {
-        table[usize::from(byte)] = entry;
-    }
-    table
-}
 
 /// The nibbles that an entry stands for.
 fn nibbles_of(entry: u16) -> Vec<u8> {
@@ -163,13 +110,13 @@ fn codes_of_the_reader_are_entries() {
 
 fn former_contents() -> Vec<Table> {
     let mut prng = Prng::new(11);
-    let mut almost = by_hand();
+    let mut almost = table_by_hand();
     almost[255] = 0;
     vec![
         [0; 256],
         [u16::MAX; 256],
         std::array::from_fn(|index| index as u16),
-        by_hand(),
+        table_by_hand(),
         almost,
         std::array::from_fn(|_| prng.next_u64() as u16),
     ]
@@ -179,7 +126,7 @@ fn former_contents() -> Vec<Table> {
 fn every_entry_is_written() {
     for mut table in former_contents() {
         characters(&mut table);
-        assert_eq!(table, by_hand());
+        assert_eq!(table, table_by_hand());
     }
 }
 
@@ -192,7 +139,7 @@ fn case(table: Table) -> Case {
 #[test]
 fn lines_by_hand() {
     let numbers = |table: Table| table.map(|entry| entry.to_string()).join(",");
-    let after = numbers(by_hand());
+    let after = numbers(table_by_hand());
     assert!(after.starts_with("16128,16129,16130,"));
     for before in former_contents() {
         let written = format!("characters {} -> ok {after}", numbers(before));
@@ -205,7 +152,7 @@ fn lines_by_hand() {
 #[test]
 fn records_by_hand() {
     let mut after = vec![1, 0, 0, 0, 0, 0, 0, 0, 0, 0];
-    for entry in by_hand() {
+    for entry in table_by_hand() {
         after.extend([(entry / 256) as u8, (entry % 256) as u8]);
     }
     assert_eq!(after.len(), 522);
@@ -240,78 +187,111 @@ fn cases_end_with_arrays() {
         assert!(arrays.contains(former));
     }
     // Each entry is wrong before the call in most of them.
-    for (place, entry) in by_hand().into_iter().enumerate() {
+    for (place, entry) in table_by_hand().into_iter().enumerate() {
         let wrong = arrays.iter().filter(|array| array[place] != entry);
         assert!(wrong.count() + 3 > arrays.len(), "{place}");
     }
     for array in arrays {
-        let after = Outcome::Characters(Box::new(by_hand()));
+        let after = Outcome::Characters(Box::new(table_by_hand()));
         assert_eq!(case(array).run(), after);
     }
 }
 
-/// The nibbles of a text without runs of three spaces.
-fn length_by_hand(text: &[u8]) -> usize {
-    let lengths = text.iter().map(|&byte| by_hand()[usize::from(byte)] >> 12);
-    usize::from(lengths.sum::<u16>())
+/// The nibbles of a text without runs of three spaces; trailing ones are dropped.
+fn nibbles_by_hand(text: &[u8]) -> Vec<u8> {
+    let end = text.iter().rposition(|&byte| byte != b' ');
+    let written = end.map_or(&[][..], |end| &text[..=end]);
+    let table = table_by_hand();
+    let codes = written
+        .iter()
+        .map(|&byte| nibbles_of(table[usize::from(byte)]));
+    codes.flatten().collect()
 }
 
-/// Which texts the lists put, accepted and refused, and the texts fetched back.
-fn texts_put() -> [BTreeSet<Vec<u8>>; 3] {
-    let [mut accepted, mut refused, mut fetched] = [const { BTreeSet::new() }; 3];
+fn length_by_hand(text: &[u8]) -> usize {
+    nibbles_by_hand(text).len()
+}
+
+/// What the lists put and fetch, in order.
+#[derive(Default)]
+struct Texts {
+    put: Vec<Vec<u8>>,
+    nibbles: Vec<Vec<u8>>,
+    fetched: Vec<Vec<u8>>,
+}
+
+fn texts() -> Texts {
+    let mut texts = Texts::default();
     for list in text_cases::lists() {
         let (_, ran) = list.run();
         assert_eq!(ran.taken, list.script.len());
         for (call, answer) in ran.calls {
-            match (call, answer.result) {
-                (Call::PutText { text }, Ok(_)) => accepted.insert(text),
-                (Call::PutText { text }, Err(why)) => {
-                    assert_eq!(why, refusal(12, 0));
-                    refused.insert(text)
+            match call {
+                Call::PutText { text } => {
+                    let due = match length_by_hand(&text) {
+                        1..=255 => Ok(Vec::new()),
+                        _ => Err(refusal(12, 0)),
+                    };
+                    assert_eq!(answer.result, due, "{text:?}");
+                    texts.put.push(text);
                 }
-                (Call::FetchText { .. }, Ok(numbers)) => {
-                    let length = numbers[0].value.unwrap() as usize;
-                    fetched.insert(answer.output.unwrap()[..length].to_vec())
-                }
-                _ => false,
-            };
+                Call::Fetch { id: 4, .. } => texts.nibbles.push(given(answer)),
+                Call::FetchText { .. } => texts.fetched.push(given(answer)),
+                other => panic!("{other:?}"),
+            }
         }
     }
-    [accepted, refused, fetched]
+    texts
+}
+
+/// What a fetch gives. The rest of its output stays.
+fn given(answer: Answer) -> Vec<u8> {
+    let length = answer.result.unwrap()[0].value.unwrap() as usize;
+    let mut output = answer.output.unwrap();
+    assert!(output[length..].iter().all(|&byte| byte == 0xEE));
+    output.truncate(length);
+    output
 }
 
 #[test]
 fn lists_take_every_byte_through_the_writer() {
-    let [accepted, refused, fetched] = texts_put();
-    for byte in 0..=255 {
-        let texts = [vec![byte], vec![b' ', byte], vec![byte, b' ', b'0']];
-        let empty = |text: &Vec<u8>| text.iter().all(|&byte| byte == b' ');
-        for text in texts {
-            assert_eq!(refused.contains(&text), empty(&text), "{text:?}");
-            assert_eq!(accepted.contains(&text), !empty(&text), "{text:?}");
-        }
-    }
-    assert_eq!(fetched, accepted);
+    let texts = texts();
+    let (by_byte, others) = texts.put.split_at(3 * 256);
+    let alone = (0..=255).map(|byte| vec![byte]);
+    let behind = (0..=255).map(|byte| vec![b' ', byte]);
+    let in_front = (0..=255).map(|byte| vec![byte, b' ', b'0']);
+    let mut due: Vec<Vec<u8>> = alone.chain(behind).chain(in_front).collect();
+    assert_eq!(by_byte, due);
+    // Spaces alone are refused: the report's own text stands, or the one put before.
+    due[32] = vec![b'7'];
+    due[256 + 32] = vec![b' ', 31];
+    let accepted = others.iter().filter(|text| length_by_hand(text) <= 255);
+    due.extend(accepted.cloned());
+    assert_eq!(texts.fetched, due);
+    // The nibbles of a byte beside a space are not fetched.
+    due.drain(256..3 * 256);
+    let nibbles: Vec<Vec<u8>> = due.iter().map(|text| nibbles_by_hand(text)).collect();
+    assert_eq!(texts.nibbles, nibbles);
     for first in 1..=3 {
         for second in (1..=3).filter(|&second| second != first) {
             let is_pair = |text: &&Vec<u8>| {
                 let lengths = [&text[..1], &text[1..]].map(length_by_hand);
-                text.len() == 2 && !text.contains(&b' ') && lengths == [first, second]
+                text.len() == 2 && lengths == [first, second]
             };
-            let pairs = accepted.iter().filter(is_pair).count();
-            assert!(pairs >= 10, "{first} {second}: {pairs}");
+            let pairs = others.iter().filter(is_pair).collect::<BTreeSet<_>>();
+            assert!(pairs.len() >= 10, "{first} {second}: {pairs:?}");
         }
     }
     for last in 1..=3 {
-        for (texts, nibbles) in [(&accepted, 255), (&refused, 256)] {
+        for nibbles in [255, 256] {
             let ends_so = |text: &&Vec<u8>| {
                 let end = &text[text.len() - 1..];
                 length_by_hand(text) == nibbles && length_by_hand(end) == last
             };
-            assert_eq!(texts.iter().filter(ends_so).count(), 4);
+            let ending = others.iter().filter(ends_so).collect::<BTreeSet<_>>();
+            assert_eq!(ending.len(), 4, "{nibbles} {last}");
         }
     }
-    assert_eq!(refused.len(), 2 + 12);
 }
 
 #[test]

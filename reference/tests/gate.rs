@@ -7,7 +7,7 @@ use std::fs;
 use std::path::Path;
 use std::process::Command;
 
-use common::fresh_buffer;
+use common::{fresh_buffer, table_by_hand};
 use reference::call::{Answer, Call};
 use reference::cases::{Case, Outcome};
 use reference::gate::list::List;
@@ -658,7 +658,6 @@ fn whole_files_meet_every_refusal_and_keep_their_limits() {
         ("same", &[0, 1, 2, 3, 4, 5, 6, 7]),
         ("restore", &[0, 1, 2, 3, 4, 5, 6, 7, 13]),
         ("recover", &[0, 1, 5, 6, 8, 9, 10, 13, 14]),
-        ("characters", &[0]),
     ] {
         let met: Vec<u8> = files.tally.refusals(kind);
         assert_eq!(met, refusals, "{kind}");
@@ -673,6 +672,24 @@ fn whole_files_meet_every_refusal_and_keep_their_limits() {
         .collect();
     assert!(sizes.len() > 60);
     assert_eq!((sizes.first(), sizes.last()), (Some(&38), Some(&1853)));
+}
+
+/// Fourteen arrays, of which six hold one number and the ninth is the table.
+#[test]
+fn whole_files_end_with_the_table() {
+    let files = gate::whole(&whole_cases::cases(SEED));
+    let entries = table_by_hand().map(|entry| format!("{entry:04X}")).concat();
+    let answer = hex(&format!("01 00 0000000000000000 {entries}"));
+    assert!(files.stdout.ends_with(&answer.repeat(14)));
+    let records = &files.stdin[files.stdin.len() - 14 * 513..];
+    let records: Vec<&[u8]> = records.chunks(513).collect();
+    assert!(records.iter().all(|record| record[0] == 9));
+    let held = ["0000", "0001", "00FF", "1000", "FF00", "FFFF"];
+    for (record, entry) in records.iter().zip(held) {
+        assert_eq!(*record, hex(&format!("09 {}", entry.repeat(256))));
+    }
+    assert_eq!(records[8], hex(&format!("09 {entries}")));
+    assert_eq!(files.tally.counts[&("characters", 0)], 14);
 }
 
 #[test]

@@ -5,7 +5,7 @@ mod common;
 use std::io::Write;
 use std::process::{Command, Stdio};
 
-use common::fresh_buffer;
+use common::{fresh_buffer, table_by_hand};
 use reference::cases::{Case, fixed, random};
 use reference::line::line;
 
@@ -187,7 +187,9 @@ fn vectors_meet_every_refusal_and_accept() {
     }
     let mut of_kind = lines.iter().filter(|line| line.starts_with("characters "));
     assert!(of_kind.clone().count() > 10);
-    assert!(of_kind.all(|line| line.contains(" -> ok ")));
+    let entries = table_by_hand().map(|entry| entry.to_string()).join(",");
+    let written = format!(" -> ok {entries}");
+    assert!(of_kind.all(|line| line.ends_with(&written)));
 }
 
 #[test]

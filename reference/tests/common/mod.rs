@@ -1,7 +1,8 @@
-//! Bytes worked out by hand, and a plain way to alter them.
+//! Bytes and codes worked out by hand, and a plain way to alter bytes.
 #![allow(dead_code)]
 
 use reference::refusal::{Refusal, refusal};
+use reference::text::Table;
 
 /// Fresh, values 1, 1900, 1, 0, 0, in a buffer of a length filled with A5.
 pub fn fresh_buffer(length: usize) -> Vec<u8> {
@@ -45,4 +46,60 @@ pub fn fresh_with_tail(ac: u8, tail: &[u8]) -> Vec<u8> {
 
 pub fn refused<T>(number: u8, place: usize) -> Result<T, Refusal> {
     Err(refusal(number, place))
+}
+
+/// The short codes, from the requirements and Table F4-3.
+pub const SHORT: [(u8, u16); 43] = [
+    (b'0', 0x1000),
+    (b'1', 0x1001),
+    (b'2', 0x1002),
+    (b'3', 0x1003),
+    (b'4', 0x1004),
+    (b'5', 0x1005),
+    (b'6', 0x1006),
+    (b'7', 0x1007),
+    (b'8', 0x1008),
+    (b'9', 0x1009),
+    (b' ', 0x100A),
+    (b'{', 0x20C0),
+    (b'A', 0x20C1),
+    (b'B', 0x20C2),
+    (b'C', 0x20C3),
+    (b'D', 0x20C4),
+    (b'E', 0x20C5),
+    (b'F', 0x20C6),
+    (b'G', 0x20C7),
+    (b'H', 0x20C8),
+    (b'I', 0x20C9),
+    (b'&', 0x20CA),
+    (b'+', 0x20CB),
+    (b'}', 0x20D0),
+    (b'J', 0x20D1),
+    (b'K', 0x20D2),
+    (b'L', 0x20D3),
+    (b'M', 0x20D4),
+    (b'N', 0x20D5),
+    (b'O', 0x20D6),
+    (b'P', 0x20D7),
+    (b'Q', 0x20D8),
+    (b'R', 0x20D9),
+    (b'-', 0x20DA),
+    (b'/', 0x20E1),
+    (b'S', 0x20E2),
+    (b'T', 0x20E3),
+    (b'U', 0x20E4),
+    (b'V', 0x20E5),
+    (b'W', 0x20E6),
+    (b'X', 0x20E7),
+    (b'Y', 0x20E8),
+    (b'Z', 0x20E9),
+];
+
+/// The short codes, and 15 and the byte for all others.
+pub fn table_by_hand() -> Table {
+    let mut table = std::array::from_fn(|byte| 0x3F00 + byte as u16);
+    for (byte, entry) in SHORT {
+        table[usize::from(byte)] = entry;
+    }
+    table
 }
