@@ -12,7 +12,7 @@ use Rattle.format.specs.Order.{Refusal, first}
 use Rattle.format.specs.Field.{Field, minus, table, fieldAt, required, scaled, coded, scaledOf, codedOf, inRange, entryOf, codeOf, entries, codes}
 use Rattle.format.specs.Bits.{bits, number, bitsOf, bitField, total, offset, readFields, writeFields}
 use Rattle.format.specs.Nibbles.{attachment, nibbles, bytes, padded, attachmentNibbles, tailNibbles, attachmentsOf, among}
-use Rattle.format.specs.Flags.{weights, weight, totalWeight, allMissing, qualityCode, flagsFit, flagBody, withFlag, flagsValid}
+use Rattle.format.specs.Flags.{weights, weight, totalWeight, allMissing, qualityCode, allYes, flagsFit, flagBody, withFlag, flagsValid}
 use Rattle.format.specs.ShipText.{charCode, short, pairByte, codeNibbles, upFrom, entry, charTable, classify, byteOf, escapable, isSpace, symbolNibbles, fulls, rest, spaceRun, writeFrom}
 use Rattle.format.specs.ShipText.{writeText, spaces, textStep, stateAfter, symbolsOf, readFrom, endFrom, atEnd, textValid, readText}
 use Rattle.format.specs.Observation.{Observation, widths, checksum, cardNumbers, cardNibbles, packing}
@@ -109,11 +109,11 @@ freshObservationExample = freshObservation (scaled (pos 1)) (scaled (pos 1900)) 
 
 -- S set to 286 in it
 sBytes : List ℕ
-sBytes = effect freshBytes (edits (setField 31 (scaled (pos 286)))) .buffer
+sBytes = effect allYes freshBytes (edits (setField 31 (scaled (pos 286)))) .buffer
 
 -- and the text A1 put, in a buffer with four bytes more
 textBytes : List ℕ
-textBytes = effect (sBytes ++ (7 ∷ 7 ∷ 7 ∷ 7 ∷ [])) (edits (putText (65 ∷ 49 ∷ []))) .buffer
+textBytes = effect allYes (sBytes ++ (7 ∷ 7 ∷ 7 ∷ 7 ∷ [])) (edits (putText (65 ∷ 49 ∷ []))) .buffer
 
 -- a report of these coded fields, this checksum, this count and this tail
 reportWith : List ℕ → ℕ → ℕ → List ℕ → List ℕ
@@ -144,7 +144,7 @@ flagCalls : List Call
 flagCalls = put1 ∷ edits (setFlag 1 1) ∷ edits (setFlag 6 6) ∷ fetches (fetch 1 (replicate 17 9)) ∷ []
 
 answersOf : List ℕ → List Call → List ℕ
-answersOf b cs = answers (claim b cs .answers)
+answersOf b cs = answers (claim allYes b cs .answers)
 
 -- a buffer of 60 bytes that begins with the fresh report
 roomy : List ℕ
@@ -160,7 +160,7 @@ examples =
     -- fresh: the bytes, no others, and back
     example (freshExample (replicate 40 7) .out) (freshBytes ++ (7 ∷ 7 ∷ []))
     ∷ example (answer (freshExample (replicate 38 7) .answer)) yes
-    ∷ example (judged (judge freshBytes)) (judged (accepted freshObservationExample))
+    ∷ example (judged (judge allYes freshBytes)) (judged (accepted freshObservationExample))
     ∷ example (packing freshObservationExample) freshBytes
     ∷ example (checksumOf freshBytes ∷ []) (240 ∷ [])
     -- the lister: 1 1, 2 1900, 3 1, 6 0, 7 0, C 240, A 0; R 1 0
@@ -193,7 +193,7 @@ examples =
     ∷ example (readText (15 ∷ 6 ∷ 1 ∷ [])) (97 ∷ [])
     -- a run of three spaces in another form: in put, and in a report
     ∷ example (answersOf roomy (edits (put 4 badText) ∷ [])) (refuses 14 0)
-    ∷ example (judged (judge (reportOf freshCodes 1 (0 ∷ 4 ∷ 4 ∷ badText)))) (refuses 6 1)
+    ∷ example (judged (judge allYes (reportOf freshCodes 1 (0 ∷ 4 ∷ 4 ∷ badText)))) (refuses 6 1)
     -- the most escapes that fit, and one more
     ∷ example (answersOf wide (edits (putText (replicate 85 97)) ∷ edits (putText (replicate 86 97)) ∷ [])) (yes ++ refuses 12 0)
     -- the quality code of flag 1 at R and flag 6 at L
@@ -209,7 +209,7 @@ pub examples-hold : T (every examples)
 unfolding signed optional given valueNumbers observationNumbers refusal judged answer joined answers yes refuses example freshExample freshBytes
     freshObservationExample sBytes textBytes reportWith reportOf highestCodes freshCodes badText flagless put1 flagCalls answersOf roomy wide examples
     same every first table fieldAt required scaledOf codedOf inRange entryOf codeOf entries codes bits number bitsOf bitField total readFields
-    writeFields nibbles bytes padded attachmentNibbles tailNibbles attachmentsOf among weights weight totalWeight allMissing qualityCode flagsFit
+    writeFields nibbles bytes padded attachmentNibbles tailNibbles attachmentsOf among weights weight totalWeight allMissing qualityCode allYes flagsFit
     flagBody withFlag flagsValid charCode short pairByte codeNibbles classify byteOf escapable isSpace symbolNibbles fulls rest spaceRun writeFrom
     writeText spaces textStep stateAfter symbolsOf readFrom endFrom atEnd textValid readText widths checksum cardNumbers cardNibbles packing
     observationOf fieldChecks bodyValid attachmentChecks reportChecks judge stands contentOf putIn removeFrom made gives outputsOf writes overfull
@@ -241,7 +241,7 @@ numbers [] = []
 numbers (z ∷ zs) = signed z ++ numbers zs
 
 packed : List ℤ → ℕ → List ℕ → List ℕ → List ℕ
-packed values word ns out = let w = pack values word 513 ns out in answer (w .answer) ++ w .out
+packed values word ns out = let w = pack allYes values word 513 ns out in answer (w .answer) ++ w .out
 
 -- the presence bits of the required fields
 requiredBits : ℕ
@@ -267,22 +267,22 @@ unpackedNumbers u = answer (u .answer) ++ (numbers (u .values) ++ u .tail)
 pub orders : List Example
 orders =
     -- a report: the order of FORMAT 5.2
-    example (judged (judge (take 37 (spoilt freshBytes)))) (refuses 1 0)
-    ∷ example (judged (judge (reportOf (codesWithout 1 700) 0 []))) (refuses 2 1)
-    ∷ example (judged (judge (reportOf (codesWithout 5 25) 0 []))) (refuses 3 3)
-    ∷ example (judged (judge (spoilt (reportOf (codesWith 5 25) 0 [])))) (refuses 2 5)
-    ∷ example (judged (judge (spoilt (reportOf freshCodes 1 (0 ∷ 0 ∷ 5 ∷ []))))) (refuses 4 0)
-    ∷ example (judged (judge (reportOf freshCodes 1 []))) (refuses 1 1)
-    ∷ example (judged (judge (reportOf freshCodes 1 (15 ∷ 15 ∷ 0 ∷ [])))) (refuses 5 1)
-    ∷ example (judged (judge (reportOf freshCodes 1 (0 ∷ 9 ∷ 1 ∷ [])))) (refuses 1 1)
-    ∷ example (judged (judge (reportOf freshCodes 2 (0 ∷ 1 ∷ 5 ∷ 9 ∷ 0 ∷ 1 ∷ 5 ∷ 9 ∷ [])))) (refuses 5 2)
-    ∷ example (judged (judge (reportOf freshCodes 2 (0 ∷ 1 ∷ 1 ∷ 0 ∷ 0 ∷ 0 ∷ 5 ∷ 1 ∷ [])))) (refuses 6 1)
-    ∷ example (judged (judge (reportOf freshCodes 1 (0 ∷ 1 ∷ 4 ∷ 10 ∷ 3 ∷ [])))) (refuses 6 1)
-    ∷ example (judged (judge (reportOf freshCodes 1 (0 ∷ 2 ∷ 5 ∷ 9 ∷ 9 ∷ 3 ∷ [])))) (1 ∷ observationNumbers (withAttachments freshObservationExample (attachment 5 (9 ∷ 9 ∷ []) ∷ [])))
-    ∷ example (judged (judge (reportOf freshCodes 1 (0 ∷ 1 ∷ 5 ∷ 9 ∷ 3 ∷ [])))) (refuses 7 0)
-    ∷ example (judged (judge (reportOf freshCodes 1 (0 ∷ 2 ∷ 5 ∷ 9 ∷ 9 ∷ []) ++ (1 ∷ [])))) (1 ∷ observationNumbers (withAttachments freshObservationExample (attachment 5 (9 ∷ 9 ∷ []) ∷ [])))
-    ∷ example (judged (judge (freshBytes ++ (255 ∷ [])))) (judged (accepted freshObservationExample))
-    ∷ example (judged (judge (set freshBytes 37 3))) (refuses 7 0)
+    example (judged (judge allYes (take 37 (spoilt freshBytes)))) (refuses 1 0)
+    ∷ example (judged (judge allYes (reportOf (codesWithout 1 700) 0 []))) (refuses 2 1)
+    ∷ example (judged (judge allYes (reportOf (codesWithout 5 25) 0 []))) (refuses 3 3)
+    ∷ example (judged (judge allYes (spoilt (reportOf (codesWith 5 25) 0 [])))) (refuses 2 5)
+    ∷ example (judged (judge allYes (spoilt (reportOf freshCodes 1 (0 ∷ 0 ∷ 5 ∷ []))))) (refuses 4 0)
+    ∷ example (judged (judge allYes (reportOf freshCodes 1 []))) (refuses 1 1)
+    ∷ example (judged (judge allYes (reportOf freshCodes 1 (15 ∷ 15 ∷ 0 ∷ [])))) (refuses 5 1)
+    ∷ example (judged (judge allYes (reportOf freshCodes 1 (0 ∷ 9 ∷ 1 ∷ [])))) (refuses 1 1)
+    ∷ example (judged (judge allYes (reportOf freshCodes 2 (0 ∷ 1 ∷ 5 ∷ 9 ∷ 0 ∷ 1 ∷ 5 ∷ 9 ∷ [])))) (refuses 5 2)
+    ∷ example (judged (judge allYes (reportOf freshCodes 2 (0 ∷ 1 ∷ 1 ∷ 0 ∷ 0 ∷ 0 ∷ 5 ∷ 1 ∷ [])))) (refuses 6 1)
+    ∷ example (judged (judge allYes (reportOf freshCodes 1 (0 ∷ 1 ∷ 4 ∷ 10 ∷ 3 ∷ [])))) (refuses 6 1)
+    ∷ example (judged (judge allYes (reportOf freshCodes 1 (0 ∷ 2 ∷ 5 ∷ 9 ∷ 9 ∷ 3 ∷ [])))) (1 ∷ observationNumbers (withAttachments freshObservationExample (attachment 5 (9 ∷ 9 ∷ []) ∷ [])))
+    ∷ example (judged (judge allYes (reportOf freshCodes 1 (0 ∷ 1 ∷ 5 ∷ 9 ∷ 3 ∷ [])))) (refuses 7 0)
+    ∷ example (judged (judge allYes (reportOf freshCodes 1 (0 ∷ 2 ∷ 5 ∷ 9 ∷ 9 ∷ []) ++ (1 ∷ [])))) (1 ∷ observationNumbers (withAttachments freshObservationExample (attachment 5 (9 ∷ 9 ∷ []) ∷ [])))
+    ∷ example (judged (judge allYes (freshBytes ++ (255 ∷ [])))) (judged (accepted freshObservationExample))
+    ∷ example (judged (judge allYes (set freshBytes 37 3))) (refuses 7 0)
     -- 8, 9, 10, 11, 12, 14, 13, after the report
     ∷ example (answersOf (spoilt freshBytes) (edits (setField 47 (scaled (pos 0))) ∷ fetches (fetch 0 (3 ∷ [])) ∷ [])) (refuses 4 0 ++ (refuses 4 0 ++ one 3))
     ∷ example (answersOf freshBytes (edits (setField 47 (scaled (minus 5))) ∷ edits (setField 260 (scaled (pos 1))) ∷ edits (clearField 0) ∷ reads (readField 47) ∷ []))
@@ -303,11 +303,11 @@ orders =
     ∷ edits (remove 5) ∷ edits (remove 0) ∷ []))
     (refuses 8 0 ++ (refuses 11 0 ++ (refuses 13 0 ++ (7 ∷ 7 ∷ 1 ∷ 1 ∷ 0 ∷ 3 ∷ 12 ∷ 1 ∷ 1 ∷ 7 ∷ (refuses 13 0 ++ (7 ∷ (refuses 11 0 ++ refuses 8 0)))))))
     -- what stands behind a report that has been longer (FORMAT 6.3)
-    ∷ example (drop 37 (claim roomy (edits (put 9 (1 ∷ 2 ∷ 3 ∷ [])) ∷ edits (put 8 (4 ∷ 5 ∷ [])) ∷ edits (remove 9) ∷ []) .state)) (16 ∷ 40 ∷ 69 ∷ 0 ∷ 0 ∷ 0 ∷ replicate 17 5)
-    ∷ example (drop 37 (claim roomy (edits (put 9 (1 ∷ 2 ∷ 3 ∷ [])) ∷ edits (remove 9) ∷ []) .state)) (0 ∷ 0 ∷ 0 ∷ 0 ∷ replicate 19 5)
-    ∷ example (drop 37 (effect (effect roomy (edits (put 9 (1 ∷ 2 ∷ 3 ∷ []))) .buffer) (edits (remove 9)) .buffer)) (0 ∷ 0 ∷ 0 ∷ 0 ∷ replicate 19 5)
+    ∷ example (drop 37 (claim allYes roomy (edits (put 9 (1 ∷ 2 ∷ 3 ∷ [])) ∷ edits (put 8 (4 ∷ 5 ∷ [])) ∷ edits (remove 9) ∷ []) .state)) (16 ∷ 40 ∷ 69 ∷ 0 ∷ 0 ∷ 0 ∷ replicate 17 5)
+    ∷ example (drop 37 (claim allYes roomy (edits (put 9 (1 ∷ 2 ∷ 3 ∷ [])) ∷ edits (remove 9) ∷ []) .state)) (0 ∷ 0 ∷ 0 ∷ 0 ∷ replicate 19 5)
+    ∷ example (drop 37 (effect allYes (effect allYes roomy (edits (put 9 (1 ∷ 2 ∷ 3 ∷ []))) .buffer) (edits (remove 9)) .buffer)) (0 ∷ 0 ∷ 0 ∷ 0 ∷ replicate 19 5)
     -- a put where the id stands keeps the order
-    ∷ example (tailNibbles (observationOf (claim roomy (edits (put 9 (1 ∷ [])) ∷ edits (put 8 (2 ∷ [])) ∷ edits (put 9 (3 ∷ 3 ∷ [])) ∷ []) .state) .attachments))
+    ∷ example (tailNibbles (observationOf (claim allYes roomy (edits (put 9 (1 ∷ [])) ∷ edits (put 8 (2 ∷ [])) ∷ edits (put 9 (3 ∷ 3 ∷ [])) ∷ []) .state) .attachments))
     (0 ∷ 2 ∷ 9 ∷ 3 ∷ 3 ∷ 0 ∷ 1 ∷ 8 ∷ 2 ∷ [])
     -- the last flag cleared: quality code 0; a missing flag reads as missing
     ∷ example
@@ -319,11 +319,11 @@ orders =
     ∷ example (let w = fresh (scaled (pos 1)) (scaled (pos 1799)) (scaled (pos 13)) (scaled (pos 0)) (scaled (pos 0)) (7 ∷ []) in answer (w .answer) ++ w .out) (refuses 9 2 ++ one 7)
     ∷ example (let w = freshExample (replicate 37 7) in answer (w .answer) ++ w .out) (refuses 13 0 ++ replicate 37 7)
     -- unpack and pack
-    ∷ example (unpackedNumbers (unpack textBytes (replicate 47 (pos 5)) (replicate 7 5)))
+    ∷ example (unpackedNumbers (unpack allYes textBytes (replicate 47 (pos 5)) (replicate 7 5)))
     ((1 ∷ 1 ∷ 0 ∷ (requiredBits + 2 ^ 31) ∷ 1 ∷ 0 ∷ 6 ∷ 1 ∷ 0 ∷ 0 ∷ 1 ∷ 0 ∷ 1 ∷ 1 ∷ 0 ∷ 41 ∷ 1 ∷ 0 ∷ 6 ∷ [])
     ++ (numbers (pos 1 ∷ pos 1900 ∷ pos 1 ∷ replicate 27 (pos 0)) ++ (numbers (pos 286 ∷ replicate 15 (pos 0)) ++ (numbers (pos 5 ∷ []) ++ (0 ∷ 3 ∷ 4 ∷ 12 ∷ 1 ∷ 1 ∷ 5 ∷ [])))))
-    ∷ example (unpackedNumbers (unpack textBytes (replicate 45 (pos 5)) (replicate 7 5))) (refuses 13 0 ++ (numbers (replicate 45 (pos 5)) ++ replicate 7 5))
-    ∷ example (unpackedNumbers (unpack textBytes [] (replicate 5 5))) (refuses 13 0 ++ replicate 5 5)
+    ∷ example (unpackedNumbers (unpack allYes textBytes (replicate 45 (pos 5)) (replicate 7 5))) (refuses 13 0 ++ (numbers (replicate 45 (pos 5)) ++ replicate 7 5))
+    ∷ example (unpackedNumbers (unpack allYes textBytes [] (replicate 5 5))) (refuses 13 0 ++ replicate 5 5)
     ∷ example (packed wholeValues requiredBits [] (replicate 39 7)) (1 ∷ 1 ∷ 0 ∷ 38 ∷ (2 ∷ 1 ∷ (drop 2 freshBytes ++ one 7)))
     ∷ example (packed wholeValues requiredBits (0 ∷ 3 ∷ 4 ∷ 12 ∷ 1 ∷ 1 ∷ []) (replicate 41 7)) (1 ∷ 1 ∷ 0 ∷ 41 ∷ (2 ∷ 1 ∷ (take 35 (drop 2 freshBytes) ++ (0x10 ∷ 0x34 ∷ 0xC1 ∷ 0x10 ∷ []))))
     ∷ example (packed (take 45 wholeValues) 1 [] []) (refuses 13 0)
@@ -337,19 +337,19 @@ orders =
     ∷ example (packed wholeValues requiredBits (0 ∷ 1 ∷ 1 ∷ 9 ∷ []) []) (refuses 6 1)
     ∷ example (packed wholeValues requiredBits (0 ∷ 1 ∷ 5 ∷ 9 ∷ []) (replicate 39 7)) (refuses 13 0 ++ replicate 39 7)
     -- what each number is
-    ∷ example (quantities (effect textBytes (reads (readField 1)) .answer) ++ quantities (effect textBytes (reads (readField 4)) .answer)) (1 ∷ 1 ∷ [])
-    ∷ example (quantities (effect (effect roomy put1 .buffer) (reads (readFlag 1)) .answer)) (2 ∷ [])
-    ∷ example (quantities (effect textBytes (fetches (fetch 4 (replicate 9 7))) .answer) ++ quantities (effect textBytes (fetches (fetchText (replicate 9 7))) .answer)) (3 ∷ 3 ∷ [])
-    ∷ example (quantities (effect textBytes (edits (clearField 4)) .answer) ++ quantities (effect textBytes (edits (remove 4)) .answer)) []
-    ∷ example (quantities (unpack textBytes (replicate 46 (pos 5)) (replicate 7 5) .answer)) (4 ∷ 5 ∷ 6 ∷ 7 ∷ 8 ∷ 9 ∷ [])
-    ∷ example (quantities (pack wholeValues requiredBits 0 [] (replicate 39 7) .answer)) (8 ∷ [])
+    ∷ example (quantities (effect allYes textBytes (reads (readField 1)) .answer) ++ quantities (effect allYes textBytes (reads (readField 4)) .answer)) (1 ∷ 1 ∷ [])
+    ∷ example (quantities (effect allYes (effect allYes roomy put1 .buffer) (reads (readFlag 1)) .answer)) (2 ∷ [])
+    ∷ example (quantities (effect allYes textBytes (fetches (fetch 4 (replicate 9 7))) .answer) ++ quantities (effect allYes textBytes (fetches (fetchText (replicate 9 7))) .answer)) (3 ∷ 3 ∷ [])
+    ∷ example (quantities (effect allYes textBytes (edits (clearField 4)) .answer) ++ quantities (effect allYes textBytes (edits (remove 4)) .answer)) []
+    ∷ example (quantities (unpack allYes textBytes (replicate 46 (pos 5)) (replicate 7 5) .answer)) (4 ∷ 5 ∷ 6 ∷ 7 ∷ 8 ∷ 9 ∷ [])
+    ∷ example (quantities (pack allYes wholeValues requiredBits 0 [] (replicate 39 7) .answer)) (8 ∷ [])
     -- all 14 bits of CK are compared; a sum of 1020, which is 4 times 255, has CK 0, and 255 is refused
-    ∷ example (judged (judge (reportWith freshCodes 496 0 []))) (refuses 4 0)
-    ∷ example (take 1 (judged (judge (reportWith (codesWith 10 15) 0 0 []))) ++ judged (judge (reportWith (codesWith 10 15) 255 0 []))) (1 ∷ refuses 4 0)
+    ∷ example (judged (judge allYes (reportWith freshCodes 496 0 []))) (refuses 4 0)
+    ∷ example (take 1 (judged (judge allYes (reportWith (codesWith 10 15) 0 0 []))) ++ judged (judge allYes (reportWith (codesWith 10 15) 255 0 []))) (1 ∷ refuses 4 0)
     -- the highest codes are accepted
-    ∷ example (take 1 (judged (judge (reportOf highestCodes 0 [])))) yes
+    ∷ example (take 1 (judged (judge allYes (reportOf highestCodes 0 [])))) yes
     -- an attachment of 17 nibbles, and back
-    ∷ example (drop 37 (effect roomy (edits (put 9 (replicate 17 3))) .buffer)) ((0x11 ∷ 0x19 ∷ replicate 8 0x33) ++ (0x30 ∷ replicate 12 5))
+    ∷ example (drop 37 (effect allYes roomy (edits (put 9 (replicate 17 3))) .buffer)) ((0x11 ∷ 0x19 ∷ replicate 8 0x33) ++ (0x30 ∷ replicate 12 5))
     ∷ example (answersOf roomy (edits (put 9 (replicate 17 3)) ∷ fetches (fetch 9 (replicate 18 8)) ∷ [])) (1 ∷ 1 ∷ 1 ∷ 0 ∷ 17 ∷ (replicate 17 3 ++ one 8))
     -- a quality code of 43, and the rule
     ∷ example (answersOf roomy (edits (put 1 (replicate 14 10 ++ (2 ∷ 10 ∷ []))) ∷ edits (put 1 (replicate 14 10 ++ (2 ∷ 11 ∷ []))) ∷ edits (clearFlag 1) ∷ fetches (fetch 1 (replicate 16 8)) ∷ []))
@@ -372,10 +372,10 @@ orders =
     -- bodies that end within a code
     ∷ example (answersOf roomy (edits (put 4 (1 ∷ 11 ∷ [])) ∷ edits (put 4 (1 ∷ 12 ∷ [])) ∷ edits (put 4 (1 ∷ 15 ∷ [])) ∷ [])) (refuses 14 0 ++ (refuses 14 0 ++ refuses 14 0))
     -- the lister: a field of two digits, values 10 and -10, and input past 1856 bytes
-    ∷ example (drop 23 (listing (claim freshBytes (edits (setField 10 (scaled (pos 10))) ∷ edits (setField 31 (scaled (minus 10))) ∷ []) .state)))
+    ∷ example (drop 23 (listing (claim allYes freshBytes (edits (setField 10 (scaled (pos 10))) ∷ edits (setField 31 (scaled (minus 10))) ∷ []) .state)))
     (49 ∷ 48 ∷ 32 ∷ 49 ∷ 48 ∷ 10 ∷ 51 ∷ 49 ∷ 32 ∷ 45 ∷ 49 ∷ 48 ∷ 10 ∷ 67 ∷ 32 ∷ 50 ∷ 50 ∷ 49 ∷ 10 ∷ 65 ∷ 32 ∷ 48 ∷ 10 ∷ [])
     ∷ example (listing longReport) (82 ∷ 32 ∷ 49 ∷ 32 ∷ 49 ∷ 53 ∷ 10 ∷ [])
-    ∷ example (judged (judge longReport)) (refuses 6 15)
+    ∷ example (judged (judge allYes longReport)) (refuses 6 15)
     -- fresh with X and Y out of range
     ∷ example (answer (fresh (scaled (pos 1)) (scaled (pos 1900)) (scaled (pos 1)) (scaled (pos 3600)) (scaled (pos 901)) (replicate 38 7) .answer)) (refuses 9 6)
     -- a sixteenth attachment
@@ -396,7 +396,7 @@ unfolding manyAttachments longTail longReport codesWith codesWithout spoilt one 
     observationNumbers refusal judged answer joined answers yes refuses example freshExample freshBytes freshObservationExample sBytes textBytes reportWith reportOf
     highestCodes freshCodes badText flagless put1 flagCalls answersOf roomy wide same every first table fieldAt required scaledOf codedOf inRange entryOf codeOf entries
     codes bits number bitsOf bitField total readFields writeFields nibbles bytes padded attachmentNibbles tailNibbles attachmentsOf among weights weight totalWeight
-    allMissing qualityCode flagsFit flagBody withFlag flagsValid charCode short pairByte codeNibbles classify byteOf escapable isSpace symbolNibbles fulls rest spaceRun
+    allMissing qualityCode allYes flagsFit flagBody withFlag flagsValid charCode short pairByte codeNibbles classify byteOf escapable isSpace symbolNibbles fulls rest spaceRun
     writeFrom writeText spaces textStep stateAfter symbolsOf readFrom endFrom atEnd textValid readText widths checksum cardNumbers cardNibbles packing observationOf
     fieldChecks bodyValid attachmentChecks reportChecks judge stands contentOf putIn removeFrom made gives outputsOf writes overfull overEach allNibbles callChecks checks
     step layout effect course calls run claim freshObservation freshChecks fresh digitsFrom fieldLines listing

@@ -3,6 +3,7 @@ use Prim.Native.Nat.{ℕ, _-_, max}
 use mathlib.Core.List.{List, _++_, map}
 use lib.ListN.{length, drop, replicate}
 use Rattle.format.specs.Order.{Refusal}
+use Rattle.format.specs.Flags.{FlagTable}
 use Rattle.format.specs.Observation.{Observation, packing, size}
 use Rattle.format.specs.Report.{Verdict, refused, accepted, judge}
 use Rattle.format.specs.Calls.{Call, Answer, outputsOf, step}
@@ -30,14 +31,14 @@ bufferAfter (Answer.refused r) b e s = b
 bufferAfter (Answer.accepted gs) b e s = layout b e s
 
 -- the report is judged before the call
-abbrev pub effectOn : Verdict → List ℕ → Call → After
-effectOn (refused r) b c = after (Answer.refused r) b (outputsOf c)
-effectOn (accepted s) b c =
-    let t = step (length b) s c in
+abbrev pub effectOn : FlagTable → Verdict → List ℕ → Call → After
+effectOn marks (refused r) b c = after (Answer.refused r) b (outputsOf c)
+effectOn marks (accepted s) b c =
+    let t = step marks (length b) s c in
     after (t .answer) (bufferAfter (t .answer) b (size s) (t .observation)) (t .outs)
 
-unfoldable pub effect : List ℕ → Call → After
-effect b c = effectOn (judge b) b c
+unfoldable pub effect : FlagTable → List ℕ → Call → After
+effect marks b c = effectOn marks (judge marks b) b c
 
 -- ---- a list of calls
 
@@ -49,12 +50,12 @@ pub record Shown : Type 0 where
 abbrev pub shown : Answer → List (List ℕ) → Shown
 shown a outs = record { answer = a; outs = outs }
 
--- the calls one after the other, each on the buffer that the one before left: the state is the buffer
-abbrev pub performing : List ℕ → Call → Moved (List ℕ) Shown
-performing b c = let a = effect b c in record { answer = shown (a .answer) (a .outs); state = a .buffer }
+-- the calls one after the other under one table, each on the buffer that the one before left: the state is the buffer
+abbrev pub performing : FlagTable → List ℕ → Call → Moved (List ℕ) Shown
+performing marks b c = let a = effect marks b c in record { answer = shown (a .answer) (a .outs); state = a .buffer }
 
-unfoldable pub calls : List ℕ → List Call → Course (List ℕ) Shown
-calls b cs = course performing b cs
+unfoldable pub calls : FlagTable → List ℕ → List Call → Course (List ℕ) Shown
+calls marks b cs = course (performing marks) b cs
 
 -- the plain machine's state in a list: its observation, and the longest end reached
 pub record Standing : Type 0 where
@@ -65,13 +66,13 @@ abbrev pub standing : Observation → ℕ → Standing
 standing s e = record { observation = s; longest = e }
 
 -- its step, on a buffer of n bytes
-abbrev pub stepping : ℕ → Standing → Call → Moved Standing Shown
-stepping n m c =
-    let t = step n (m .observation) c in
+abbrev pub stepping : FlagTable → ℕ → Standing → Call → Moved Standing Shown
+stepping marks n m c =
+    let t = step marks n (m .observation) c in
     record { answer = shown (t .answer) (t .outs); state = standing (t .observation) (max (m .longest) (size (t .observation))) }
 
-unfoldable pub run : ℕ → Standing → List Call → Course Standing Shown
-run n m cs = course (stepping n) m cs
+unfoldable pub run : FlagTable → ℕ → Standing → List Call → Course Standing Shown
+run marks n m cs = course (stepping marks n) m cs
 
 -- the packing of the machine's observation, 0 to the longest end, and the bytes of the start
 abbrev pub runOn : List ℕ → Course Standing Shown → Course (List ℕ) Shown
@@ -82,9 +83,9 @@ refusals r cs = map (λ (c : Call). shown (Answer.refused r) (outputsOf c)) cs
 
 -- demand 3 (FORMAT 10), what is claimed of a list: on an accepted report the machine's run, begun on that report's observation; on any other
 -- buffer each call gives the refusal, and no byte changes. That the calls do what is claimed is the theorem of crate laws
-abbrev pub claimOn : Verdict → List ℕ → List Call → Course (List ℕ) Shown
-claimOn (refused r) b cs = record { answers = refusals r cs; state = b }
-claimOn (accepted s) b cs = runOn b (run (length b) (standing s (size s)) cs)
+abbrev pub claimOn : FlagTable → Verdict → List ℕ → List Call → Course (List ℕ) Shown
+claimOn marks (refused r) b cs = record { answers = refusals r cs; state = b }
+claimOn marks (accepted s) b cs = runOn b (run marks (length b) (standing s (size s)) cs)
 
-unfoldable pub claim : List ℕ → List Call → Course (List ℕ) Shown
-claim b cs = claimOn (judge b) b cs
+unfoldable pub claim : FlagTable → List ℕ → List Call → Course (List ℕ) Shown
+claim marks b cs = claimOn marks (judge marks b) b cs

@@ -9,7 +9,7 @@ use lib.IntN.{ℤ, pos}
 use Rattle.format.specs.Order.{Refusal, Check, check, first, between}
 use Rattle.format.specs.Field.{fieldAt, isField, required, inRange}
 use Rattle.format.specs.Nibbles.{Attachment, attachment}
-use Rattle.format.specs.Flags.{isFlag, flagInRange, flagAt, withFlag}
+use Rattle.format.specs.Flags.{isFlag, FlagTable, flagInRange, flagAt, withFlag}
 use Rattle.format.specs.ShipText.{writeText, readText}
 use Rattle.format.specs.Observation.{Observation, observation, size}
 use Rattle.format.specs.Report.{bodyValid}
@@ -158,7 +158,7 @@ writes s (edits e) = []
 writes s (fetches (fetch i out)) = content s i ∷ []
 writes s (fetches (fetchText out)) = readText (content s 4) ∷ []
 
--- ---- the refusals 8 to 14, by the observation, the buffer's length n and the call
+-- ---- the refusals 8 to 14, by the table of permitted flags, the observation, the buffer's length n and the call
 
 -- 8: no such number of a field, a flag or an id
 abbrev pub fieldNumberCheck : ℕ → Check
@@ -174,8 +174,8 @@ idCheck i = check (not (between 1 15 i)) 8 0
 abbrev pub valueCheck : ℕ → Scaled → Check
 valueCheck k v = check (not (inRange (fieldAt k) v)) 9 k
 
-abbrev pub flagValueCheck : ℕ → ℕ → Check
-flagValueCheck j v = check (not (flagInRange j v)) 9 j
+abbrev pub flagValueCheck : FlagTable → ℕ → ℕ → Check
+flagValueCheck marks j v = check (not (flagInRange marks j v)) 9 j
 
 -- 10: required field cleared
 abbrev pub requiredCheck : ℕ → Check
@@ -194,8 +194,8 @@ allNibbles [] = true
 allNibbles (x ∷ xs) = leb x 15 && allNibbles xs
 
 -- 14: a byte that is no nibble, or a content that is not valid
-abbrev pub contentCheck : ℕ → List ℕ → Check
-contentCheck i ns = check (not (allNibbles ns && bodyValid i ns)) 14 0
+abbrev pub contentCheck : FlagTable → ℕ → List ℕ → Check
+contentCheck marks i ns = check (not (allNibbles ns && bodyValid marks i ns)) 14 0
 
 -- 13: no room for the report that an edit makes, or in an output for what is written to it
 abbrev pub shorter : ℕ → Option Observation → Bool
@@ -212,23 +212,23 @@ roomCheck n s c = check (shorter n (edited s c) || overfull (writes s c) (output
 
 -- a call's checks before the last one, which is 13 for room: as far as it has them 8, 9, 10, 11, 12, 14, in this order.
 -- FORMAT 6.1 leaves out what never applies: 14 of put text, and 13 of a call that lengthens no report and has no output
-unfoldable pub callChecks : Observation → Call → List Check
-callChecks s (reads (readField k)) = fieldNumberCheck k ∷ []
-callChecks s (reads (readFlag j)) = flagNumberCheck j ∷ standsCheck s 1 ∷ []
-callChecks s (edits (setField k v)) = fieldNumberCheck k ∷ valueCheck k v ∷ []
-callChecks s (edits (clearField k)) = fieldNumberCheck k ∷ requiredCheck k ∷ []
-callChecks s (edits (setFlag j v)) = flagNumberCheck j ∷ flagValueCheck j v ∷ standsCheck s 1 ∷ []
-callChecks s (edits (clearFlag j)) = flagNumberCheck j ∷ standsCheck s 1 ∷ []
-callChecks s (edits (put i ns)) = idCheck i ∷ lengthCheck ns ∷ contentCheck i ns ∷ []
-callChecks s (edits (remove i)) = idCheck i ∷ standsCheck s i ∷ []
-callChecks s (edits (putText t)) = lengthCheck (writeText t) ∷ contentCheck 4 (writeText t) ∷ []
-callChecks s (fetches (fetch i out)) = idCheck i ∷ standsCheck s i ∷ []
-callChecks s (fetches (fetchText out)) = standsCheck s 4 ∷ []
+unfoldable pub callChecks : FlagTable → Observation → Call → List Check
+callChecks marks s (reads (readField k)) = fieldNumberCheck k ∷ []
+callChecks marks s (reads (readFlag j)) = flagNumberCheck j ∷ standsCheck s 1 ∷ []
+callChecks marks s (edits (setField k v)) = fieldNumberCheck k ∷ valueCheck k v ∷ []
+callChecks marks s (edits (clearField k)) = fieldNumberCheck k ∷ requiredCheck k ∷ []
+callChecks marks s (edits (setFlag j v)) = flagNumberCheck j ∷ flagValueCheck marks j v ∷ standsCheck s 1 ∷ []
+callChecks marks s (edits (clearFlag j)) = flagNumberCheck j ∷ standsCheck s 1 ∷ []
+callChecks marks s (edits (put i ns)) = idCheck i ∷ lengthCheck ns ∷ contentCheck marks i ns ∷ []
+callChecks marks s (edits (remove i)) = idCheck i ∷ standsCheck s i ∷ []
+callChecks marks s (edits (putText t)) = lengthCheck (writeText t) ∷ contentCheck marks 4 (writeText t) ∷ []
+callChecks marks s (fetches (fetch i out)) = idCheck i ∷ standsCheck s i ∷ []
+callChecks marks s (fetches (fetchText out)) = standsCheck s 4 ∷ []
 
-unfoldable pub checks : ℕ → Observation → Call → List Check
-checks n s c = callChecks s c ++ (roomCheck n s c ∷ [])
+unfoldable pub checks : FlagTable → ℕ → Observation → Call → List Check
+checks marks n s c = callChecks marks s c ++ (roomCheck n s c ∷ [])
 
--- ---- a step, on a buffer of n bytes
+-- ---- a step under a table, on a buffer of n bytes
 
 -- what is given, or the refusal
 pub data Answer : Type 0 where
@@ -254,5 +254,5 @@ abbrev pub steppedBy : Option Refusal → Observation → Call → Stepped
 steppedBy (some r) s c = record { answer = refused r; observation = s; outs = outputsOf c }
 steppedBy none s c = record { answer = accepted (gives s c); observation = next s c; outs = overEach (writes s c) (outputsOf c) }
 
-unfoldable pub step : ℕ → Observation → Call → Stepped
-step n s c = steppedBy (first (checks n s c)) s c
+unfoldable pub step : FlagTable → ℕ → Observation → Call → Stepped
+step marks n s c = steppedBy (first (checks marks n s c)) s c

@@ -2,7 +2,7 @@
 use Prim.Native.Nat.{ℕ, zero, suc, _+_, _-_, _*_, _/_, _%_}
 use mathlib.Core.Bool.{Bool, true, cond, _&&_}
 use mathlib.Core.List.{List, [], _∷_, _++_}
-use lib.ListN.{length, getD, take, set}
+use lib.ListN.{length, getD, take, set, replicate}
 use lib.Dec.{eqb}
 use Rattle.format.specs.Order.{between}
 
@@ -29,18 +29,29 @@ allMissing (v ∷ vs) = eqb v 0 && allMissing vs
 unfoldable pub qualityCode : List ℕ → ℕ
 qualityCode flags = cond (allMissing flags) 0 (1 + totalWeight flags)
 
--- every flag may have every value
-abbrev pub permitted : ℕ → ℕ → Bool
-permitted j v = true
+-- a library's own table of the flags that it permits, fourteen rows of ten marks: the mark of flag j and value v is the v-th of
+-- row j. 1 is yes, any other number is no
+abbrev pub FlagTable : Type 0
+FlagTable = List (List ℕ)
+
+abbrev pub markOf : FlagTable → ℕ → ℕ → ℕ
+markOf marks j v = getD (getD marks (j - 1) []) (v - 1) 0
+
+abbrev pub permitted : FlagTable → ℕ → ℕ → Bool
+permitted marks j v = eqb (markOf marks j v) 1
+
+-- the table before any is loaded: every flag may have every value
+unfoldable pub allYes : FlagTable
+allYes = replicate 14 (replicate 10 1)
 
 -- a value that flag j may be set to
-abbrev pub flagInRange : ℕ → ℕ → Bool
-flagInRange j v = between 1 10 v && permitted j v
+abbrev pub flagInRange : FlagTable → ℕ → ℕ → Bool
+flagInRange marks j v = between 1 10 v && permitted marks j v
 
--- what the flags from j on may hold: a value in range, or 0, missing
-unfoldable pub flagsFit : ℕ → List ℕ → Bool
-flagsFit j [] = true
-flagsFit j (v ∷ vs) = cond (eqb v 0) true (flagInRange j v) && flagsFit (suc j) vs
+-- what the flags from j on may hold: a value in range, or 0, missing, which every table permits
+unfoldable pub flagsFit : FlagTable → ℕ → List ℕ → Bool
+flagsFit marks j [] = true
+flagsFit marks j (v ∷ vs) = cond (eqb v 0) true (flagInRange marks j v) && flagsFit marks (suc j) vs
 
 -- flag j of a body
 abbrev pub flagAt : List ℕ → ℕ → ℕ
@@ -54,7 +65,7 @@ flagBody flags = flags ++ (qualityCode flags / 16 ∷ qualityCode flags % 16 ∷
 unfoldable pub withFlag : List ℕ → ℕ → ℕ → List ℕ
 withFlag body j v = flagBody (set (take 14 body) (j - 1) v)
 
--- a valid content of id 1: 16 nibbles, no flag over 10, the quality code of the flags
-unfoldable pub flagsValid : List ℕ → Bool
-flagsValid body =
-    eqb (length body) 16 && (flagsFit 1 (take 14 body) && eqb (getD body 14 0 * 16 + getD body 15 0) (qualityCode (take 14 body)))
+-- a valid content of id 1: 16 nibbles, no flag that is out of range, the quality code of the flags
+unfoldable pub flagsValid : FlagTable → List ℕ → Bool
+flagsValid marks body =
+    eqb (length body) 16 && (flagsFit marks 1 (take 14 body) && eqb (getD body 14 0 * 16 + getD body 15 0) (qualityCode (take 14 body)))

@@ -11,4 +11,5 @@ pub mod Reply
 pub mod Machine
 pub mod Buffer
 pub mod Whole
+pub mod Loading
 pub mod Lister

@@ -7,6 +7,7 @@ use lib.ListN.{length, take}
 use lib.Dec.{ltb}
 use lib.IntN.{ℤ, pos, negsuc}
 use Rattle.format.specs.Field.{table, codes}
+use Rattle.format.specs.Flags.{allYes}
 use Rattle.format.specs.Observation.{checksum}
 use Rattle.format.specs.Report.{Verdict, refused, accepted, judge}
 use Rattle.format.specs.declared.Scaled.{Scaled}
@@ -43,6 +44,6 @@ listingOf (accepted s) =
     fieldLines 1 (s .values)
     ++ (line (67 ∷ []) (decimal (checksum (codes table (s .values)))) ++ line (65 ∷ []) (decimal (length (s .attachments))))
 
--- the first 1856 bytes of the input count
+-- the first 1856 bytes of the input count, and every flag may have every value
 unfoldable pub listing : List ℕ → List ℕ
-listing input = listingOf (judge (take 1856 input))
+listing input = listingOf (judge allYes (take 1856 input))

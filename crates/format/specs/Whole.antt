@@ -9,6 +9,7 @@ use lib.IntN.{ℤ, pos}
 use Rattle.format.specs.Order.{Refusal, Check, check, first}
 use Rattle.format.specs.Field.{Field, table, required, inRange, scaled, BOX10, YEAR, MONTH, X, Y}
 use Rattle.format.specs.Nibbles.{attachmentsOf, tailNibbles, behind}
+use Rattle.format.specs.Flags.{FlagTable}
 use Rattle.format.specs.Observation.{Observation, observation, packing, size}
 use Rattle.format.specs.Report.{Verdict, judge, attachmentChecks}
 use Rattle.format.specs.Calls.{Quantity, Given, counted, Answer, refused, accepted, valueCheck, withValue, allNibbles, over}
@@ -107,8 +108,8 @@ abbrev pub unpackOn : Verdict → List ℤ → List ℕ → Unpacked
 unpackOn (Verdict.refused r) values tailOut = unpacked (refused r) values tailOut
 unpackOn (Verdict.accepted s) values tailOut = unpackedBy (first (unpackChecks s values tailOut)) s values tailOut
 
-unfoldable pub unpack : List ℕ → List ℤ → List ℕ → Unpacked
-unpack b values tailOut = unpackOn (judge b) values tailOut
+unfoldable pub unpack : FlagTable → List ℕ → List ℤ → List ℕ → Unpacked
+unpack marks b values tailOut = unpackOn (judge marks b) values tailOut
 
 -- ---- pack
 
@@ -148,13 +149,13 @@ unfoldable pub packObservation : List ℤ → ℕ → ℕ → List ℕ → Obser
 packObservation values word rptin ns = observation rptin (entriesGiven 1 word (take 46 values)) (attachmentsOf (countIn ns) ns)
 
 -- the order of FORMAT 7.4
-unfoldable pub packOrder : ℕ → List ℤ → ℕ → ℕ → List ℕ → List Check
-packOrder n values word rptin ns =
+unfoldable pub packOrder : FlagTable → ℕ → List ℤ → ℕ → ℕ → List ℕ → List Check
+packOrder marks n values word rptin ns =
     check (ltb (length values) 46) 13 0
     ∷ check (bitOutside word) 8 0
     ∷ (packChecks 1 table word values
     ++ (check (not (allNibbles ns)) 14 0
-    ∷ (attachmentChecks (countIn ns) 1 [] ns
+    ∷ (attachmentChecks marks (countIn ns) 1 [] ns
     ++ (check (ltb n (size (packObservation values word rptin ns))) 13 0 ∷ []))))
 
 -- the report's size in bytes
@@ -162,10 +163,10 @@ abbrev pub packGives : ℕ → List Given
 packGives size = counted Quantity.bytes size ∷ []
 
 -- a refused call leaves the output
-unfoldable pub pack : List ℤ → ℕ → ℕ → List ℕ → List ℕ → Wrote
-pack values word rptin ns out =
+unfoldable pub pack : FlagTable → List ℤ → ℕ → ℕ → List ℕ → List ℕ → Wrote
+pack marks values word rptin ns out =
     let s = packObservation values word rptin ns in
-    wroteBy (first (packOrder (length out) values word rptin ns)) (packGives (size s)) (packing s) out
+    wroteBy (first (packOrder marks (length out) values word rptin ns)) (packGives (size s)) (packing s) out
 
 -- ---- what comes back of values that were packed
 

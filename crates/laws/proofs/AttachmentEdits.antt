@@ -9,6 +9,7 @@ use lib.ListN.{length, length-append}
 use lib.Dec.{eqb, leb}
 use borrow.Author.Tests.{eq-eqb, ne-eqb, eqb-true, eqb-false, leb-true}
 use Rattle.format.specs.Order.{between}
+use Rattle.format.specs.Flags.{FlagTable}
 use Rattle.format.specs.Nibbles.{Attachment, attachment, tailNibbles, among}
 use Rattle.format.specs.Report.{bodyValid}
 use Rattle.format.specs.Calls.{stands, contentOf, putIn, removeFrom, allNibbles}
@@ -17,26 +18,26 @@ use Rattle.laws.proofs.Attachments.{all-nibbles, FineAt, Fine, empty, o
 
 -- ---- an edit leaves attachments that stand
 
-put-after : {seen : List ℕ} {list : List Attachment} (i : ℕ) (ns : List ℕ) → FineAt (attachment i ns) → among i seen ≡ false
-    → Fine seen list → Fine seen (putIn i ns list)
+put-after : (marks : FlagTable) {seen : List ℕ} {list : List Attachment} (i : ℕ) (ns : List ℕ) → FineAt marks (attachment i ns) → among i seen ≡ false
+    → Fine marks seen list → Fine marks seen (putIn i ns list)
 unfolding putIn among
-put-after i ns at new empty = one at new empty
-put-after {seen} i ns at new (one {a = a} {more = more} b old f) =
-    cond-case (Fine seen) (eqb (a .id) i) (attachment i ns ∷ more) (a ∷ putIn i ns more)
+put-after marks i ns at new empty = one at new empty
+put-after marks {seen} i ns at new (one {a = a} {more = more} b old f) =
+    cond-case (Fine marks seen) (eqb (a .id) i) (attachment i ns ∷ more) (a ∷ putIn i ns more)
     (λ e. one at new (rw (eqb-true (a .id) i e) at f))
-    (λ e. one b old (put-after i ns at (rw (ne-eqb i (a .id) (λ s. eqb-false (a .id) i e (sym s))) new) f))
+    (λ e. one b old (put-after marks i ns at (rw (ne-eqb i (a .id) (λ s. eqb-false (a .id) i e (sym s))) new) f))
 
-pub put-fine : {list : List Attachment} (i : ℕ) (ns : List ℕ) → FineAt (attachment i ns) → Fine [] list → Fine [] (putIn i ns list)
+pub put-fine : (marks : FlagTable) {list : List Attachment} (i : ℕ) (ns : List ℕ) → FineAt marks (attachment i ns) → Fine marks [] list → Fine marks [] (putIn i ns list)
 unfolding among
-put-fine i ns at f = put-after i ns at refl f
+put-fine marks i ns at f = put-after marks i ns at refl f
 
 -- what the checks of a put leave is fine
-pub put-checked : (i : ℕ) (ns : List ℕ) → between 1 15 i ≡ true → between 1 255 (length ns) ≡ true
-    → allNibbles ns && bodyValid i ns ≡ true → FineAt (attachment i ns)
-put-checked i ns ids lengths body =
+pub put-checked : (marks : FlagTable) (i : ℕ) (ns : List ℕ) → between 1 15 i ≡ true → between 1 255 (length ns) ≡ true
+    → allNibbles ns && bodyValid marks i ns ≡ true → FineAt marks (attachment i ns)
+put-checked marks i ns ids lengths body =
     let p = and-true (leb 1 i) (leb i 15) ids in
     let q = and-true (leb 1 (length ns)) (leb (length ns) 255) lengths in
-    let r = and-true (allNibbles ns) (bodyValid i ns) body in
+    let r = and-true (allNibbles ns) (bodyValid marks i ns) body in
     record {
       filled = leb-true 1 (length ns) (q .0);
       short = leb-true (length ns) 255 (q .1);
@@ -47,32 +48,32 @@ put-checked i ns ids lengths body =
     }
 
 -- attachments stand after fewer ids too
-fewer : {seen seen′ : List ℕ} {list : List Attachment} → ((x : ℕ) → among x seen ≡ false → among x seen′ ≡ false)
-    → Fine seen list → Fine seen′ list
+fewer : (marks : FlagTable) {seen seen′ : List ℕ} {list : List Attachment} → ((x : ℕ) → among x seen ≡ false → among x seen′ ≡ false)
+    → Fine marks seen list → Fine marks seen′ list
 unfolding among
-fewer h empty = empty
-fewer {seen} {seen′} h (one {a = a} at new f) = one at (h (a .id) new) (fewer more f)
+fewer marks h empty = empty
+fewer marks {seen} {seen′} h (one {a = a} at new f) = one at (h (a .id) new) (fewer marks more f)
   where
     more : (x : ℕ) → among x (a .id ∷ seen) ≡ false → among x (a .id ∷ seen′) ≡ false
     more x e = let p = or-false (eqb x (a .id)) (among x seen) e in rw (p .0) (h x (p .1))
 
-pub remove-fine : {seen : List ℕ} {list : List Attachment} (i : ℕ) → Fine seen list → Fine seen (removeFrom i list)
+pub remove-fine : (marks : FlagTable) {seen : List ℕ} {list : List Attachment} (i : ℕ) → Fine marks seen list → Fine marks seen (removeFrom i list)
 unfolding removeFrom among
-remove-fine i empty = empty
-remove-fine {seen} i (one {a = a} {more = more} at new f) =
-    cond-case (Fine seen) (eqb (a .id) i) more (a ∷ removeFrom i more)
-    (λ e. fewer (λ x q. or-false (eqb x (a .id)) (among x seen) q .1) f)
-    (λ e. one at new (remove-fine i f))
+remove-fine marks i empty = empty
+remove-fine marks {seen} i (one {a = a} {more = more} at new f) =
+    cond-case (Fine marks seen) (eqb (a .id) i) more (a ∷ removeFrom i more)
+    (λ e. fewer marks (λ x q. or-false (eqb x (a .id)) (among x seen) q .1) f)
+    (λ e. one at new (remove-fine marks i f))
 
 -- the content of an attachment that stands
-pub content-fine : {seen : List ℕ} {list : List Attachment} (i : ℕ) → Fine seen list → stands i list ≡ true
-    → FineAt (attachment i (contentOf i list))
+pub content-fine : (marks : FlagTable) {seen : List ℕ} {list : List Attachment} (i : ℕ) → Fine marks seen list → stands i list ≡ true
+    → FineAt marks (attachment i (contentOf i list))
 unfolding stands contentOf
-content-fine i empty h = absurd (true-false false h refl)
-content-fine i (one {a = a} {more = more} at new f) h =
-    cond-case (λ (ns : List ℕ). FineAt (attachment i ns)) (eqb (a .id) i) (a .content) (contentOf i more)
-    (λ e. subst (λ (k : ℕ). FineAt (attachment k (a .content))) (eqb-true (a .id) i e) at)
-    (λ e. content-fine i f (rw e at h))
+content-fine marks i empty h = absurd (true-false false h refl)
+content-fine marks i (one {a = a} {more = more} at new f) h =
+    cond-case (λ (ns : List ℕ). FineAt marks (attachment i ns)) (eqb (a .id) i) (a .content) (contentOf i more)
+    (λ e. subst (λ (k : ℕ). FineAt marks (attachment k (a .content))) (eqb-true (a .id) i e) at)
+    (λ e. content-fine marks i f (rw e at h))
 
 -- ---- the place of an attachment
 

@@ -13,7 +13,7 @@ use lib.Dec.{leb, eqb}
 use borrow.Author.Tests.{le-ltb, le-leb, ne-eqb, ltb-false, leb-true, eqb-true, eqb-false, not-false}
 use Rattle.format.specs.Order.{first}
 use Rattle.format.specs.Nibbles.{Attachment, attachment, attachmentNibbles, tailNibbles, lengthAt, idAt, contentAt, behind, attachmentsOf, among, Nibbles}
-use Rattle.format.specs.Flags.{flagsValid}
+use Rattle.format.specs.Flags.{FlagTable, flagsValid}
 use Rattle.format.specs.Report.{bodyValid, attachmentChecks}
 use Rattle.format.specs.Calls.{allNibbles}
 use Rattle.format.specs.Whole.{countFrom, countIn}
@@ -121,26 +121,26 @@ count-rest list m r h e =
 -- ---- attachments that stand
 
 -- an attachment that no check refuses by itself
-pub record FineAt (a : Attachment) : Type 0 where
+pub record FineAt (marks : FlagTable) (a : Attachment) : Type 0 where
   pub filled : 1 ≤ length (a .content)
   pub short : length (a .content) ≤ 255
   pub nibbles : Nibbles (a .content)
   pub low : 1 ≤ a .id
   pub high : a .id ≤ 15
-  pub valid : bodyValid (a .id) (a .content) ≡ true
+  pub valid : bodyValid marks (a .id) (a .content) ≡ true
 
 -- attachments that stand after the ids seen
-pub data Fine : List ℕ → List Attachment → Type 0 where
-  empty : {seen : List ℕ} → Fine seen []
+pub data Fine (marks : FlagTable) : List ℕ → List Attachment → Type 0 where
+  empty : {seen : List ℕ} → Fine marks seen []
   one : {seen : List ℕ} {a : Attachment} {more : List Attachment}
-      → FineAt a → among (a .id) seen ≡ false → Fine (a .id ∷ seen) more → Fine seen (a ∷ more)
+      → FineAt marks a → among (a .id) seen ≡ false → Fine marks (a .id ∷ seen) more → Fine marks seen (a ∷ more)
 
 -- no check refuses what stands, whatever follows
-pub fine-checks : {seen : List ℕ} {list : List Attachment} (i : ℕ) (r : List ℕ) → Fine seen list
-    → first (attachmentChecks (length list) i seen (tailNibbles list ++ r)) ≡ none
+pub fine-checks : (marks : FlagTable) {seen : List ℕ} {list : List Attachment} (i : ℕ) (r : List ℕ) → Fine marks seen list
+    → first (attachmentChecks marks (length list) i seen (tailNibbles list ++ r)) ≡ none
 unfolding attachmentChecks first
-fine-checks i r empty = refl
-fine-checks {seen} i r (one {a = a} {more = more} at new f) =
+fine-checks marks i r empty = refl
+fine-checks marks {seen} i r (one {a = a} {more = more} at new f) =
     let ns = tailNibbles (a ∷ more) ++ r in
     let l = length (a .content) in
     let head : 3 ≤ length ns = simp (length-append, tail-length) (omega arith) in
@@ -156,27 +156,27 @@ fine-checks {seen} i r (one {a = a} {more = more} at new f) =
       take-at (a .content) (tailNibbles more ++ r) l refl,
       at .valid,
       drop-at (a .content) (tailNibbles more ++ r) l refl,
-      fine-checks (suc i) r f,
+      fine-checks marks (suc i) r f,
     )
 
 -- the tail of what stands is of nibbles
-attachment-nibbles : (a : Attachment) → FineAt a → Nibbles (attachmentNibbles a)
+attachment-nibbles : (marks : FlagTable) (a : Attachment) → FineAt marks a → Nibbles (attachmentNibbles a)
 unfolding attachmentNibbles
-attachment-nibbles a at zero = omega arith
-attachment-nibbles a at (suc zero) = omega arith
-attachment-nibbles a at (suc (suc zero)) = omega arith
-attachment-nibbles a at (suc (suc (suc i))) = at .nibbles i
+attachment-nibbles marks a at zero = omega arith
+attachment-nibbles marks a at (suc zero) = omega arith
+attachment-nibbles marks a at (suc (suc zero)) = omega arith
+attachment-nibbles marks a at (suc (suc (suc i))) = at .nibbles i
 
-pub fine-nibbles : {seen : List ℕ} {list : List Attachment} → Fine seen list → Nibbles (tailNibbles list)
+pub fine-nibbles : (marks : FlagTable) {seen : List ℕ} {list : List Attachment} → Fine marks seen list → Nibbles (tailNibbles list)
 unfolding tailNibbles
-fine-nibbles empty = λ i. omega arith
-fine-nibbles (one {a = a} {more = more} at new f) = append-below 16 (attachmentNibbles a) (tailNibbles more) (attachment-nibbles a at) (fine-nibbles f)
+fine-nibbles marks empty = λ i. omega arith
+fine-nibbles marks (one {a = a} {more = more} at new f) = append-below 16 (attachmentNibbles a) (tailNibbles more) (attachment-nibbles marks a at) (fine-nibbles marks f)
 
 -- ---- and back: what no check refuses is a tail
 
 -- n attachments at the head of nibbles
-pub record Walked (n : ℕ) (seen ns : List ℕ) : Type 0 where
-  pub fine : Fine seen (attachmentsOf n ns)
+pub record Walked (marks : FlagTable) (n : ℕ) (seen ns : List ℕ) : Type 0 where
+  pub fine : Fine marks seen (attachmentsOf n ns)
   pub count : length (attachmentsOf n ns) ≡ n
   pub starts : ns ≡ tailNibbles (attachmentsOf n ns) ++ drop (length (tailNibbles (attachmentsOf n ns))) ns
 
@@ -203,10 +203,10 @@ headed ns more r b head fits e =
     rw (length-take-le l d fits, high, low) (header ns head ∙ ap (λ (t : List ℕ). getD ns 0 0 ∷ getD ns 1 0 ∷ idAt ns ∷ t) body)
 
 -- what no check refuses are attachments that stand, written at the front
-pub checks-fine : (n i : ℕ) (seen ns : List ℕ) → Nibbles ns → first (attachmentChecks n i seen ns) ≡ none → Walked n seen ns
+pub checks-fine : (marks : FlagTable) (n i : ℕ) (seen ns : List ℕ) → Nibbles ns → first (attachmentChecks marks n i seen ns) ≡ none → Walked marks n seen ns
 unfolding attachmentChecks attachmentsOf tailNibbles attachmentNibbles
-checks-fine zero i seen ns b e = record { fine = empty; count = refl; starts = refl }
-checks-fine (suc n) i seen ns b e =
+checks-fine marks zero i seen ns b e = record { fine = empty; count = refl; starts = refl }
+checks-fine marks (suc n) i seen ns b e =
     let l = lengthAt ns in
     let d = drop 3 ns in
     let e1 = first-none _ _ e in
@@ -222,7 +222,7 @@ checks-fine (suc n) i seen ns b e =
     let b2 = b 2 in
     let n1 = eqb-false l 0 (t2 .0) in
     let n2 = eqb-false (idAt ns) 0 (t3 .0) in
-    let at : FineAt (attachment (idAt ns) (take l d)) = record {
+    let at : FineAt marks (attachment (idAt ns) (take l d)) = record {
       filled = omega arith;
       short = omega arith;
       nibbles = take-below 16 l d (drop-below 16 3 ns b);
@@ -230,17 +230,17 @@ checks-fine (suc n) i seen ns b e =
       high = omega arith;
       valid = not-false _ (e4 .0);
     } in
-    let w = checks-fine n (suc i) (idAt ns ∷ seen) (drop l d) (drop-below 16 l d (drop-below 16 3 ns b)) (e4 .1) in
+    let w = checks-fine marks n (suc i) (idAt ns ∷ seen) (drop l d) (drop-below 16 l d (drop-below 16 3 ns b)) (e4 .1) in
     let more = attachmentsOf n (behind ns) in
     let r = drop (length (tailNibbles more)) (behind ns) in
     let split = headed ns more r b (ltb-false (length ns) 3 (e1 .0)) fits (w .starts) in
     record { fine = one at (t3 .1) (w .fine); count = ap suc (w .count); starts = front ns (tailNibbles (attachmentsOf (suc n) ns)) r split }
 
 -- nothing is left behind the last attachment that is counted
-pub count-all : (ns : List ℕ) → Nibbles ns → first (attachmentChecks (countIn ns) 1 [] ns) ≡ none
+pub count-all : (marks : FlagTable) (ns : List ℕ) → Nibbles ns → first (attachmentChecks marks (countIn ns) 1 [] ns) ≡ none
     → ns ≡ tailNibbles (attachmentsOf (countIn ns) ns)
-count-all ns b e =
-    let w = checks-fine (countIn ns) 1 [] ns b e in
+count-all marks ns b e =
+    let w = checks-fine marks (countIn ns) 1 [] ns b e in
     let t = tailNibbles (attachmentsOf (countIn ns) ns) in
     let r = drop (length t) ns in
     let s : ns ≡ t ++ r = w .starts in
@@ -277,37 +277,37 @@ room-taken w (suc k) i seen low high new = go (λ h. room-taken w k i seen low h
         rw e (omega (arith, below (omega arith)))
 
 -- attachments that stand weigh no more together than the ids that are not seen
-fine-weigh : {seen : List ℕ} {list : List Attachment} (f : List Attachment → ℕ) (w : ℕ → ℕ) → f [] ≡ 0
-    → ((a : Attachment) (more : List Attachment) → FineAt a → f (a ∷ more) ≤ w (a .id) + f more) → Fine seen list → f list ≤ room w 15 seen
-fine-weigh f w z s empty = omega arith
-fine-weigh {seen} f w z s (one {a = a} {more = more} at new g) =
-    omega (arith, s a more at, fine-weigh f w z s g, room-taken w 15 (a .id) seen (at .low) (at .high) new)
+fine-weigh : (marks : FlagTable) {seen : List ℕ} {list : List Attachment} (f : List Attachment → ℕ) (w : ℕ → ℕ) → f [] ≡ 0
+    → ((a : Attachment) (more : List Attachment) → FineAt marks a → f (a ∷ more) ≤ w (a .id) + f more) → Fine marks seen list → f list ≤ room w 15 seen
+fine-weigh marks f w z s empty = omega arith
+fine-weigh marks {seen} f w z s (one {a = a} {more = more} at new g) =
+    omega (arith, s a more at, fine-weigh marks f w z s g, room-taken w 15 (a .id) seen (at .low) (at .high) new)
 
 -- at most fifteen attachments stand
-pub fine-count : {list : List Attachment} → Fine [] list → length list ≤ 15
+pub fine-count : (marks : FlagTable) {list : List Attachment} → Fine marks [] list → length list ≤ 15
 unfolding room among
-fine-count f = fine-weigh length (λ i. 1) refl (λ a more at. omega arith) f
+fine-count marks f = fine-weigh marks length (λ i. 1) refl (λ a more at. omega arith) f
 
 -- flags have 16 nibbles
-flags-length : (ns : List ℕ) → bodyValid 1 ns ≡ true → length ns ≡ 16
+flags-length : (marks : FlagTable) (ns : List ℕ) → bodyValid marks 1 ns ≡ true → length ns ≡ 16
 unfolding bodyValid flagsValid
-flags-length ns e = eqb-true (length ns) 16 (and-true _ _ e .0)
+flags-length marks ns e = eqb-true (length ns) 16 (and-true _ _ e .0)
 
 -- the most nibbles of an attachment under id i, with its header
 most : ℕ → ℕ
 most i = cond (eqb i 1) 19 258
 
-fine-most : (a : Attachment) → FineAt a → 3 + length (a .content) ≤ most (a .id)
+fine-most : (marks : FlagTable) (a : Attachment) → FineAt marks a → 3 + length (a .content) ≤ most (a .id)
 unfolding most
-fine-most a at =
+fine-most marks a at =
     cond-case (λ (n : ℕ). 3 + length (a .content) ≤ n) (eqb (a .id) 1) 19 258
-    (λ e. omega (arith, flags-length (a .content) (rw (eqb-true (a .id) 1 e) at (at .valid))))
+    (λ e. omega (arith, flags-length marks (a .content) (rw (eqb-true (a .id) 1 e) at (at .valid))))
     (λ e. omega arith)
 
 -- the largest tail: 15 attachments, of which the flags have 16 nibbles and the others 255
-pub fine-size : {list : List Attachment} → Fine [] list → length (tailNibbles list) ≤ 3631
+pub fine-size : (marks : FlagTable) {list : List Attachment} → Fine marks [] list → length (tailNibbles list) ≤ 3631
 unfolding room among tailNibbles most
-fine-size f = fine-weigh (λ list. length (tailNibbles list)) most refl (λ a more at. rw tail-length (omega (arith, fine-most a at))) f
+fine-size marks f = fine-weigh marks (λ list. length (tailNibbles list)) most refl (λ a more at. rw tail-length (omega (arith, fine-most marks a at))) f
 
 -- as many attachments as are counted
 pub attachments-length : (n : ℕ) (ns : List ℕ) → length (attachmentsOf n ns) ≡ n

@@ -16,7 +16,7 @@ use Rattle.format.specs.Order.{Refusal, Check, check, first, between}
 use Rattle.format.specs.Field.{Field, table, inRange}
 use Rattle.format.specs.Bits.{Bytes, offset}
 use Rattle.format.specs.Nibbles.{Attachment, Nibbles, idAt, behind}
-use Rattle.format.specs.Flags.{flagAt}
+use Rattle.format.specs.Flags.{FlagTable, flagAt}
 use Rattle.format.specs.Observation.{Observation, widths, size}
 use Rattle.format.specs.Report.{codesOf, countOf, tailOf, fieldChecks, attachmentChecks, reportChecks, observationOf, Verdict, verdict, judge}
 use Rattle.format.specs.Calls.{Call, reads, edits, fetches, readField, setField, clearField, readFlag, setFlag, clearFlag, put, fetch, remove, putText, fetchText, contentOf, content, valueNumber}
@@ -87,14 +87,14 @@ fields-near k (f ∷ fs) [] h = near-nil
 fields-near k (f ∷ fs) (c ∷ cs) h =
     near-cons _ _ (omega arith) (λ q. near-cons _ _ (omega arith) (λ p. fields-near (suc k) fs cs (omega arith)))
 
-attachments-near : (n i : ℕ) (seen ns : List ℕ) → i + n ≤ 64 → Near (attachmentChecks n i seen ns)
+attachments-near : (marks : FlagTable) (n i : ℕ) (seen ns : List ℕ) → i + n ≤ 64 → Near (attachmentChecks marks n i seen ns)
 unfolding attachmentChecks
-attachments-near zero i seen ns h = near-nil
-attachments-near (suc n) i seen ns h =
+attachments-near marks zero i seen ns h = near-nil
+attachments-near marks (suc n) i seen ns h =
     near-cons _ _ (omega arith)
     (λ q1. near-cons _ _ (omega arith)
     (λ q2. near-cons _ _ (omega arith)
-    (λ q3. near-cons _ _ (omega arith) (λ q4. attachments-near n (suc i) (idAt ns ∷ seen) (behind ns) (omega arith)))))
+    (λ q3. near-cons _ _ (omega arith) (λ q4. attachments-near marks n (suc i) (idAt ns ∷ seen) (behind ns) (omega arith)))))
 
 count-low : (b : List ℕ) → countOf b < 16
 unfolding widths table
@@ -102,40 +102,40 @@ count-low b =
     let at = bitField-at widths b 48 (omega (arith, length-widths)) in
     subst (λ (n : ℕ). n < 16) at (bitField-lt b (offset widths 48) 4)
 
-report-near : (b : List ℕ) → Near (reportChecks b)
+report-near : (marks : FlagTable) (b : List ℕ) → Near (reportChecks marks b)
 unfolding reportChecks
-report-near b =
+report-near marks b =
     near-cons _ _ (omega arith)
     (λ q. near-append (fieldChecks 1 table (codesOf b)) _ (fields-near 1 table (codesOf b) (omega (arith, table-length)))
     (near-cons _ _ (omega arith)
-    (λ p. near-append (attachmentChecks (countOf b) 1 [] (tailOf b)) _ (attachments-near (countOf b) 1 [] (tailOf b) (omega (arith, count-low b)))
+    (λ p. near-append (attachmentChecks marks (countOf b) 1 [] (tailOf b)) _ (attachments-near marks (countOf b) 1 [] (tailOf b) (omega (arith, count-low b)))
     (near-one _ (omega arith)))))
 
-judge-fits : (b : List ℕ) (r : Refusal) → judge b ≡ Verdict.refused r → r .place < 2 ^ 64
+judge-fits : (marks : FlagTable) (b : List ℕ) (r : Refusal) → judge marks b ≡ Verdict.refused r → r .place < 2 ^ 64
 unfolding judge Near
-judge-fits b r = go (first (reportChecks b)) refl
+judge-fits marks b r = go (first (reportChecks marks b)) refl
   where
-    go : (o : Option Refusal) → first (reportChecks b) ≡ o → verdict o (observationOf b) ≡ Verdict.refused r → r .place < 2 ^ 64
+    go : (o : Option Refusal) → first (reportChecks marks b) ≡ o → verdict o (observationOf b) ≡ Verdict.refused r → r .place < 2 ^ 64
     go none q e = let z : _≡_ {A = ℕ} 0 1 = cc in absurd (omega arith)
-    go (some x) q e = let s : x ≡ r = cc in let h = report-near b x q in omega (arith, ap (λ (y : Refusal). y .place) s)
+    go (some x) q e = let s : x ≡ r = cc in let h = report-near marks b x q in omega (arith, ap (λ (y : Refusal). y .place) s)
 
 -- a call's: a number is judged before it is a place
 number-near : (low high x : ℕ) (more : List Check) → (x ≤ high → Near more) → Near (check (not (between low high x)) 8 0 ∷ more)
 number-near low high x more h = near-cons _ _ (omega arith) (λ q. h (between-in low high x (between low high x) refl q .1))
 
-calls-near : (s : Observation) (c : Call) → Near (callChecks s c)
+calls-near : (marks : FlagTable) (s : Observation) (c : Call) → Near (callChecks marks s c)
 unfolding callChecks
-calls-near s (reads (readField k)) = number-near 1 46 k _ (λ h. near-nil)
-calls-near s (reads (readFlag j)) = number-near 1 14 j _ (λ h. near-one _ (omega arith))
-calls-near s (edits (setField k v)) = number-near 1 46 k _ (λ h. near-one _ (omega arith))
-calls-near s (edits (clearField k)) = number-near 1 46 k _ (λ h. near-one _ (omega arith))
-calls-near s (edits (setFlag j v)) = number-near 1 14 j _ (λ h. near-cons _ _ (omega arith) (λ q. near-one _ (omega arith)))
-calls-near s (edits (clearFlag j)) = number-near 1 14 j _ (λ h. near-one _ (omega arith))
-calls-near s (edits (put i ns)) = number-near 1 15 i _ (λ h. near-cons _ _ (omega arith) (λ q. near-one _ (omega arith)))
-calls-near s (edits (remove i)) = number-near 1 15 i _ (λ h. near-one _ (omega arith))
-calls-near s (edits (putText t)) = near-cons _ _ (omega arith) (λ q. near-one _ (omega arith))
-calls-near s (fetches (fetch i out)) = number-near 1 15 i _ (λ h. near-one _ (omega arith))
-calls-near s (fetches (fetchText out)) = near-one _ (omega arith)
+calls-near marks s (reads (readField k)) = number-near 1 46 k _ (λ h. near-nil)
+calls-near marks s (reads (readFlag j)) = number-near 1 14 j _ (λ h. near-one _ (omega arith))
+calls-near marks s (edits (setField k v)) = number-near 1 46 k _ (λ h. near-one _ (omega arith))
+calls-near marks s (edits (clearField k)) = number-near 1 46 k _ (λ h. near-one _ (omega arith))
+calls-near marks s (edits (setFlag j v)) = number-near 1 14 j _ (λ h. near-cons _ _ (omega arith) (λ q. near-one _ (omega arith)))
+calls-near marks s (edits (clearFlag j)) = number-near 1 14 j _ (λ h. near-one _ (omega arith))
+calls-near marks s (edits (put i ns)) = number-near 1 15 i _ (λ h. near-cons _ _ (omega arith) (λ q. near-one _ (omega arith)))
+calls-near marks s (edits (remove i)) = number-near 1 15 i _ (λ h. near-one _ (omega arith))
+calls-near marks s (edits (putText t)) = near-cons _ _ (omega arith) (λ q. near-one _ (omega arith))
+calls-near marks s (fetches (fetch i out)) = number-near 1 15 i _ (λ h. near-one _ (omega arith))
+calls-near marks s (fetches (fetchText out)) = near-one _ (omega arith)
 
 -- ---- numbers that are given
 
@@ -178,46 +178,46 @@ value-fits (cons {f = f} {e = e} {fs = fs} h t) l zero = entry-fits f e h (and-t
 value-fits (cons {f = f} {fs = fs} h t) l (suc i) = value-fits t (and-true (narrow f) (allNarrow fs) l .1) i
 
 -- attachments: 255 nibbles at most
-content-low : {seen : List ℕ} {list : List Attachment} (i : ℕ) → Fine seen list
+content-low : (marks : FlagTable) {seen : List ℕ} {list : List Attachment} (i : ℕ) → Fine marks seen list
     → (length (contentOf i list) ≤ 255) × Nibbles (contentOf i list)
 unfolding contentOf
-content-low i empty = (omega arith, λ k. omega arith)
-content-low i (one {a = a} {more = more} at new f) =
+content-low marks i empty = (omega arith, λ k. omega arith)
+content-low marks i (one {a = a} {more = more} at new f) =
     cond-case (λ (ns : List ℕ). (length ns ≤ 255) × Nibbles ns) (eqb (a .id) i) (a .content) (contentOf i more)
     (λ e. (at .short, at .nibbles))
-    (λ e. content-low i f)
+    (λ e. content-low marks i f)
 
-gives-fit : (s : Observation) (c : Call) → Good s → GivenFit (gives s c)
+gives-fit : (marks : FlagTable) (s : Observation) (c : Call) → Good marks s → GivenFit (gives s c)
 unfolding gives
-gives-fit s (reads (readField k)) g = (value-fits (g .fair) table-narrow (k - 1), tt)
-gives-fit s (reads (readFlag j)) g =
+gives-fit marks s (reads (readField k)) g = (value-fits (g .fair) table-narrow (k - 1), tt)
+gives-fit marks s (reads (readFlag j)) g =
     let v = flagAt (content s 1) j in
-    let h = content-low 1 (g .fine) .1 (j - 1) in
+    let h = content-low marks 1 (g .fine) .1 (j - 1) in
     (cond-case NumberFits (eqb v 0) none (some (pos v)) (λ e. tt) (λ e. omega arith), tt)
-gives-fit s (edits e) g = tt
-gives-fit s (fetches (fetch i out)) g = let h = content-low i (g .fine) .0 in (omega arith, tt)
-gives-fit s (fetches (fetchText out)) g = let h = content-low 4 (g .fine) .0 in (omega (arith, read-text-length (content s 4)), tt)
+gives-fit marks s (edits e) g = tt
+gives-fit marks s (fetches (fetch i out)) g = let h = content-low marks i (g .fine) .0 in (omega arith, tt)
+gives-fit marks s (fetches (fetchText out)) g = let h = content-low marks 4 (g .fine) .0 in (omega (arith, read-text-length (content s 4)), tt)
 
 -- ---- answers
 
-step-fits : (n : ℕ) (s : Observation) (c : Call) → Good s → AnswerFits (step n s c .answer)
+step-fits : (marks : FlagTable) (n : ℕ) (s : Observation) (c : Call) → Good marks s → AnswerFits (step marks n s c .answer)
 unfolding step Near
-step-fits n s c g = go (first (checks n s c)) refl
+step-fits marks n s c g = go (first (checks marks n s c)) refl
   where
-    near : Near (checks n s c)
-    near = unfold checks in near-append (callChecks s c) (roomCheck n s c ∷ []) (calls-near s c) (near-one (roomCheck n s c) (omega arith))
+    near : Near (checks marks n s c)
+    near = unfold checks in near-append (callChecks marks s c) (roomCheck n s c ∷ []) (calls-near marks s c) (near-one (roomCheck n s c) (omega arith))
 
-    go : (o : Option Refusal) → first (checks n s c) ≡ o → AnswerFits (steppedBy o s c .answer)
+    go : (o : Option Refusal) → first (checks marks n s c) ≡ o → AnswerFits (steppedBy o s c .answer)
     go (some r) q = let h = near r q in omega arith
-    go none q = gives-fit s c g
+    go none q = gives-fit marks s c g
 
-pub effect-fits : (b : List ℕ) (c : Call) → Bytes b → AnswerFits (effect b c .answer)
+pub effect-fits : (marks : FlagTable) (b : List ℕ) (c : Call) → Bytes b → AnswerFits (effect marks b c .answer)
 unfolding effect
-effect-fits b c h = go (judge b) refl
+effect-fits marks b c h = go (judge marks b) refl
   where
-    go : (v : Verdict) → judge b ≡ v → AnswerFits (effectOn v b c .answer)
-    go (Verdict.refused r) q = judge-fits b r q
-    go (Verdict.accepted s) q = step-fits (length b) s c (judged b s h q .good)
+    go : (v : Verdict) → judge marks b ≡ v → AnswerFits (effectOn marks v b c .answer)
+    go (Verdict.refused r) q = judge-fits marks b r q
+    go (Verdict.accepted s) q = step-fits marks (length b) s c (judged marks b s h q .good)
 
 -- every answer of a list
 abbrev pub ShownFits : Call → Shown → Type 0
@@ -227,13 +227,13 @@ refusals-fit : (r : Refusal) (cs : List Call) → r .place < 2 ^ 64 → Each Sho
 refusals-fit r [] h = tt
 refusals-fit r (c ∷ cs) h = (h, refusals-fit r cs h)
 
-pub claim-fits : (b : List ℕ) (cs : List Call) → Bytes b → Each ShownFits cs (claim b cs .answers)
+pub claim-fits : (marks : FlagTable) (b : List ℕ) (cs : List Call) → Bytes b → Each ShownFits cs (claim marks b cs .answers)
 unfolding claim run
-claim-fits b cs h = go (judge b) refl
+claim-fits marks b cs h = go (judge marks b) refl
   where
-    go : (v : Verdict) → judge b ≡ v → Each ShownFits cs (claimOn v b cs .answers)
-    go (Verdict.refused r) q = refusals-fit r cs (judge-fits b r q)
+    go : (v : Verdict) → judge marks b ≡ v → Each ShownFits cs (claimOn marks v b cs .answers)
+    go (Verdict.refused r) q = refusals-fit r cs (judge-fits marks b r q)
     go (Verdict.accepted s) q =
-        each-answer (stepping (length b)) (λ (m : Standing). Kept (length b) (m .observation)) ShownFits
-        (λ m c k. (step-fits (length b) (m .observation) c (k .good), step-kept (length b) (m .observation) c k))
-        cs (standing s (size s)) (record { good = judged b s h q .good; fits = size-within b s h q })
+        each-answer (stepping marks (length b)) (λ (m : Standing). Kept marks (length b) (m .observation)) ShownFits
+        (λ m c k. (step-fits marks (length b) (m .observation) c (k .good), step-kept marks (length b) (m .observation) c k))
+        cs (standing s (size s)) (record { good = judged marks b s h q .good; fits = size-within marks b s h q })

@@ -7,6 +7,7 @@ use mathlib.Core.List.{List, _++_, append-assoc}
 use lib.ListN.{length, take, drop, set, length-append}
 use lib.Seq.{take-at, drop-at, take-add, drop-drop, drop-append-add, length-take-le}
 use Rattle.format.specs.Bits.{readFields, Bytes}
+use Rattle.format.specs.Flags.{FlagTable}
 use Rattle.format.specs.Nibbles.{Attachment, nibbles, tailNibbles, Nibbles}
 use Rattle.format.specs.Observation.{Observation, widths, cardNumbers, size}
 use Rattle.format.specs.Report.{numbersOf, tailOf, observationOf, accepted, judge}
@@ -32,8 +33,8 @@ spliced ns at old x end =
     take at ns ++ (x ++ (take rest (drop (at + old) ns) ++ (zeros (clearedTo end last - last) ++ drop (clearedTo end last) ns)))
 
 -- the report of b with another list of attachments, whose tail has the nibbles x for old ones at a place
-pub record Edit (b : List ℕ) (list : List Attachment) (x : List ℕ) (at old end count : ℕ) : Type 0 where
-  pub judged : judge b ≡ accepted (observationOf b)
+pub record Edit (marks : FlagTable) (b : List ℕ) (list : List Attachment) (x : List ℕ) (at old end count : ℕ) : Type 0 where
+  pub judged : judge marks b ≡ accepted (observationOf b)
   pub before : List ℕ
   pub gone : List ℕ
   pub behind : List ℕ
@@ -45,7 +46,7 @@ pub record Edit (b : List ℕ) (list : List Attachment) (x : List ℕ) (at old e
   pub count-is : count ≡ length list
   pub count-lt : count < 16
 
-module _ {b : List ℕ} {list : List Attachment} {x : List ℕ} {at old end count : ℕ} (bs : Bytes b) (e : Edit b list x at old end count) where
+module _ (marks : FlagTable) {b : List ℕ} {list : List Attachment} {x : List ℕ} {at old end count : ℕ} (bs : Bytes b) (e : Edit marks b list x at old end count) where
   abbrev s : Observation
   s = observationOf b
 
@@ -90,7 +91,7 @@ module _ {b : List ℕ} {list : List Attachment} {x : List ℕ} {at old end coun
   tail-was : tailOf b ≡ e .before ++ (e .gone ++ (e .behind ++ beyond))
   unfolding beyond
   tail-was =
-      tail-taken b s bs (e .judged) ∙ ap (λ (l : List ℕ). l ++ beyond) (e .from)
+      tail-taken marks b s bs (e .judged) ∙ ap (λ (l : List ℕ). l ++ beyond) (e .from)
       ∙ append-assoc (e .before) (e .gone ++ e .behind) beyond
       ∙ ap (λ (l : List ℕ). e .before ++ l) (append-assoc (e .gone) (e .behind) beyond)
 
@@ -128,7 +129,7 @@ module _ {b : List ℕ} {list : List Attachment} {x : List ℕ} {at old end coun
     filled = zeros (clearedTo end last - last) ++ drop (clearedTo end last) n
 
     long : 38 ≤ length b
-    long = within b s bs (e .judged) .0
+    long = within marks b s bs (e .judged) .0
 
     card-long : length (take 75 (nibbles b)) ≡ 75
     card-long = length-take-le 75 n (omega (arith, length-nibbles b, long))
@@ -152,14 +153,14 @@ module _ {b : List ℕ} {list : List Attachment} {x : List ℕ} {at old end coun
     same-card =
         front-numbers c (omega (arith, long, length-nibbles c, length-nibbles b, ap length whole, card-long, length-append (take 75 n) (e .before ++ (x ++ (e .behind ++ filled)))))
         ∙ ap (λ (l : List ℕ). readFields widths (uniform 4 l)) (ap (take 75) whole ∙ take-at (take 75 n) (e .before ++ (x ++ (e .behind ++ filled))) 75 card-long)
-        ∙ sym (front-numbers b long) ∙ sym (numbers-taken b s bs (e .judged))
+        ∙ sym (front-numbers b long) ∙ sym (numbers-taken marks b s bs (e .judged))
 
     module _ (lt : Nibbles (tailNibbles list)) where
       -- with AC set the buffer is the layout
       pub edit-laid : (d : List ℕ) → Bytes d → length d ≡ length b → numbersOf d ≡ set (numbersOf c) 48 count → tailOf d ≡ tailOf c
           → d ≡ layout b (size (observationOf b)) (withAttachments (observationOf b) list)
       edit-laid d bd same card behind =
-          let v : length (s .values) ≡ 46 = length-fair (judged b s bs (e .judged) .good .fair) ∙ table-length in
+          let v : length (s .values) ≡ 46 = length-fair (judged marks b s bs (e .judged) .good .fair) ∙ table-length in
           layout-is b (size s) t lt d bd (omega (arith, long))
           (card ∙ ap₂ (λ (l : List ℕ) (m : ℕ). set l 48 m) same-card (e .count-is) ∙ sym (attachment-numbers s list v))
           (behind ∙ behind-card)

@@ -8,6 +8,7 @@ use mathlib.Core.Option.{Option, none, some}
 use lib.ListN.{length}
 use borrow.Author.Tests.{le-ltb, lt-ltb}
 use Rattle.format.specs.Order.{Refusal, Check, check, first, between}
+use Rattle.format.specs.Flags.{FlagTable}
 use Rattle.format.specs.Observation.{Observation, size}
 use Rattle.format.specs.Report.{Verdict, judge}
 use Rattle.format.specs.Calls.{Call, Reading, Editing, Fetching, reads, edits, fetches, made, edited, afterEdit, next, shorter, gives, overfull, overEach, outputsOf}
@@ -20,9 +21,9 @@ use Rattle.laws.proofs.Report.{size-within}
 use Rattle.laws.proofs.WholeList.{layout-same}
 
 -- on a refused report
-pub effect-refused : (b : List ℕ) (r : Refusal) (c : Call) → judge b ≡ Verdict.refused r → after (Answer.refused r) b (outputsOf c) ≡ effect b c
+pub effect-refused : (marks : FlagTable) (b : List ℕ) (r : Refusal) (c : Call) → judge marks b ≡ Verdict.refused r → after (Answer.refused r) b (outputsOf c) ≡ effect marks b c
 unfolding effect
-effect-refused b r c j = rw j
+effect-refused marks b r c j = rw j
 
 -- a buffer that holds the observation after a step is not too short for it
 long-enough : (n : ℕ) (s : Observation) (o : Option Observation) → size (afterEdit s o) ≤ n → shorter n o ≡ false
@@ -30,85 +31,85 @@ long-enough n s none h = refl
 long-enough n s (some t) h = le-ltb n (size t) h
 
 -- on an accepted one
-module _ (b : List ℕ) (s : Observation) (c : Call) (bs : Bytes b) (j : judge b ≡ Verdict.accepted s) where
-  effect-step : (t : Stepped) → step (length b) s c ≡ t → effect b c ≡ after (t .answer) (bufferAfter (t .answer) b (size s) (t .observation)) (t .outs)
+module _ (marks : FlagTable) (b : List ℕ) (s : Observation) (c : Call) (bs : Bytes b) (j : judge marks b ≡ Verdict.accepted s) where
+  effect-step : (t : Stepped) → step marks (length b) s c ≡ t → effect marks b c ≡ after (t .answer) (bufferAfter (t .answer) b (size s) (t .observation)) (t .outs)
   unfolding effect
   effect-step t e = rw (j, e)
 
-  step-by : (o : Option Refusal) → first (checks (length b) s c) ≡ o → step (length b) s c ≡ steppedBy o s c
+  step-by : (o : Option Refusal) → first (checks marks (length b) s c) ≡ o → step marks (length b) s c ≡ steppedBy o s c
   unfolding step
   step-by o e = ap (λ (x : Option Refusal). steppedBy x s c) e
 
-  effect-refuses : (before : List Check) (ch : Check) (behind : List Check) → checks (length b) s c ≡ before ++ (ch ∷ behind)
-      → first before ≡ none → ch .fits ≡ true → after (Answer.refused (ch .refusal)) b (outputsOf c) ≡ effect b c
+  effect-refuses : (before : List Check) (ch : Check) (behind : List Check) → checks marks (length b) s c ≡ before ++ (ch ∷ behind)
+      → first before ≡ none → ch .fits ≡ true → after (Answer.refused (ch .refusal)) b (outputsOf c) ≡ effect marks b c
   effect-refuses before ch behind split passed fits =
-      let f : first (checks (length b) s c) ≡ some (ch .refusal) =
+      let f : first (checks marks (length b) s c) ≡ some (ch .refusal) =
       ap first split ∙ first-append-skip before (ch ∷ behind) passed ∙ first-fits ch behind fits in
       sym (effect-step (steppedBy (some (ch .refusal)) s c) (step-by (some (ch .refusal)) f))
 
   -- the check ch fits, and none of those before it
-  pub call-refuses : (before : List Check) (ch : Check) (behind : List Check) → callChecks s c ≡ before ++ (ch ∷ behind)
-      → first before ≡ none → ch .fits ≡ true → after (Answer.refused (ch .refusal)) b (outputsOf c) ≡ effect b c
+  pub call-refuses : (before : List Check) (ch : Check) (behind : List Check) → callChecks marks s c ≡ before ++ (ch ∷ behind)
+      → first before ≡ none → ch .fits ≡ true → after (Answer.refused (ch .refusal)) b (outputsOf c) ≡ effect marks b c
   unfolding checks
   call-refuses before ch behind is passed fits =
       let room = roomCheck (length b) s c ∷ [] in
       effect-refuses before ch (behind ++ room) (ap (λ (l : List Check). l ++ room) is ∙ append-assoc before (ch ∷ behind) room) passed fits
 
   -- 8, which comes first: a number is not within its two ends
-  pub number-refuses : (low high x : ℕ) (behind : List Check) → callChecks s c ≡ check (not (between low high x)) 8 0 ∷ behind
-      → (t : Bool) → t ≡ between low high x → not t ≡ true → after (refusal 8 0) b (outputsOf c) ≡ effect b c
+  pub number-refuses : (low high x : ℕ) (behind : List Check) → callChecks marks s c ≡ check (not (between low high x)) 8 0 ∷ behind
+      → (t : Bool) → t ≡ between low high x → not t ≡ true → after (refusal 8 0) b (outputsOf c) ≡ effect marks b c
   number-refuses low high x behind is t e h = call-refuses [] (check (not (between low high x)) 8 0) behind is first-nil (ap not (sym e) ∙ h)
 
-  none-fits : first (callChecks s c) ≡ none → roomCheck (length b) s c .fits ≡ false → first (checks (length b) s c) ≡ none
+  none-fits : first (callChecks marks s c) ≡ none → roomCheck (length b) s c .fits ≡ false → first (checks marks (length b) s c) ≡ none
   unfolding checks
-  none-fits passed room = no-checks (callChecks s c) (roomCheck (length b) s c ∷ []) passed (no-check (roomCheck (length b) s c) [] room first-nil)
+  none-fits passed room = no-checks (callChecks marks s c) (roomCheck (length b) s c ∷ []) passed (no-check (roomCheck (length b) s c) [] room first-nil)
 
   -- no check fits: 13 last
-  effect-done : (d : List ℕ) (o : List (List ℕ)) → first (callChecks s c) ≡ none → size (next s c) ≤ length b → overfull (writes s c) (outputsOf c) ≡ false
-      → d ≡ layout b (size s) (next s c) → o ≡ overEach (writes s c) (outputsOf c) → after (Answer.accepted (gives s c)) d o ≡ effect b c
+  effect-done : (d : List ℕ) (o : List (List ℕ)) → first (callChecks marks s c) ≡ none → size (next s c) ≤ length b → overfull (writes s c) (outputsOf c) ≡ false
+      → d ≡ layout b (size s) (next s c) → o ≡ overEach (writes s c) (outputsOf c) → after (Answer.accepted (gives s c)) d o ≡ effect marks b c
   effect-done d o passed room out laid wrote =
       let r : roomCheck (length b) s c .fits ≡ false = rw (long-enough (length b) s (edited s c) room, out) in
       let f = none-fits passed r in
       sym (effect-step (steppedBy none s c) (step-by none f) ∙ ap₂ (λ (x : List ℕ) (y : List (List ℕ)). after (Answer.accepted (gives s c)) x y) (sym laid) (sym wrote))
 
   -- a step that leaves the observation leaves the buffer
-  effect-same : (o : List (List ℕ)) → next s c ≡ s → first (callChecks s c) ≡ none → overfull (writes s c) (outputsOf c) ≡ false
-      → o ≡ overEach (writes s c) (outputsOf c) → after (Answer.accepted (gives s c)) b o ≡ effect b c
+  effect-same : (o : List (List ℕ)) → next s c ≡ s → first (callChecks marks s c) ≡ none → overfull (writes s c) (outputsOf c) ≡ false
+      → o ≡ overEach (writes s c) (outputsOf c) → after (Answer.accepted (gives s c)) b o ≡ effect marks b c
   effect-same o same passed out wrote =
-      effect-done b o passed (rw same (size-within b s bs j)) out (layout-same b s bs j ∙ ap (layout b (size s)) (sym same)) wrote
+      effect-done b o passed (rw same (size-within marks b s bs j)) out (layout-same marks b s bs j ∙ ap (layout b (size s)) (sym same)) wrote
 
   -- every check before 13 passes, and the room is too small
-  effect-room : first (callChecks s c) ≡ none → roomCheck (length b) s c .fits ≡ true
-      → after (Answer.refused (record { number = 13; place = 0 })) b (outputsOf c) ≡ effect b c
+  effect-room : first (callChecks marks s c) ≡ none → roomCheck (length b) s c .fits ≡ true
+      → after (Answer.refused (record { number = 13; place = 0 })) b (outputsOf c) ≡ effect marks b c
   unfolding checks
-  effect-room passed small = effect-refuses (callChecks s c) (roomCheck (length b) s c) [] refl passed small
+  effect-room passed small = effect-refuses (callChecks marks s c) (roomCheck (length b) s c) [] refl passed small
 
 -- ---- by groups: an edit has no output, a read leaves the buffer too, a fetch writes to outputs and leaves the buffer
 
-module _ (b : List ℕ) (s : Observation) (bs : Bytes b) (j : judge b ≡ Verdict.accepted s) where
-  pub edit-done : (e : Editing) (d : List ℕ) → first (callChecks s (edits e)) ≡ none → size (made s e) ≤ length b → d ≡ layout b (size s) (made s e)
-      → after (Answer.accepted (gives s (edits e))) d [] ≡ effect b (edits e)
+module _ (marks : FlagTable) (b : List ℕ) (s : Observation) (bs : Bytes b) (j : judge marks b ≡ Verdict.accepted s) where
+  pub edit-done : (e : Editing) (d : List ℕ) → first (callChecks marks s (edits e)) ≡ none → size (made s e) ≤ length b → d ≡ layout b (size s) (made s e)
+      → after (Answer.accepted (gives s (edits e))) d [] ≡ effect marks b (edits e)
   unfolding outputsOf writes overfull overEach
-  edit-done e d passed room laid = effect-done b s (edits e) bs j d [] passed room refl laid refl
+  edit-done e d passed room laid = effect-done marks b s (edits e) bs j d [] passed room refl laid refl
 
   -- 13, for the buffer
-  pub edit-room : (e : Editing) → first (callChecks s (edits e)) ≡ none → length b < size (made s e) → after (refusal 13 0) b [] ≡ effect b (edits e)
+  pub edit-room : (e : Editing) → first (callChecks marks s (edits e)) ≡ none → length b < size (made s e) → after (refusal 13 0) b [] ≡ effect marks b (edits e)
   unfolding outputsOf
-  edit-room e passed small = effect-room b s (edits e) bs j passed (rw (lt-ltb (length b) (size (made s e)) small))
+  edit-room e passed small = effect-room marks b s (edits e) bs j passed (rw (lt-ltb (length b) (size (made s e)) small))
 
-  pub read-done : (r : Reading) → first (callChecks s (reads r)) ≡ none → after (Answer.accepted (gives s (reads r))) b [] ≡ effect b (reads r)
+  pub read-done : (r : Reading) → first (callChecks marks s (reads r)) ≡ none → after (Answer.accepted (gives s (reads r))) b [] ≡ effect marks b (reads r)
   unfolding outputsOf writes overfull overEach
-  read-done r passed = effect-same b s (reads r) bs j [] refl passed refl refl
+  read-done r passed = effect-same marks b s (reads r) bs j [] refl passed refl refl
 
   -- one output, to which xs are written
-  module _ (f : Fetching) (xs out : List ℕ) (lent : outputsOf (fetches f) ≡ out ∷ []) (wrote : writes s (fetches f) ≡ xs ∷ []) (passed : first (callChecks s (fetches f)) ≡ none) where
-    pub fetch-done : (o : List ℕ) → length xs ≤ length out → o ≡ over xs out → after (Answer.accepted (gives s (fetches f))) b (o ∷ []) ≡ effect b (fetches f)
+  module _ (f : Fetching) (xs out : List ℕ) (lent : outputsOf (fetches f) ≡ out ∷ []) (wrote : writes s (fetches f) ≡ xs ∷ []) (passed : first (callChecks marks s (fetches f)) ≡ none) where
+    pub fetch-done : (o : List ℕ) → length xs ≤ length out → o ≡ over xs out → after (Answer.accepted (gives s (fetches f))) b (o ∷ []) ≡ effect marks b (fetches f)
     unfolding overfull overEach
     fetch-done o fits is =
-        effect-same b s (fetches f) bs j (o ∷ []) refl passed (rw (wrote, lent, le-ltb (length out) (length xs) fits)) (rw (wrote, lent, is))
+        effect-same marks b s (fetches f) bs j (o ∷ []) refl passed (rw (wrote, lent, le-ltb (length out) (length xs) fits)) (rw (wrote, lent, is))
 
     -- 13, for it
-    pub fetch-short : length out < length xs → after (refusal 13 0) b (out ∷ []) ≡ effect b (fetches f)
+    pub fetch-short : length out < length xs → after (refusal 13 0) b (out ∷ []) ≡ effect marks b (fetches f)
     unfolding overfull
     fetch-short short =
-        ap (after (refusal 13 0) b) (sym lent) ∙ effect-room b s (fetches f) bs j passed (rw (wrote, lent, lt-ltb (length out) (length xs) short))
+        ap (after (refusal 13 0) b) (sym lent) ∙ effect-room marks b s (fetches f) bs j passed (rw (wrote, lent, lt-ltb (length out) (length xs) short))

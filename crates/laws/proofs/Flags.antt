@@ -11,47 +11,47 @@ use lib.Seq.{length-take-le, take-at, getD-append-add, getD-take}
 use lib.Dec.{eqb, leb}
 use borrow.Author.Tests.{leb-true, eqb-true, eq-eqb}
 use Rattle.format.specs.Order.{between}
-use Rattle.format.specs.Flags.{permitted, weights, weight, totalWeight, allMissing, qualityCode, flagInRange, flagsFit, flagBody, withFlag, flagsValid}
+use Rattle.format.specs.Flags.{FlagTable, permitted, weights, weight, totalWeight, allMissing, qualityCode, flagInRange, flagsFit, flagBody, withFlag, flagsValid}
 use Rattle.laws.proofs.Sequences.{and-true, cond-case}
 
 -- ---- what a flag may hold
 
 -- flag j may hold v: missing, or in range
-abbrev pub flagFits : ℕ → ℕ → Bool
-flagFits j v = cond (eqb v 0) true (flagInRange j v)
+abbrev pub flagFits : (marks : FlagTable) → ℕ → ℕ → Bool
+flagFits marks j v = cond (eqb v 0) true (flagInRange marks j v)
 
-pub missing-fits : (j : ℕ) → flagFits j 0 ≡ true
-missing-fits j = refl
+pub missing-fits : (marks : FlagTable) (j : ℕ) → flagFits marks j 0 ≡ true
+missing-fits marks j = refl
 
-pub range-fits : (j v : ℕ) → flagInRange j v ≡ true → flagFits j v ≡ true
-range-fits j v e = cond-case (λ (t : Bool). t ≡ true) (eqb v 0) true (flagInRange j v) (λ _. refl) (λ _. e)
+pub range-fits : (marks : FlagTable) (j v : ℕ) → flagInRange marks j v ≡ true → flagFits marks j v ≡ true
+range-fits marks j v e = cond-case (λ (t : Bool). t ≡ true) (eqb v 0) true (flagInRange marks j v) (λ _. refl) (λ _. e)
 
-flag-le : (j v : ℕ) → flagFits j v ≡ true → v ≤ 10
-flag-le j v e = go (eqb v 0) refl e
+flag-le : (marks : FlagTable) (j v : ℕ) → flagFits marks j v ≡ true → v ≤ 10
+flag-le marks j v e = go (eqb v 0) refl e
   where
-    go : (t : Bool) → eqb v 0 ≡ t → cond t true (flagInRange j v) ≡ true → v ≤ 10
+    go : (t : Bool) → eqb v 0 ≡ t → cond t true (flagInRange marks j v) ≡ true → v ≤ 10
     go true q e = omega (arith, eqb-true v 0 q)
-    go false q e = leb-true v 10 (and-true (leb 1 v) (leb v 10) (and-true (between 1 10 v) (permitted j v) e .0) .1)
+    go false q e = leb-true v 10 (and-true (leb 1 v) (leb v 10) (and-true (between 1 10 v) (permitted marks j v) e .0) .1)
 
 -- no flag is over 10
-flags-le : (j : ℕ) (flags : List ℕ) → flagsFit j flags ≡ true → (i : ℕ) → getD flags i 0 ≤ 10
+flags-le : (marks : FlagTable) (j : ℕ) (flags : List ℕ) → flagsFit marks j flags ≡ true → (i : ℕ) → getD flags i 0 ≤ 10
 unfolding flagsFit
-flags-le j [] e i = omega arith
-flags-le j (v ∷ vs) e zero = flag-le j v (and-true (flagFits j v) (flagsFit (suc j) vs) e .0)
-flags-le j (v ∷ vs) e (suc i) = flags-le (suc j) vs (and-true (flagFits j v) (flagsFit (suc j) vs) e .1) i
+flags-le marks j [] e i = omega arith
+flags-le marks j (v ∷ vs) e zero = flag-le marks j v (and-true (flagFits marks j v) (flagsFit marks (suc j) vs) e .0)
+flags-le marks j (v ∷ vs) e (suc i) = flags-le marks (suc j) vs (and-true (flagFits marks j v) (flagsFit marks (suc j) vs) e .1) i
 
 -- flags that fit still do with one more that fits
-fit-set : (j : ℕ) (flags : List ℕ) (i v : ℕ) → flagsFit j flags ≡ true → flagFits (j + i) v ≡ true → flagsFit j (set flags i v) ≡ true
+fit-set : (marks : FlagTable) (j : ℕ) (flags : List ℕ) (i v : ℕ) → flagsFit marks j flags ≡ true → flagFits marks (j + i) v ≡ true → flagsFit marks j (set flags i v) ≡ true
 unfolding flagsFit
-fit-set j [] i v e f = refl
-fit-set j (x ∷ vs) zero v e f =
+fit-set marks j [] i v e f = refl
+fit-set marks j (x ∷ vs) zero v e f =
     let z : j + 0 ≡ j = omega arith in
-    let f′ = subst (λ (k : ℕ). flagFits k v ≡ true) z f in
-    rw (f′, and-true (flagFits j x) (flagsFit (suc j) vs) e .1)
-fit-set j (x ∷ vs) (suc i) v e f =
+    let f′ = subst (λ (k : ℕ). flagFits marks k v ≡ true) z f in
+    rw (f′, and-true (flagFits marks j x) (flagsFit marks (suc j) vs) e .1)
+fit-set marks j (x ∷ vs) (suc i) v e f =
     let z : j + suc i ≡ suc j + i = omega arith in
-    let a = and-true (flagFits j x) (flagsFit (suc j) vs) e in
-    rw (a .0, fit-set (suc j) vs i v (a .1) (subst (λ (k : ℕ). flagFits k v ≡ true) z f))
+    let a = and-true (flagFits marks j x) (flagsFit marks (suc j) vs) e in
+    rw (a .0, fit-set marks (suc j) vs i v (a .1) (subst (λ (k : ℕ). flagFits marks k v ≡ true) z f))
 
 -- ---- the quality code
 
@@ -108,8 +108,8 @@ module _ (flags : List ℕ) (l : length flags ≡ 14) where
   body-quality : getD (flagBody flags) 14 0 * 16 + getD (flagBody flags) 15 0 ≡ qualityCode flags
   body-quality = rw (body-behind 0, body-behind 1) (omega arith)
 
-  module _ (e : flagsFit 1 flags ≡ true) where
-    pub flags-body : flagsValid (flagBody flags) ≡ true
+  module _ (marks : FlagTable) (e : flagsFit marks 1 flags ≡ true) where
+    pub flags-body : flagsValid marks (flagBody flags) ≡ true
     unfolding flagsValid
     flags-body = rw (body-length, body-flags, e, body-quality, eq-eqb (qualityCode flags) (qualityCode flags) refl)
 
@@ -117,7 +117,7 @@ module _ (flags : List ℕ) (l : length flags ≡ 14) where
     body-nibbles i = go (decLt i 14)
       where
         go : Dec (i < 14) → getD (flagBody flags) i 0 < 16
-        go (yes h) = omega (arith, sym (getD-take 14 (flagBody flags) i 0 h), ap (λ (x : List ℕ). getD x i 0) body-flags, flags-le 1 flags e i)
+        go (yes h) = omega (arith, sym (getD-take 14 (flagBody flags) i 0 h), ap (λ (x : List ℕ). getD x i 0) body-flags, flags-le marks 1 flags e i)
         go (no h) =
             let q : i ≡ 14 + (i - 14) = omega arith in
             rw (q, body-behind (i - 14)) (quality-nibble (qualityCode flags) (omega (arith, quality-le flags)) (i - 14))
@@ -125,17 +125,17 @@ module _ (flags : List ℕ) (l : length flags ≡ 14) where
 -- ---- a valid body
 
 -- what a body that 6 accepts is
-pub record ValidFlags (body : List ℕ) : Type 0 where
+pub record ValidFlags (marks : FlagTable) (body : List ℕ) : Type 0 where
   pub long : length body ≡ 16
-  pub fit : flagsFit 1 (take 14 body) ≡ true
+  pub fit : flagsFit marks 1 (take 14 body) ≡ true
   pub quality : getD body 14 0 * 16 + getD body 15 0 ≡ qualityCode (take 14 body)
 
-pub valid-flags : (body : List ℕ) → flagsValid body ≡ true → ValidFlags body
+pub valid-flags : (marks : FlagTable) (body : List ℕ) → flagsValid marks body ≡ true → ValidFlags marks body
 unfolding flagsValid
-valid-flags body e =
+valid-flags marks body e =
     let q = eqb (getD body 14 0 * 16 + getD body 15 0) (qualityCode (take 14 body)) in
-    let a = and-true (eqb (length body) 16) (flagsFit 1 (take 14 body) && q) e in
-    let b = and-true (flagsFit 1 (take 14 body)) q (a .1) in
+    let a = and-true (eqb (length body) 16) (flagsFit marks 1 (take 14 body) && q) e in
+    let b = and-true (flagsFit marks 1 (take 14 body)) q (a .1) in
     record {
       long = eqb-true (length body) 16 (a .0);
       fit = b .0;
@@ -153,16 +153,16 @@ module _ (body : List ℕ) (j v : ℕ) where
     unfolding withFlag
     flag-set-length = body-length (set (take 14 body) (j - 1) v) (set-length l)
 
-  module _ (e : flagsValid body ≡ true) (a : 1 ≤ j) (f : flagFits j v ≡ true) where
-    set-fit : flagsFit 1 (set (take 14 body) (j - 1) v) ≡ true
+  module _ (marks : FlagTable) (e : flagsValid marks body ≡ true) (a : 1 ≤ j) (f : flagFits marks j v ≡ true) where
+    set-fit : flagsFit marks 1 (set (take 14 body) (j - 1) v) ≡ true
     set-fit =
         let z : j ≡ 1 + (j - 1) = omega arith in
-        fit-set 1 (take 14 body) (j - 1) v (valid-flags body e .fit) (subst (λ (k : ℕ). flagFits k v ≡ true) z f)
+        fit-set marks 1 (take 14 body) (j - 1) v (valid-flags marks body e .fit) (subst (λ (k : ℕ). flagFits marks k v ≡ true) z f)
 
-    pub flag-set-valid : flagsValid (withFlag body j v) ≡ true
+    pub flag-set-valid : flagsValid marks (withFlag body j v) ≡ true
     unfolding withFlag
-    flag-set-valid = flags-body (set (take 14 body) (j - 1) v) (set-length (valid-flags body e .long)) set-fit
+    flag-set-valid = flags-body (set (take 14 body) (j - 1) v) (set-length (valid-flags marks body e .long)) marks set-fit
 
     pub flag-set-nibbles : (i : ℕ) → getD (withFlag body j v) i 0 < 16
     unfolding withFlag
-    flag-set-nibbles = body-nibbles (set (take 14 body) (j - 1) v) (set-length (valid-flags body e .long)) set-fit
+    flag-set-nibbles = body-nibbles (set (take 14 body) (j - 1) v) (set-length (valid-flags marks body e .long)) marks set-fit

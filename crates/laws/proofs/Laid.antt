@@ -11,6 +11,7 @@ use lib.Seq.{drop-at, set-at, set-append-left}
 use borrow.Author.Tests.{eqb-true, eqb-false}
 use Rattle.format.specs.Field.{table, fieldAt, codes, codeOf}
 use Rattle.format.specs.Bits.{readFields, writeFields, total, Bytes}
+use Rattle.format.specs.Flags.{FlagTable}
 use Rattle.format.specs.Nibbles.{Attachment, nibbles, odd, tailNibbles, Nibbles}
 use Rattle.format.specs.Observation.{Observation, widths, checksum, cardNumbers, cardNibbles, packing, size}
 use Rattle.format.specs.Report.{numbersOf, tailOf, Verdict, judge}
@@ -95,23 +96,23 @@ over-layout b s =
     ap₂ (λ (x y : ℕ). packing s ++ (zeros x ++ drop y b)) a m
 
 -- an accepted report, behind its card
-pub tail-taken : (b : List ℕ) (s : Observation) → Bytes b → judge b ≡ Verdict.accepted s
+pub tail-taken : (marks : FlagTable) (b : List ℕ) (s : Observation) → Bytes b → judge marks b ≡ Verdict.accepted s
     → tailOf b ≡ tailNibbles (s .attachments) ++ (zeros (2 * size s - (75 + length (tailNibbles (s .attachments)))) ++ drop (2 * size s) (nibbles b))
-tail-taken b s bs j =
+tail-taken marks b s bs j =
     let m : max (size s) (size s) ≡ size s = omega arith in
-    ap tailOf (layout-same b s bs j)
-    ∙ rw m at (tail-laid b (size s) s (fine-nibbles (judged b s bs j .good .fine)))
+    ap tailOf (layout-same marks b s bs j)
+    ∙ rw m at (tail-laid b (size s) s (fine-nibbles marks (judged marks b s bs j .good .fine)))
 
 -- ---- fields
 
 -- another card before the same attachments
-pub field-laid : (b c : List ℕ) (s t : Observation) → Bytes b → judge b ≡ Verdict.accepted s → t .attachments ≡ s .attachments
+pub field-laid : (marks : FlagTable) (b c : List ℕ) (s t : Observation) → Bytes b → judge marks b ≡ Verdict.accepted s → t .attachments ≡ s .attachments
     → Bytes c → length c ≡ length b → numbersOf c ≡ cardNumbers t → tailOf c ≡ tailOf b → c ≡ layout b (size s) t
-field-laid b c s t bs j same bc long card behind =
+field-laid marks b c s t bs j same bc long card behind =
     let sizes : size t ≡ size s = size-is t ∙ ap (λ (l : List Attachment). (75 + length (tailNibbles l) + 1) / 2) same ∙ sym (size-is s) in
     let m : max (size s) (size t) ≡ size s = omega arith in
-    layout-is b (size s) t (rw same (fine-nibbles (judged b s bs j .good .fine))) c bc (omega (arith, within b s bs j)) card
-    (rw (m, same) (behind ∙ tail-taken b s bs j))
+    layout-is b (size s) t (rw same (fine-nibbles marks (judged marks b s bs j .good .fine))) c bc (omega (arith, within marks b s bs j)) card
+    (rw (m, same) (behind ∙ tail-taken marks b s bs j))
 
 -- the numbers of a card with another entry at field k: its code, and the checksum of the codes so changed
 pub value-numbers : (s : Observation) (k : ℕ) (e : Option Scaled) → length (s .values) ≡ 46 → 1 ≤ k → k ≤ 46

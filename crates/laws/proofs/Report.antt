@@ -15,6 +15,7 @@ use borrow.Author.Tests.{le-ltb, eq-eqb, ne-eqb, ltb-false, eqb-true, not-false}
 use Rattle.format.specs.Order.{Refusal, first}
 use Rattle.format.specs.Field.{Field, table, entries, codes}
 use Rattle.format.specs.Bits.{readFields, writeFields, Bytes}
+use Rattle.format.specs.Flags.{FlagTable}
 use Rattle.format.specs.Nibbles.{Attachment, nibbles, bytes, padded, odd, tailNibbles, attachmentsOf, Nibbles}
 use Rattle.format.specs.Observation.{Observation, widths, checksum, cardNumbers, cardNibbles, packing, size}
 use Rattle.format.specs.Report.{numbersOf, rptinOf, codesOf, checksumOf, countOf, tailOf, observationOf, fieldChecks, attachmentChecks, tailLength, reportChecks, accepted, verdict, judge}
@@ -27,11 +28,11 @@ use Rattle.laws.proofs.Fields.{table-length, FairAll, Present, length-f
 use Rattle.laws.proofs.Attachments.{Fine, fine-checks, tail-reads, fine-nibbles, fine-count, fine-size, Walked, checks-fine}
 
 -- an observation that a report can have
-pub record Good (s : Observation) : Type 0 where
+pub record Good (marks : FlagTable) (s : Observation) : Type 0 where
   pub rptin : s .rptin < 2 ^ 16
   pub fair : FairAll table (s .values)
   pub present : Present 1 (s .values)
-  pub fine : Fine [] (s .attachments)
+  pub fine : Fine marks [] (s .attachments)
 
 -- ---- the numbers of a card
 
@@ -72,11 +73,11 @@ size-is s =
     ∙ ap (λ (n : ℕ). (n + 1) / 2)
     (length-append (cardNibbles s) (tailNibbles (s .attachments)) ∙ ap (λ (n : ℕ). n + length (tailNibbles (s .attachments))) (card-length (cardNumbers s)))
 
-pub packing-bytes : (s : Observation) → Good s → Bytes (packing s)
+pub packing-bytes : (marks : FlagTable) (s : Observation) → Good marks s → Bytes (packing s)
 unfolding packing
-packing-bytes s g =
+packing-bytes marks s g =
     bytes-lt _ (padded-lt (cardNibbles s ++ tailNibbles (s .attachments))
-    (append-below 16 (cardNibbles s) (tailNibbles (s .attachments)) (unfold cardNibbles in card-lt (cardNumbers s)) (fine-nibbles (g .fine))))
+    (append-below 16 (cardNibbles s) (tailNibbles (s .attachments)) (unfold cardNibbles in card-lt (cardNumbers s)) (fine-nibbles marks (g .fine))))
 
 -- a padding nibble that is 0
 pad-none : (t : Bool) (ns q : List ℕ) → t && not (eqb (getD (ns ++ (cond t (0 ∷ []) [] ++ q)) (length ns) 0) 0) ≡ false
@@ -85,7 +86,7 @@ pad-none false ns q = refl
 
 -- ---- a packing is accepted, whatever follows it, and shows its observation
 
-module _ (s : Observation) (r : List ℕ) (g : Good s) where
+module _ (marks : FlagTable) (s : Observation) (r : List ℕ) (g : Good marks s) where
   cs-length : length (codes table (s .values)) ≡ 46
   cs-length = length-codes table (s .values) (length-fair (g .fair)) ∙ table-length
 
@@ -100,7 +101,7 @@ module _ (s : Observation) (r : List ℕ) (g : Good s) where
   unfolding cardNumbers widths
   numbers-fit-card =
       let cs = codes table (s .values) in
-      let few : length (s .attachments) < 2 ^ 4 = omega (arith, fine-count (g .fine)) in
+      let few : length (s .attachments) < 2 ^ 4 = omega (arith, fine-count marks (g .fine)) in
       let ck : checksum cs < 2 ^ 14 = omega (arith, checksum-lt cs) in
       let ends = checksum cs ∷ length (s .attachments) ∷ [] in
       let ws = map (λ (f : Field). f .bits) table in
@@ -110,7 +111,7 @@ module _ (s : Observation) (r : List ℕ) (g : Good s) where
       (fit-cons 14 (checksum cs) (4 ∷ []) (length (s .attachments) ∷ []) ck (fit-cons 4 (length (s .attachments)) [] [] few fit-nil)))
 
   tail-lt : Nibbles (tailNibbles (s .attachments))
-  tail-lt = fine-nibbles (g .fine)
+  tail-lt = fine-nibbles marks (g .fine)
 
   numbers-is : numbersOf (packing s ++ r) ≡ cardNumbers s
   unfolding packing cardNibbles
@@ -148,37 +149,37 @@ module _ (s : Observation) (r : List ℕ) (g : Good s) where
       ap₂ (λ (n : ℕ) (l : List ℕ). odd (75 + n) && not (eqb (getD l n 0) 0)) t tail-is
       ∙ pad-none (odd (75 + length (tailNibbles (s .attachments)))) (tailNibbles (s .attachments)) (nibbles r)
 
-  checks-none : first (reportChecks (packing s ++ r)) ≡ none
+  checks-none : first (reportChecks marks (packing s ++ r)) ≡ none
   unfolding reportChecks
   checks-none =
       no-check _ _ (le-ltb (length (packing s ++ r)) 38 (omega (arith, size-is s, length-append (packing s) r)))
       (no-checks _ _ (ap (λ (l : List ℕ). first (fieldChecks 1 table l)) codes-is ∙ fair-checks 1 table (s .values) (g .fair) (g .present))
       (no-check _ _ (ap not (eq-eqb _ _ (checksum-is ∙ ap checksum (sym codes-is))))
-      (no-checks _ _ (ap₂ (λ (n : ℕ) (l : List ℕ). first (attachmentChecks n 1 [] l)) count-is tail-is ∙ fine-checks 1 _ (g .fine))
+      (no-checks _ _ (ap₂ (λ (n : ℕ) (l : List ℕ). first (attachmentChecks marks n 1 [] l)) count-is tail-is ∙ fine-checks marks 1 _ (g .fine))
       (no-check _ _ pad-is first-nil))))
 
-  pub judge-packing : judge (packing s ++ r) ≡ accepted s
+  pub judge-packing : judge marks (packing s ++ r) ≡ accepted s
   unfolding judge
   judge-packing = ap₂ verdict checks-none observation-is
 
 -- ---- an accepted report is the packing of its observation
 
 -- what a report has passed
-pub record Passed (b : List ℕ) : Type 0 where
+pub record Passed (marks : FlagTable) (b : List ℕ) : Type 0 where
   pub long : 38 ≤ length b
   pub fields : first (fieldChecks 1 table (codesOf b)) ≡ none
   pub sum : checksumOf b ≡ checksum (codesOf b)
-  pub attachments : first (attachmentChecks (countOf b) 1 [] (tailOf b)) ≡ none
+  pub attachments : first (attachmentChecks marks (countOf b) 1 [] (tailOf b)) ≡ none
   pub last : odd (75 + tailLength b) && not (eqb (getD (tailOf b) (tailLength b) 0) 0) ≡ false
 
 verdict-accepted : (o : Option Refusal) (t s : Observation) → verdict o t ≡ accepted s → (o ≡ none) × (t ≡ s)
 verdict-accepted none t s e = (refl, (cc))
 verdict-accepted (some r) t s e = let z : _≡_ {A = ℕ} 0 1 = cc in absurd (omega arith)
 
-pub passes : (b : List ℕ) (s : Observation) → judge b ≡ accepted s → Passed b × (observationOf b ≡ s)
+pub passes : (marks : FlagTable) (b : List ℕ) (s : Observation) → judge marks b ≡ accepted s → Passed marks b × (observationOf b ≡ s)
 unfolding judge reportChecks
-passes b s e =
-    let v = verdict-accepted (first (reportChecks b)) (observationOf b) s e in
+passes marks b s e =
+    let v = verdict-accepted (first (reportChecks marks b)) (observationOf b) s e in
     let c1 = first-none _ _ (v .0) in
     let c2 = first-append-none _ _ (c1 .1) in
     let c3 = first-none _ _ (c2 .1) in
@@ -237,11 +238,11 @@ front-lt (x ∷ xs) ys h (suc i) = front-lt xs ys (λ k. h (suc k)) i
 twice-even : (n m : ℕ) → n ≡ 2 * m → odd n ≡ false
 twice-even n m e = ne-eqb (n % 2) 1 (λ o. omega arith)
 
-pub record Taken (b : List ℕ) (s : Observation) : Type 0 where
-  pub good : Good s
+pub record Taken (marks : FlagTable) (b : List ℕ) (s : Observation) : Type 0 where
+  pub good : Good marks s
   pub starts : b ≡ packing s ++ drop (size s) b
 
-module _ (b : List ℕ) (bs : Bytes b) (p : Passed b) where
+module _ (marks : FlagTable) (b : List ℕ) (bs : Bytes b) (p : Passed marks b) where
   codes-length : length (codesOf b) ≡ 46
   codes-length = length-take-le 46 (drop 1 (numbersOf b)) (omega (arith, length-drop 1 (numbersOf b), numbers-length b))
 
@@ -251,10 +252,10 @@ module _ (b : List ℕ) (bs : Bytes b) (p : Passed b) where
   tail-lt-16 : Nibbles (tailOf b)
   tail-lt-16 i = rw (getD-drop 75 (nibbles b) i 0) (nibbles-lt b bs (75 + i))
 
-  walked : Walked (countOf b) [] (tailOf b)
-  walked = checks-fine (countOf b) 1 [] (tailOf b) tail-lt-16 (p .attachments)
+  walked : Walked marks (countOf b) [] (tailOf b)
+  walked = checks-fine marks (countOf b) 1 [] (tailOf b) tail-lt-16 (p .attachments)
 
-  passed-good : Good (observationOf b)
+  passed-good : Good marks (observationOf b)
   unfolding observationOf
   passed-good =
       let f = checks-fair 1 table (codesOf b) codes-table (p .fields) in
@@ -291,7 +292,7 @@ module _ (b : List ℕ) (bs : Bytes b) (p : Passed b) where
       let z : tailLength b + 0 ≡ tailLength b = omega arith in
       ap₂ (λ (n m : ℕ). odd n && not (eqb m 0)) all-length (getD-drop (tailLength b) (tailOf b) 0 0 ∙ ap (λ (n : ℕ). getD (tailOf b) n 0) z) ∙ p .last
 
-  passed-taken : Taken b (observationOf b)
+  passed-taken : Taken marks b (observationOf b)
   unfolding packing observationOf all
   passed-taken =
       let even = twice-even (length (all ++ drop (tailLength b) (tailOf b))) (length b) (ap length (sym split) ∙ length-nibbles b) in
@@ -300,52 +301,52 @@ module _ (b : List ℕ) (bs : Bytes b) (p : Passed b) where
       let lt : Nibbles (padded all) = front-lt (padded all) (pad .0) (subst Nibbles front (nibbles-lt b bs)) in
       record { good = passed-good; starts = bytes-front b (padded all) (pad .0) front lt (padded-even all) }
 
-pub judged : (b : List ℕ) (s : Observation) → Bytes b → judge b ≡ accepted s → Taken b s
-judged b s bs e = let q = passes b s e in subst (Taken b) (q .1) (passed-taken b bs (q .0))
+pub judged : (marks : FlagTable) (b : List ℕ) (s : Observation) → Bytes b → judge marks b ≡ accepted s → Taken marks b s
+judged marks b s bs e = let q = passes marks b s e in subst (Taken marks b) (q .1) (passed-taken marks b bs (q .0))
 
 -- the numbers on the card are its observation's, and AC is the number of its attachments
-pub numbers-taken : (b : List ℕ) (s : Observation) → Bytes b → judge b ≡ accepted s → cardNumbers (observationOf b) ≡ numbersOf b
-numbers-taken b s bs e = numbers-same b bs (passes b s e .0)
+pub numbers-taken : (marks : FlagTable) (b : List ℕ) (s : Observation) → Bytes b → judge marks b ≡ accepted s → cardNumbers (observationOf b) ≡ numbersOf b
+numbers-taken marks b s bs e = numbers-same marks b bs (passes marks b s e .0)
 
-pub counted : (b : List ℕ) (s : Observation) → Bytes b → judge b ≡ accepted s → countOf b ≡ length (observationOf b .attachments)
+pub counted : (marks : FlagTable) (b : List ℕ) (s : Observation) → Bytes b → judge marks b ≡ accepted s → countOf b ≡ length (observationOf b .attachments)
 unfolding observationOf
-counted b s bs e = sym (walked b bs (passes b s e .0) .count)
+counted marks b s bs e = sym (walked marks b bs (passes marks b s e .0) .count)
 
 -- ---- reports and observations
 
 -- demand 3 (FORMAT 10): two accepted reports have the same bytes exactly when they have the same observation
-packing-inj : (s t : Observation) → Good s → Good t → packing s ≡ packing t → s ≡ t
-packing-inj s t gs gt e =
-    let same : accepted s ≡ accepted t = sym (judge-packing s [] gs) ∙ ap (λ (p : List ℕ). judge (p ++ [])) e ∙ judge-packing t [] gt in
+packing-inj : (marks : FlagTable) (s t : Observation) → Good marks s → Good marks t → packing s ≡ packing t → s ≡ t
+packing-inj marks s t gs gt e =
+    let same : accepted s ≡ accepted t = sym (judge-packing marks s [] gs) ∙ ap (λ (p : List ℕ). judge marks (p ++ [])) e ∙ judge-packing marks t [] gt in
     cc
 
 -- a report is the packing of its observation
-pub report-is : (b : List ℕ) (s : Observation) → Bytes b → judge b ≡ accepted s → take (size s) b ≡ packing s
-report-is b s bs e = ap (take (size s)) (judged b s bs e .starts) ∙ take-append-seam (packing s) (drop (size s) b)
+pub report-is : (marks : FlagTable) (b : List ℕ) (s : Observation) → Bytes b → judge marks b ≡ accepted s → take (size s) b ≡ packing s
+report-is marks b s bs e = ap (take (size s)) (judged marks b s bs e .starts) ∙ take-append-seam (packing s) (drop (size s) b)
 
-pub reports-equal : (b c : List ℕ) (s t : Observation) → Bytes b → Bytes c → judge b ≡ accepted s → judge c ≡ accepted t
+pub reports-equal : (marks : FlagTable) (b c : List ℕ) (s t : Observation) → Bytes b → Bytes c → judge marks b ≡ accepted s → judge marks c ≡ accepted t
     → (take (size s) b ≡ take (size t) c) ↔ (s ≡ t)
-reports-equal b c s t bb bc eb ec = (
-  λ e. packing-inj s t (judged b s bb eb .good) (judged c t bc ec .good) (sym (report-is b s bb eb) ∙ e ∙ report-is c t bc ec),
-  λ e. report-is b s bb eb ∙ ap packing e ∙ sym (report-is c t bc ec),
+reports-equal marks b c s t bb bc eb ec = (
+  λ e. packing-inj marks s t (judged marks b s bb eb .good) (judged marks c t bc ec .good) (sym (report-is marks b s bb eb) ∙ e ∙ report-is marks c t bc ec),
+  λ e. report-is marks b s bb eb ∙ ap packing e ∙ sym (report-is marks c t bc ec),
 )
 
 -- FORMAT 3.3: the least and the most bytes of a report
-pub size-range : (s : Observation) → Good s → (38 ≤ size s) × (size s ≤ 1853)
-size-range s g = let h = fine-size (g .fine) in let z = size-is s in (omega arith, omega arith)
+pub size-range : (marks : FlagTable) (s : Observation) → Good marks s → (38 ≤ size s) × (size s ≤ 1853)
+size-range marks s g = let h = fine-size marks (g .fine) in let z = size-is s in (omega arith, omega arith)
 
 -- ---- an accepted report lies within its buffer
 
-module _ (b : List ℕ) (s : Observation) (bs : Bytes b) (j : judge b ≡ accepted s) where
+module _ (marks : FlagTable) (b : List ℕ) (s : Observation) (bs : Bytes b) (j : judge marks b ≡ accepted s) where
   pub size-within : size s ≤ length b
-  size-within = omega (arith, length-append (packing s) (drop (size s) b), ap length (judged b s bs j .starts))
+  size-within = omega (arith, length-append (packing s) (drop (size s) b), ap length (judged marks b s bs j .starts))
 
   pub within : (38 ≤ length b) × (75 + length (tailNibbles (s .attachments)) ≤ 2 * length b) × (75 + length (tailNibbles (s .attachments)) ≤ 3706)
   within =
       let w = size-within in
       let z = size-is s in
-      let g = judged b s bs j .good in
-      (omega (arith, size-range s g), omega arith, omega (arith, fine-size (g .fine)))
+      let g = judged marks b s bs j .good in
+      (omega (arith, size-range marks s g), omega arith, omega (arith, fine-size marks (g .fine)))
 
   -- so does a report with as many nibbles behind the card
   pub same-within : (t : Observation) → length (tailNibbles (t .attachments)) ≡ length (tailNibbles (s .attachments)) → size t ≤ length b

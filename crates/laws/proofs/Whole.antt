@@ -16,7 +16,7 @@ use borrow.Author.Tests.{le-ltb, ltb-false, eqb-true, not-false}
 use Rattle.format.specs.Order.{Refusal, first}
 use Rattle.format.specs.Field.{Field, table, fieldAt, required, inRange, scaled, BOX10, YEAR, MONTH, X, Y}
 use Rattle.format.specs.Nibbles.{attachment, attachmentNibbles, tailNibbles, attachmentsOf, among}
-use Rattle.format.specs.Flags.{flagsFit, totalWeight, allMissing, qualityCode, flagsValid}
+use Rattle.format.specs.Flags.{FlagTable, flagsFit, totalWeight, allMissing, qualityCode, flagsValid}
 use Rattle.format.specs.ShipText.{textStep, stateAfter, endFrom, atEnd, textValid}
 use Rattle.format.specs.Observation.{Observation, packing, size}
 use Rattle.format.specs.Report.{bodyValid, attachmentChecks, Verdict, judge}
@@ -73,10 +73,10 @@ module _ (box10 year month x y : Scaled) where
       (some-none box10) (some-none year) (some-none month) (some-none x) (some-none y) (1 + i) r (rw z n)
 
   -- values in range make a good observation
-  fresh-good : valueCheck BOX10 box10 .fits ≡ false → valueCheck YEAR year .fits ≡ false → valueCheck MONTH month .fits ≡ false
-      → valueCheck X x .fits ≡ false → valueCheck Y y .fits ≡ false → Good (freshObservation box10 year month x y)
+  fresh-good : (marks : FlagTable) → valueCheck BOX10 box10 .fits ≡ false → valueCheck YEAR year .fits ≡ false → valueCheck MONTH month .fits ≡ false
+      → valueCheck X x .fits ≡ false → valueCheck Y y .fits ≡ false → Good marks (freshObservation box10 year month x y)
   unfolding freshObservation
-  fresh-good e1 e2 e3 e6 e7 = record {
+  fresh-good marks e1 e2 e3 e6 e7 = record {
     rptin = omega arith;
     fair = fair-field Y y e7 (fair-field X x e6 (fair-field MONTH month e3 (fair-field YEAR year e2 (fair-field BOX10 box10 e1 (rw table-length at (missing-all table))))));
     present = fresh-present;
@@ -91,24 +91,24 @@ module _ (box10 year month x y : Scaled) where
 -- ---- what pack has passed
 
 -- the first refusal of its checks, or that there is none, decides what it leaves
-pub pack-outcome : (values : List ℤ) (word rptin : ℕ) (ns out : List ℕ) (o : Option Refusal) → first (packOrder (length out) values word rptin ns) ≡ o
-    → wroteBy o (packGives (size (packObservation values word rptin ns))) (packing (packObservation values word rptin ns)) out ≡ pack values word rptin ns out
+pub pack-outcome : (marks : FlagTable) (values : List ℤ) (word rptin : ℕ) (ns out : List ℕ) (o : Option Refusal) → first (packOrder marks (length out) values word rptin ns) ≡ o
+    → wroteBy o (packGives (size (packObservation values word rptin ns))) (packing (packObservation values word rptin ns)) out ≡ pack marks values word rptin ns out
 unfolding pack
-pack-outcome values word rptin ns out o e =
+pack-outcome marks values word rptin ns out o e =
     ap (λ (x : Option Refusal). wroteBy x (packGives (size (packObservation values word rptin ns))) (packing (packObservation values word rptin ns)) out) (sym e)
 
 -- that none of its checks refuses, part by part; `packs-none` below is the way back
-pub record Packs (n : ℕ) (values : List ℤ) (word rptin : ℕ) (ns : List ℕ) : Type 0 where
+pub record Packs (marks : FlagTable) (n : ℕ) (values : List ℤ) (word rptin : ℕ) (ns : List ℕ) : Type 0 where
   pub long : 46 ≤ length values
   pub inside : bitOutside word ≡ false
   pub fields : first (packChecks 1 table word values) ≡ none
   pub nibbles : allNibbles ns ≡ true
-  pub attachments : first (attachmentChecks (countIn ns) 1 [] ns) ≡ none
+  pub attachments : first (attachmentChecks marks (countIn ns) 1 [] ns) ≡ none
   pub room : size (packObservation values word rptin ns) ≤ n
 
-packs : (n : ℕ) (values : List ℤ) (word rptin : ℕ) (ns : List ℕ) → first (packOrder n values word rptin ns) ≡ none → Packs n values word rptin ns
+packs : (marks : FlagTable) (n : ℕ) (values : List ℤ) (word rptin : ℕ) (ns : List ℕ) → first (packOrder marks n values word rptin ns) ≡ none → Packs marks n values word rptin ns
 unfolding packOrder
-packs n values word rptin ns e =
+packs marks n values word rptin ns e =
     let c1 = first-none _ _ e in
     let c2 = first-none _ _ (c1 .1) in
     let c3 = first-append-none _ _ (c2 .1) in
@@ -183,9 +183,9 @@ pack-rptin : (values : List ℤ) (word rptin : ℕ) (ns : List ℕ) → packObse
 unfolding packObservation
 pack-rptin values word rptin ns = refl
 
-module _ (n : ℕ) (values : List ℤ) (word rptin : ℕ) (ns : List ℕ) (e : first (packOrder n values word rptin ns) ≡ none) where
-  passed : Packs n values word rptin ns
-  passed = packs n values word rptin ns e
+module _ (marks : FlagTable) (n : ℕ) (values : List ℤ) (word rptin : ℕ) (ns : List ℕ) (e : first (packOrder marks n values word rptin ns) ≡ none) where
+  passed : Packs marks n values word rptin ns
+  passed = packs marks n values word rptin ns e
 
   -- its presence word is the word given
   pack-presence : presence (packObservation values word rptin ns) ≡ word
@@ -203,8 +203,8 @@ module _ (n : ℕ) (values : List ℤ) (word rptin : ℕ) (ns : List ℕ) (e : f
       ap (bitAt word) z
       ∙ checks-needed 1 table word values (passed .fields) (k - 1) (omega (arith, table-length)) (omega (arith, passed .long)) (sym (ap required z) ∙ r)
 
-  walked : Walked (countIn ns) [] ns
-  walked = checks-fine (countIn ns) 1 [] ns (all-nibbles ns (passed .nibbles)) (passed .attachments)
+  walked : Walked marks (countIn ns) [] ns
+  walked = checks-fine marks (countIn ns) 1 [] ns (all-nibbles ns (passed .nibbles)) (passed .attachments)
 
   -- as many attachments as are counted from the tail, and nothing of the tail is left behind them
   pack-count : length (packObservation values word rptin ns .attachments) ≡ countIn ns
@@ -213,9 +213,9 @@ module _ (n : ℕ) (values : List ℤ) (word rptin : ℕ) (ns : List ℕ) (e : f
 
   pack-tail : tail (packObservation values word rptin ns) ≡ ns
   unfolding packObservation
-  pack-tail = sym (count-all ns (all-nibbles ns (passed .nibbles)) (passed .attachments))
+  pack-tail = sym (count-all marks ns (all-nibbles ns (passed .nibbles)) (passed .attachments))
 
-  pack-good : rptin < 2 ^ 16 → Good (packObservation values word rptin ns)
+  pack-good : rptin < 2 ^ 16 → Good marks (packObservation values word rptin ns)
   unfolding packObservation
   pack-good r = record {
     rptin = r;
@@ -250,9 +250,9 @@ given-checks k word (cons {f = f} {e = e} {es = es} fair t) a h =
     within none q = refl
     within (some v) q = rw (fair-range f v q)
 
-pub packs-none : (n : ℕ) (values : List ℤ) (word rptin : ℕ) (ns : List ℕ) → Packs n values word rptin ns → first (packOrder n values word rptin ns) ≡ none
+pub packs-none : (marks : FlagTable) (n : ℕ) (values : List ℤ) (word rptin : ℕ) (ns : List ℕ) → Packs marks n values word rptin ns → first (packOrder marks n values word rptin ns) ≡ none
 unfolding packOrder
-packs-none n values word rptin ns p =
+packs-none marks n values word rptin ns p =
     no-check _ _ (le-ltb (length values) 46 (p .long))
     (no-check _ _ (p .inside)
     (no-checks _ _ (p .fields)
@@ -260,7 +260,7 @@ packs-none n values word rptin ns p =
     (no-checks _ _ (p .attachments)
     (no-check _ _ (le-ltb n (size (packObservation values word rptin ns)) (p .room)) first-nil)))))
 
-module _ (s : Observation) (g : Good s) where
+module _ (marks : FlagTable) (s : Observation) (g : Good marks s) where
   values-length : length (s .values) ≡ 46
   values-length = length-fair (g .fair) ∙ table-length
 
@@ -278,40 +278,40 @@ module _ (s : Observation) (g : Good s) where
       ap₂ attachmentsOf (tail-count (s .attachments)) (sym (append-nil (tail s))) ∙ tail-reads (s .attachments) [] in
       λ i. record { rptin = s .rptin; values = v i; attachments = a i }
 
-  observation-packs : (n : ℕ) → size s ≤ n → Packs n (map valueOrZero (s .values)) (presence s) (s .rptin) (tail s)
+  observation-packs : (n : ℕ) → size s ≤ n → Packs marks n (map valueOrZero (s .values)) (presence s) (s .rptin) (tail s)
   observation-packs n h = record {
     long = omega (arith, values-out);
     inside = presence-inside s values-length;
     fields = given-checks 1 (presence s) (g .fair) (presence-bit 1 (s .values)) (present-needed (presence s) (s .values) values-length (presence-bit 1 (s .values)) (g .present));
-    nibbles = nibbles-all (tail s) (fine-nibbles (g .fine));
-    attachments = rw (tail-count (s .attachments)) (rw append-nil at (fine-checks 1 [] (g .fine)));
+    nibbles = nibbles-all (tail s) (fine-nibbles marks (g .fine));
+    attachments = rw (tail-count (s .attachments)) (rw append-nil at (fine-checks marks 1 [] (g .fine)));
     room = rw observation-back h;
   }
 
 -- ---- demand 2
 
 -- pack of an observation's parts writes its packing
-pack-good-observation : (s : Observation) (out : List ℕ) → Good s → size s ≤ length out
-    → pack (map valueOrZero (s .values)) (presence s) (s .rptin) (tail s) out
+pack-good-observation : (marks : FlagTable) (s : Observation) (out : List ℕ) → Good marks s → size s ≤ length out
+    → pack marks (map valueOrZero (s .values)) (presence s) (s .rptin) (tail s) out
     ≡ record { answer = Answer.accepted (packGives (size s)); out = over (packing s) out }
 unfolding pack
-pack-good-observation s out g h =
-    rw (packs-none (length out) (map valueOrZero (s .values)) (presence s) (s .rptin) (tail s) (observation-packs s g (length out) h), observation-back s g)
+pack-good-observation marks s out g h =
+    rw (packs-none marks (length out) (map valueOrZero (s .values)) (presence s) (s .rptin) (tail s) (observation-packs marks s g (length out) h), observation-back marks s g)
 
 -- pack after unpack: the parts of an accepted report are packed to the same bytes
-pack-after-unpack : (b : List ℕ) (s : Observation) (out : List ℕ) → Bytes b → judge b ≡ Verdict.accepted s → size s ≤ length out
-    → (pack (map valueOrZero (s .values)) (presence s) (s .rptin) (tail s) out
+pack-after-unpack : (marks : FlagTable) (b : List ℕ) (s : Observation) (out : List ℕ) → Bytes b → judge marks b ≡ Verdict.accepted s → size s ≤ length out
+    → (pack marks (map valueOrZero (s .values)) (presence s) (s .rptin) (tail s) out
     ≡ record { answer = Answer.accepted (packGives (size s)); out = over (packing s) out })
     × (packing s ≡ take (size s) b)
-pack-after-unpack b s out bs j h =
-    let t = judged b s bs j in
-    (pack-good-observation s out (t .good) h, sym (report-is b s bs j))
+pack-after-unpack marks b s out bs j h =
+    let t = judged marks b s bs j in
+    (pack-good-observation marks s out (t .good) h, sym (report-is marks b s bs j))
 
 -- unpack of an accepted report, with room for what it gives
-pub unpack-accepted : (b : List ℕ) (s : Observation) (vs : List ℤ) (ns : List ℕ) → judge b ≡ Verdict.accepted s → 46 ≤ length vs → length (tail s) ≤ length ns
-    → unpack b vs ns ≡ unpacked (Answer.accepted (unpackGives s)) (over (map valueOrZero (s .values)) vs) (over (tail s) ns)
+pub unpack-accepted : (marks : FlagTable) (b : List ℕ) (s : Observation) (vs : List ℤ) (ns : List ℕ) → judge marks b ≡ Verdict.accepted s → 46 ≤ length vs → length (tail s) ≤ length ns
+    → unpack marks b vs ns ≡ unpacked (Answer.accepted (unpackGives s)) (over (map valueOrZero (s .values)) vs) (over (tail s) ns)
 unfolding unpack
-unpack-accepted b s vs ns j hv hn =
+unpack-accepted marks b s vs ns j hv hn =
     let c : first (unpackChecks s vs ns) ≡ none = no-check _ _ (rw (le-ltb (length vs) 46 hv, le-ltb (length ns) (length (tail s)) hn)) first-nil in
     rw j (ap (λ (o : Option Refusal). unpackedBy o s vs ns) c)
 
@@ -322,10 +322,10 @@ checks-more k [] word vs more l = refl
 checks-more k (f ∷ fs) word [] more l = absurd (omega arith)
 checks-more k (f ∷ fs) word (v ∷ vs) more l = rw (checks-more (suc k) fs word vs more (omega arith))
 
-pack-more : (values more : List ℤ) (word rptin : ℕ) (ns out : List ℕ) → 46 ≤ length values
-    → pack (values ++ more) word rptin ns out ≡ pack values word rptin ns out
+pack-more : (marks : FlagTable) (values more : List ℤ) (word rptin : ℕ) (ns out : List ℕ) → 46 ≤ length values
+    → pack marks (values ++ more) word rptin ns out ≡ pack marks values word rptin ns out
 unfolding pack packOrder packObservation
-pack-more values more word rptin ns out l =
+pack-more marks values more word rptin ns out l =
     let n : 46 ≤ length (values ++ more) = omega (arith, length-append values more) in
     rw (
       take-append-le 46 values more l,
@@ -335,25 +335,25 @@ pack-more values more word rptin ns out l =
     )
 
 -- pack after unpack, of the two outputs as unpack left them
-pub pack-unpacked : (b : List ℕ) (s : Observation) (vs : List ℤ) (ns out : List ℕ) → Bytes b → judge b ≡ Verdict.accepted s
+pub pack-unpacked : (marks : FlagTable) (b : List ℕ) (s : Observation) (vs : List ℤ) (ns out : List ℕ) → Bytes b → judge marks b ≡ Verdict.accepted s
     → 46 ≤ length vs → length (tail s) ≤ length ns → size s ≤ length out
-    → pack (unpack b vs ns .values) (presence s) (s .rptin) (take (length (tail s)) (unpack b vs ns .tail)) out
+    → pack marks (unpack marks b vs ns .values) (presence s) (s .rptin) (take (length (tail s)) (unpack marks b vs ns .tail)) out
     ≡ record { answer = Answer.accepted (packGives (size s)); out = over (take (size s) b) out }
-pack-unpacked b s vs ns out bs j hv hn ho =
-    let t = pack-after-unpack b s out bs j ho in
-    let l = values-out s (judged b s bs j .good) in
-    rw (unpack-accepted b s vs ns j hv hn, take-append-seam (tail s) (drop (length (tail s)) ns), pack-more (map valueOrZero (s .values)) _ (presence s) (s .rptin) (tail s) out (omega arith), ← t .1)
+pack-unpacked marks b s vs ns out bs j hv hn ho =
+    let t = pack-after-unpack marks b s out bs j ho in
+    let l = values-out marks s (judged marks b s bs j .good) in
+    rw (unpack-accepted marks b s vs ns j hv hn, take-append-seam (tail s) (drop (length (tail s)) ns), pack-more marks (map valueOrZero (s .values)) _ (presence s) (s .rptin) (tail s) out (omega arith), ← t .1)
     (t .0)
 
 -- unpack after pack: what pack accepts is unpacked to what it was made of, the values of missing fields as 0
-module _ (values : List ℤ) (word rptin : ℕ) (ns out : List ℕ) (r : rptin < 2 ^ 16)
-    (e : first (packOrder (length out) values word rptin ns) ≡ none) where
-  pub judge-pack : judge (pack values word rptin ns out .out) ≡ Verdict.accepted (packObservation values word rptin ns)
+module _ (marks : FlagTable) (values : List ℤ) (word rptin : ℕ) (ns out : List ℕ) (r : rptin < 2 ^ 16)
+    (e : first (packOrder marks (length out) values word rptin ns) ≡ none) where
+  pub judge-pack : judge marks (pack marks values word rptin ns out .out) ≡ Verdict.accepted (packObservation values word rptin ns)
   unfolding pack
-  judge-pack = rw e (judge-packing (packObservation values word rptin ns) _ (pack-good (length out) values word rptin ns e r))
+  judge-pack = rw e (judge-packing marks (packObservation values word rptin ns) _ (pack-good marks (length out) values word rptin ns e r))
 
   pub unpack-after-pack : (vs : List ℤ) (ts : List ℕ) → 46 ≤ length vs → length ns ≤ length ts
-      → unpack (pack values word rptin ns out .out) vs ts
+      → unpack marks (pack marks values word rptin ns out .out) vs ts
       ≡ unpacked
       (Answer.accepted (contents word (ones word) rptin (countIn ns) (size (packObservation values word rptin ns)) (length ns)))
       (over (masked 1 word (take 46 values)) vs)
@@ -361,11 +361,11 @@ module _ (values : List ℤ) (word rptin : ℕ) (ns out : List ℕ) (r : rptin <
   unfolding unpackGives
   unpack-after-pack vs ts hv ht =
       let s = packObservation values word rptin ns in
-      let w = pack-presence (length out) values word rptin ns e in
-      let t = pack-tail (length out) values word rptin ns e in
+      let w = pack-presence marks (length out) values word rptin ns e in
+      let t = pack-tail marks (length out) values word rptin ns e in
       let c : countPresent (s .values) ≡ ones word = sym (count-ones 1 (s .values)) ∙ ap ones w in
-      unpack-accepted (pack values word rptin ns out .out) s vs ts judge-pack hv (rw t ht)
-      ∙ rw (c, w, t, pack-rptin values word rptin ns, pack-count (length out) values word rptin ns e, pack-values values word rptin ns)
+      unpack-accepted marks (pack marks values word rptin ns out .out) s vs ts judge-pack hv (rw t ht)
+      ∙ rw (c, w, t, pack-rptin values word rptin ns, pack-count marks (length out) values word rptin ns e, pack-values values word rptin ns)
 
 -- ---- the largest report
 
@@ -381,26 +381,27 @@ largest-size : size largest ≡ 1853
 unfolding largest tailNibbles attachmentNibbles
 largest-size = size-is largest
 
-largest-fine : Fine [] (largest .attachments)
+largest-fine : (marks : FlagTable) → Fine marks [] (largest .attachments)
 unfolding largest tailNibbles attachmentNibbles attachmentChecks first bodyValid flagsValid flagsFit allMissing qualityCode totalWeight textValid endFrom stateAfter textStep atEnd among allNibbles
-largest-fine =
+largest-fine marks =
     let list = largest .attachments in
-    let w = checks-fine 15 1 [] (tailNibbles list) (all-nibbles (tailNibbles list) refl) refl in
-    subst (Fine []) (rw append-nil at (tail-reads list [])) (w .fine)
+    let w = checks-fine marks 15 1 [] (tailNibbles list) (all-nibbles (tailNibbles list) refl) refl in
+    subst (Fine marks []) (rw append-nil at (tail-reads list [])) (w .fine)
 
-largest-good : Good largest
+largest-good : (marks : FlagTable) → Good marks largest
 unfolding largest inRange fieldAt table
-largest-good =
-    let g = fresh-good (scaled (pos 1)) (scaled (pos 1900)) (scaled (pos 1)) (scaled (pos 0)) (scaled (pos 0)) refl refl refl refl refl in
-    record { rptin = g .rptin; fair = g .fair; present = g .present; fine = largest-fine }
+largest-good marks =
+    let g = fresh-good (scaled (pos 1)) (scaled (pos 1900)) (scaled (pos 1)) (scaled (pos 0)) (scaled (pos 0)) marks refl refl refl refl refl in
+    record { rptin = g .rptin; fair = g .fair; present = g .present; fine = largest-fine marks }
 
 -- FORMAT 3.3: both sizes are reached
-pub least-reached : (b : List ℕ) × Bytes b × (s : Observation) × (judge b ≡ Verdict.accepted s) × (size s ≡ 38)
+pub least-reached : (marks : FlagTable) → (b : List ℕ) × Bytes b × (s : Observation) × (judge marks b ≡ Verdict.accepted s) × (size s ≡ 38)
 unfolding inRange fieldAt table
-least-reached =
+least-reached marks =
     let s : Observation = freshObservation (scaled (pos 1)) (scaled (pos 1900)) (scaled (pos 1)) (scaled (pos 0)) (scaled (pos 0)) in
-    let g = fresh-good (scaled (pos 1)) (scaled (pos 1900)) (scaled (pos 1)) (scaled (pos 0)) (scaled (pos 0)) refl refl refl refl refl in
-    (packing s, packing-bytes s g, s, rw append-nil at (judge-packing s [] g), fresh-size _ _ _ _ _)
+    let g = fresh-good (scaled (pos 1)) (scaled (pos 1900)) (scaled (pos 1)) (scaled (pos 0)) (scaled (pos 0)) marks refl refl refl refl refl in
+    (packing s, packing-bytes marks s g, s, rw append-nil at (judge-packing marks s [] g), fresh-size _ _ _ _ _)
 
-pub most-reached : (b : List ℕ) × Bytes b × (s : Observation) × (judge b ≡ Verdict.accepted s) × (size s ≡ 1853)
-most-reached = (packing largest, packing-bytes largest largest-good, largest, rw append-nil at (judge-packing largest [] largest-good), largest-size)
+pub most-reached : (marks : FlagTable) → (b : List ℕ) × Bytes b × (s : Observation) × (judge marks b ≡ Verdict.accepted s) × (size s ≡ 1853)
+most-reached marks =
+    (packing largest, packing-bytes marks largest (largest-good marks), largest, rw append-nil at (judge-packing marks largest [] (largest-good marks)), largest-size)

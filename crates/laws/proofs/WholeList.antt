@@ -13,7 +13,7 @@ use borrow.Author.Tests.{ltb-false, not-false}
 use Rattle.format.specs.Order.{Refusal, first}
 use Rattle.format.specs.Field.{fieldAt, required}
 use Rattle.format.specs.Nibbles.{attachment}
-use Rattle.format.specs.Flags.{withFlag}
+use Rattle.format.specs.Flags.{FlagTable, withFlag}
 use Rattle.format.specs.ShipText.{writeText}
 use Rattle.format.specs.Observation.{Observation, packing, size}
 use Rattle.format.specs.Report.{Verdict, judge, bodyValid}
@@ -35,12 +35,12 @@ use Rattle.laws.proofs.Report.{Good, judge-packing, judged, size-within
 -- ---- layouts
 
 -- an accepted buffer is laid out as its own observation
-pub layout-same : (b : List ℕ) (s : Observation) → Bytes b → judge b ≡ Verdict.accepted s → b ≡ layout b (size s) s
+pub layout-same : (marks : FlagTable) (b : List ℕ) (s : Observation) → Bytes b → judge marks b ≡ Verdict.accepted s → b ≡ layout b (size s) s
 unfolding layout
-layout-same b s bs j =
+layout-same marks b s bs j =
     let a1 : size s - size s ≡ 0 = omega arith in
     let a2 : max (size s) (size s) ≡ size s = omega arith in
-    rw (a1, a2) (judged b s bs j .starts)
+    rw (a1, a2) (judged marks b s bs j .starts)
 
 n1 : (p q : ℕ) → max p q - p ≡ q - p
 n1 p q = omega arith
@@ -88,104 +88,104 @@ layout-length : (b : List ℕ) (e : ℕ) (s : Observation) → size s ≤ e → 
 unfolding layout
 layout-length b e s h k = simp (length-append, length-replicate, length-drop) (omega arith)
 
-judge-layout : (b : List ℕ) (e : ℕ) (s : Observation) → Good s → judge (layout b e s) ≡ Verdict.accepted s
+judge-layout : (marks : FlagTable) (b : List ℕ) (e : ℕ) (s : Observation) → Good marks s → judge marks (layout b e s) ≡ Verdict.accepted s
 unfolding layout
-judge-layout b e s g = judge-packing s _ g
+judge-layout marks b e s g = judge-packing marks s _ g
 
 -- ---- a step keeps the observation good, and within the buffer
 
-pub record Kept (n : ℕ) (s : Observation) : Type 0 where
-  pub good : Good s
+pub record Kept (marks : FlagTable) (n : ℕ) (s : Observation) : Type 0 where
+  pub good : Good marks s
   pub fits : size s ≤ n
 
-value-good : (s : Observation) (k : ℕ) (e : Option Scaled) → Good s → Fair (fieldAt k) e → Present 1 (set (s .values) (k - 1) e) → Good (withValue s k e)
+value-good : (marks : FlagTable) (s : Observation) (k : ℕ) (e : Option Scaled) → Good marks s → Fair (fieldAt k) e → Present 1 (set (s .values) (k - 1) e) → Good marks (withValue s k e)
 unfolding fieldAt
-value-good s k e g f p = record { rptin = g .rptin; fair = fair-set (g .fair) (k - 1) e f; present = p; fine = g .fine }
+value-good marks s k e g f p = record { rptin = g .rptin; fair = fair-set (g .fair) (k - 1) e f; present = p; fine = g .fine }
 
-content-good : (s : Observation) (i : ℕ) (ns : List ℕ) → Good s → FineAt (attachment i ns) → Good (withContent s i ns)
-content-good s i ns g f = record { rptin = g .rptin; fair = g .fair; present = g .present; fine = put-fine i ns f (g .fine) }
+content-good : (marks : FlagTable) (s : Observation) (i : ℕ) (ns : List ℕ) → Good marks s → FineAt marks (attachment i ns) → Good marks (withContent s i ns)
+content-good marks s i ns g f = record { rptin = g .rptin; fair = g .fair; present = g .present; fine = put-fine marks i ns f (g .fine) }
 
-put-good : (s : Observation) (i : ℕ) (ns : List ℕ) → Good s → idCheck i .fits ≡ false → lengthCheck ns .fits ≡ false → contentCheck i ns .fits ≡ false
-    → Good (withContent s i ns)
-put-good s i ns g h l c = content-good s i ns g (put-checked i ns (not-false _ h) (not-false _ l) (not-false _ c))
+put-good : (marks : FlagTable) (s : Observation) (i : ℕ) (ns : List ℕ) → Good marks s → idCheck i .fits ≡ false → lengthCheck ns .fits ≡ false → contentCheck marks i ns .fits ≡ false
+    → Good marks (withContent s i ns)
+put-good marks s i ns g h l c = content-good marks s i ns g (put-checked marks i ns (not-false _ h) (not-false _ l) (not-false _ c))
 
-flag-good : (s : Observation) (j v : ℕ) → Good s → flagNumberCheck j .fits ≡ false → flagFits j v ≡ true → standsCheck s 1 .fits ≡ false
-    → Good (withContent s 1 (withFlag (content s 1) j v))
+flag-good : (marks : FlagTable) (s : Observation) (j v : ℕ) → Good marks s → flagNumberCheck j .fits ≡ false → flagFits marks j v ≡ true → standsCheck s 1 .fits ≡ false
+    → Good marks (withContent s 1 (withFlag (content s 1) j v))
 unfolding bodyValid
-flag-good s j v g f h c =
-    let old = content-fine 1 (g .fine) (not-false _ c) .valid in
+flag-good marks s j v g f h c =
+    let old = content-fine marks 1 (g .fine) (not-false _ c) .valid in
     let low = between-in 1 14 j _ refl f .0 in
-    let long = flag-set-length (content s 1) j v (valid-flags (content s 1) old .long) in
-    content-good s 1 (withFlag (content s 1) j v) g
+    let long = flag-set-length (content s 1) j v (valid-flags marks (content s 1) old .long) in
+    content-good marks s 1 (withFlag (content s 1) j v) g
     (record {
       filled = omega arith;
       short = omega arith;
-      nibbles = flag-set-nibbles (content s 1) j v old low h;
+      nibbles = flag-set-nibbles (content s 1) j v marks old low h;
       low = omega arith;
       high = omega arith;
-      valid = flag-set-valid (content s 1) j v old low h;
+      valid = flag-set-valid (content s 1) j v marks old low h;
     })
 
-made-good : (s : Observation) (e : Editing) → Good s → first (callChecks s (edits e)) ≡ none → Good (made s e)
+made-good : (marks : FlagTable) (s : Observation) (e : Editing) → Good marks s → first (callChecks marks s (edits e)) ≡ none → Good marks (made s e)
 unfolding made callChecks
-made-good s (setField k v) g e =
+made-good marks s (setField k v) g e =
     let c1 = first-none _ _ e in
     let c2 = first-none _ _ (c1 .1) in
-    value-good s k (some v) g (in-range-fair (fieldAt k) v (not-false _ (c2 .0))) (present-some 1 (s .values) (k - 1) v (g .present))
-made-good s (clearField k) g e =
+    value-good marks s k (some v) g (in-range-fair (fieldAt k) v (not-false _ (c2 .0))) (present-some 1 (s .values) (k - 1) v (g .present))
+made-good marks s (clearField k) g e =
     let c1 = first-none _ _ e in
     let c2 = first-none _ _ (c1 .1) in
     let low = between-in 1 46 k _ refl (c1 .0) .0 in
     let at : 1 + (k - 1) ≡ k = omega arith in
-    value-good s k none g (missing-fair (fieldAt k)) (present-none 1 (s .values) (k - 1) (ap required at ∙ c2 .0) (g .present))
-made-good s (setFlag j v) g e =
+    value-good marks s k none g (missing-fair (fieldAt k)) (present-none 1 (s .values) (k - 1) (ap required at ∙ c2 .0) (g .present))
+made-good marks s (setFlag j v) g e =
     let c1 = first-none _ _ e in
     let c2 = first-none _ _ (c1 .1) in
     let c3 = first-none _ _ (c2 .1) in
-    flag-good s j v g (c1 .0) (range-fits j v (not-false _ (c2 .0))) (c3 .0)
-made-good s (clearFlag j) g e =
+    flag-good marks s j v g (c1 .0) (range-fits marks j v (not-false _ (c2 .0))) (c3 .0)
+made-good marks s (clearFlag j) g e =
     let c1 = first-none _ _ e in
     let c2 = first-none _ _ (c1 .1) in
-    flag-good s j 0 g (c1 .0) (missing-fits j) (c2 .0)
-made-good s (put i ns) g e =
+    flag-good marks s j 0 g (c1 .0) (missing-fits marks j) (c2 .0)
+made-good marks s (put i ns) g e =
     let c1 = first-none _ _ e in
     let c2 = first-none _ _ (c1 .1) in
     let c3 = first-none _ _ (c2 .1) in
-    put-good s i ns g (c1 .0) (c2 .0) (c3 .0)
-made-good s (remove i) g e = record { rptin = g .rptin; fair = g .fair; present = g .present; fine = remove-fine i (g .fine) }
-made-good s (putText t) g e =
+    put-good marks s i ns g (c1 .0) (c2 .0) (c3 .0)
+made-good marks s (remove i) g e = record { rptin = g .rptin; fair = g .fair; present = g .present; fine = remove-fine marks i (g .fine) }
+made-good marks s (putText t) g e =
     let c1 = first-none _ _ e in
     let c2 = first-none _ _ (c1 .1) in
-    put-good s 4 (writeText t) g refl (c1 .0) (c2 .0)
+    put-good marks s 4 (writeText t) g refl (c1 .0) (c2 .0)
 
-next-good : (s : Observation) (c : Call) → Good s → first (callChecks s c) ≡ none → Good (next s c)
-next-good s (reads r) g e = g
-next-good s (edits x) g e = made-good s x g e
-next-good s (fetches f) g e = g
+next-good : (marks : FlagTable) (s : Observation) (c : Call) → Good marks s → first (callChecks marks s c) ≡ none → Good marks (next s c)
+next-good marks s (reads r) g e = g
+next-good marks s (edits x) g e = made-good marks s x g e
+next-good marks s (fetches f) g e = g
 
-pub step-kept : (n : ℕ) (s : Observation) (c : Call) → Kept n s → Kept n (step n s c .observation)
+pub step-kept : (marks : FlagTable) (n : ℕ) (s : Observation) (c : Call) → Kept marks n s → Kept marks n (step marks n s c .observation)
 unfolding step
-step-kept n s c k = go (first (checks n s c)) refl
+step-kept marks n s c k = go (first (checks marks n s c)) refl
   where
     within : (o : Option Observation) → shorter n o ≡ false → size (afterEdit s o) ≤ n
     within none e = k .fits
     within (some t) e = ltb-false n (size t) e
 
-    go : (o : Option Refusal) → first (checks n s c) ≡ o → Kept n (steppedBy o s c .observation)
+    go : (o : Option Refusal) → first (checks marks n s c) ≡ o → Kept marks n (steppedBy o s c .observation)
     go (some r) e = k
     go none e =
-        let f = first-append-none (callChecks s c) (roomCheck n s c ∷ []) (unfold checks in e) in
+        let f = first-append-none (callChecks marks s c) (roomCheck n s c ∷ []) (unfold checks in e) in
         let room = or-false (shorter n (edited s c)) (overfull (writes s c) (outputsOf c)) (first-none (roomCheck n s c) [] (f .1) .0) in
-        record { good = next-good s c (k .good) (f .0); fits = within (edited s c) (room .0) }
+        record { good = next-good marks s c (k .good) (f .0); fits = within (edited s c) (room .0) }
 
 -- ---- the whole list
 
 -- what a step leaves of a laid-out buffer
-step-laid : (b : List ℕ) (s : Observation) (e : ℕ) (c : Call) → size s ≤ e
-    → (let t = step (length b) s c in
+step-laid : (marks : FlagTable) (b : List ℕ) (s : Observation) (e : ℕ) (c : Call) → size s ≤ e
+    → (let t = step marks (length b) s c in
     bufferAfter (t .answer) (layout b e s) (size s) (t .observation) ≡ layout b (max e (size (t .observation))) (t .observation))
 unfolding step
-step-laid b s e c h = go (first (checks (length b) s c))
+step-laid marks b s e c h = go (first (checks marks (length b) s c))
   where
     go : (o : Option Refusal)
         → (let t = steppedBy o s c in
@@ -194,49 +194,49 @@ step-laid b s e c h = go (first (checks (length b) s c))
     go none = relayout b e s (next s c) h
 
 -- the machine and the buffer agree: the buffer b₀ is laid out as the machine stands
-record Agrees (b₀ : List ℕ) (m : Standing) (b : List ℕ) : Type 0 where
-  kept : Kept (length b₀) (m .observation)
+record Agrees (marks : FlagTable) (b₀ : List ℕ) (m : Standing) (b : List ℕ) : Type 0 where
+  kept : Kept marks (length b₀) (m .observation)
   reached : size (m .observation) ≤ m .longest
   within : m .longest ≤ length b₀
   laid : b ≡ layout b₀ (m .longest) (m .observation)
 
 -- one call
-one : (b₀ : List ℕ) (m : Standing) (b : List ℕ) (c : Call) → Agrees b₀ m b
-    → (performing b c .answer ≡ stepping (length b₀) m c .answer) × Agrees b₀ (stepping (length b₀) m c .state) (performing b c .state)
-one b₀ m b c g =
+one : (marks : FlagTable) (b₀ : List ℕ) (m : Standing) (b : List ℕ) (c : Call) → Agrees marks b₀ m b
+    → (performing marks b c .answer ≡ stepping marks (length b₀) m c .answer) × Agrees marks b₀ (stepping marks (length b₀) m c .state) (performing marks b c .state)
+one marks b₀ m b c g =
     let s = m .observation in
-    let t = step (length b₀) s c in
+    let t = step marks (length b₀) s c in
     let e = max (m .longest) (size (t .observation)) in
-    let k = step-kept (length b₀) s c (g .kept) in
-    let f : effect b c ≡ after (t .answer) (layout b₀ e (t .observation)) (t .outs) =
-    ap (λ (x : List ℕ). effect x c) (g .laid)
-    ∙ (unfold effect in rw (judge-layout b₀ (m .longest) s (g .kept .good), layout-length b₀ (m .longest) s (g .reached) (g .within), step-laid b₀ s (m .longest) c (g .reached))) in (
+    let k = step-kept marks (length b₀) s c (g .kept) in
+    let f : effect marks b c ≡ after (t .answer) (layout b₀ e (t .observation)) (t .outs) =
+    ap (λ (x : List ℕ). effect marks x c) (g .laid)
+    ∙ (unfold effect in rw (judge-layout marks b₀ (m .longest) s (g .kept .good), layout-length b₀ (m .longest) s (g .reached) (g .within), step-laid marks b₀ s (m .longest) c (g .reached))) in (
       ap (λ (a : After). shown (a .answer) (a .outs)) f,
       record { kept = k; reached = omega arith; within = omega (arith, k .fits, g .within); laid = ap (λ (a : After). a .buffer) f },
     )
 
-accepted-list : (b : List ℕ) (s : Observation) (cs : List Call) → Bytes b → judge b ≡ Verdict.accepted s
-    → calls b cs ≡ runOn b (run (length b) (standing s (size s)) cs)
+accepted-list : (marks : FlagTable) (b : List ℕ) (s : Observation) (cs : List Call) → Bytes b → judge marks b ≡ Verdict.accepted s
+    → calls marks b cs ≡ runOn b (run marks (length b) (standing s (size s)) cs)
 unfolding calls run
-accepted-list b s cs bs j =
-    let f = size-within b s bs j in
-    let start : Agrees b (standing s (size s)) b =
-    record { kept = record { good = judged b s bs j .good; fits = f }; reached = omega arith; within = f; laid = layout-same b s bs j } in
-    let r = courses-agree (stepping (length b)) performing (Agrees b) (one b) cs (standing s (size s)) b start in
+accepted-list marks b s cs bs j =
+    let f = size-within marks b s bs j in
+    let start : Agrees marks b (standing s (size s)) b =
+    record { kept = record { good = judged marks b s bs j .good; fits = f }; reached = omega arith; within = f; laid = layout-same marks b s bs j } in
+    let r = courses-agree (stepping marks (length b)) (performing marks) (Agrees marks b) (one marks b) cs (standing s (size s)) b start in
     ap₂ (λ (x : List Shown) (y : List ℕ). record { answers = x; state = y }) (r .0) (r .1 .laid)
 
-refused-list : (b : List ℕ) (r : Refusal) (cs : List Call) → judge b ≡ Verdict.refused r → calls b cs ≡ record { answers = refusals r cs; state = b }
+refused-list : (marks : FlagTable) (b : List ℕ) (r : Refusal) (cs : List Call) → judge marks b ≡ Verdict.refused r → calls marks b cs ≡ record { answers = refusals r cs; state = b }
 unfolding calls course effect
-refused-list b r [] j = refl
-refused-list b r (c ∷ cs) j =
+refused-list marks b r [] j = refl
+refused-list marks b r (c ∷ cs) j =
     rw j
-    (ap (λ (x : Course (List ℕ) Shown). record { answers = shown (Answer.refused r) (outputsOf c) ∷ x .answers; state = x .state }) (refused-list b r cs j))
+    (ap (λ (x : Course (List ℕ) Shown). record { answers = shown (Answer.refused r) (outputsOf c) ∷ x .answers; state = x .state }) (refused-list marks b r cs j))
 
-claim-of : (b : List ℕ) (cs : List Call) (v : Verdict) → Bytes b → judge b ≡ v → calls b cs ≡ claimOn v b cs
-claim-of b cs (Verdict.refused r) bs j = refused-list b r cs j
-claim-of b cs (Verdict.accepted s) bs j = accepted-list b s cs bs j
+claim-of : (marks : FlagTable) (b : List ℕ) (cs : List Call) (v : Verdict) → Bytes b → judge marks b ≡ v → calls marks b cs ≡ claimOn marks v b cs
+claim-of marks b cs (Verdict.refused r) bs j = refused-list marks b r cs j
+claim-of marks b cs (Verdict.accepted s) bs j = accepted-list marks b s cs bs j
 
 -- THE WHOLE LIST
-pub whole-list : (b : List ℕ) (cs : List Call) → Bytes b → calls b cs ≡ claim b cs
+pub whole-list : (marks : FlagTable) (b : List ℕ) (cs : List Call) → Bytes b → calls marks b cs ≡ claim marks b cs
 unfolding claim
-whole-list b cs bs = claim-of b cs (judge b) bs refl
+whole-list marks b cs bs = claim-of marks b cs (judge marks b) bs refl
