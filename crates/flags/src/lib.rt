@@ -2,9 +2,11 @@
 ghost use mathlib.Core.Path.{_≡_};
 ghost use Prim.Native.Nat.{_+_, _≤_, _<_, _^_};
 ghost use lib.ListN.{length};
-ghost use Rattle.format.specs.Flags.{flagsValid, qualityCode};
+ghost use Rattle.format.specs.Flags.{flagInRange, flagsValid, qualityCode};
 ghost use Rattle.nibble.specs.View.{view, part};
 ghost use Rattle.flags.specs.Marks.{mark, markSum, codeIn};
+ghost use Rattle.flags.specs.Missing.{MissingPermitted};
+use format::FlagTable;
 use nibble::Cursor;
 
 // A flag's mark: its weight, 256 if it is given, and 65536 if it is over 10.
@@ -64,10 +66,21 @@ pub fn quality(s: &[u8], c: Cursor) -> u8
     q as u8
 }
 
+// Whether flag j may be set to v.
+pub fn in_range(j: usize, v: usize, marks: FlagTable) -> bool
+    requires { ⌜ (1 ≤ j) × (j ≤ 14) ⌝ }
+    ensures { λ r. ⌜ r ≡ flagInRange marks j v ⌝ }
+{
+    if !numbers::within(1, 10, v) {
+        return false;
+    }
+    marks[j - 1][v - 1] == 1
+}
+
 // Whether len nibbles from a place on are a body of attachment 1.
-pub fn valid(s: &[u8], c: Cursor, len: usize) -> bool
+pub fn valid(s: &[u8], c: Cursor, len: usize, marks: FlagTable) -> bool
     requires { ⌜ (c .at + len ≤ length (view (c .packed) (now s))) × (c .at + len ≤ 2 ^ 32) ⌝ }
-    ensures { λ r. ⌜ r ≡ flagsValid (part (now (s .entry)) c len) ⌝ }
+    ensures { λ r. ⌜ (r ≡ flagsValid marks (part (now (s .entry)) c len)) × MissingPermitted marks ⌝ }
 {
     let at = c.at;
     let packed = c.packed;

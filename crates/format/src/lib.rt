@@ -6,6 +6,10 @@ pub struct Coded(pub u16);
 // A field's scaled value, in the field's unit: the coded number plus the base.
 pub struct Scaled(pub i64);
 
+// A library's own table of permitted flags: for flag j and value v the mark at [j - 1][v - 1], where 1 is yes and any other
+// number no.
+pub type FlagTable = [[u8; 10]; 14];
+
 // For the definitions alone (crate text has a table of states): where a reader of ship text stands, with so many spaces that no
 // symbol has followed yet, and what of a code it has read since.
 pub enum TextState {
