@@ -1,70 +1,79 @@
-// The flags of attachment 1: whether a body is valid, and the quality code of fourteen flags.
+// The flags of attachment 1: whether a body is valid under a table of permitted flags, and the quality code of fourteen flags.
 ghost use mathlib.Core.Path.{_≡_};
-ghost use Prim.Native.Nat.{_+_, _≤_, _<_, _^_};
+ghost use mathlib.Core.Bool.{_||_};
+ghost use Prim.Native.Nat.{_+_, _≤_, _<_, _^_, _/_};
 ghost use lib.ListN.{length};
-ghost use Rattle.format.specs.Flags.{flagInRange, flagsValid, qualityCode};
+ghost use lib.Dec.{eqb};
+ghost use Rattle.format.specs.Nibbles.{Nibbles};
+ghost use Rattle.format.specs.Flags.{weight, totalWeight, flagInRange, flagsFit, flagsValid, qualityCode};
 ghost use Rattle.nibble.specs.View.{view, part};
-ghost use Rattle.flags.specs.Marks.{mark, markSum, codeIn};
+ghost use Rattle.flags.specs.Word.{nibblesIn, Column};
 ghost use Rattle.flags.specs.Missing.{MissingPermitted};
 use format::FlagTable;
 use nibble::Cursor;
 
-// A flag's mark: its weight, 256 if it is given, and 65536 if it is over 10.
-fn mark_of(v: u8) -> usize
-    ensures { λ r. ⌜ (r ≡ mark v) × (r ≤ 65795) ⌝ }
-{
-    match v {
-        0 => 0,
-        1 => 0x0_01_00,
-        2 => 0x0_01_01,
-        3 => 0x0_01_01,
-        4 => 0x0_01_02,
-        5 => 0x0_01_02,
-        6 => 0x0_01_02,
-        7 => 0x0_01_03,
-        8 => 0x0_01_03,
-        9 => 0x0_01_03,
-        10 => 0x0_01_03,
-        _ => 0x1_01_00,
-    }
-}
-
-// The sum of the marks of the fourteen flags from a place on.
-fn sum_marks(s: &[u8], c: Cursor) -> usize
-    requires { ⌜ (c .at + 14 ≤ length (view (c .packed) (now s))) × (c .at ≤ 2 ^ 32) ⌝ }
-    ensures { λ r. ⌜ r ≡ markSum (part (now (s .entry)) c 14) ⌝ }
+// The sixteen nibbles from a place on as one number, the first nibble highest.
+fn sixteen(s: &[u8], c: Cursor) -> u64
+    requires { ⌜ Nibbles (view (c .packed) (now s)) × (c .at + 16 ≤ length (view (c .packed) (now s))) × (c .at ≤ 2 ^ 32) ⌝ }
+    ensures { λ r. ⌜ nibblesIn 16 r ≡ part (now (s .entry)) c 16 ⌝ }
 {
     let at = c.at;
     let packed = c.packed;
-    let mut sum = 0;
+    let mut w = 0;
     let mut i = 0;
-    while i < 7 {
-        let u = nibble::nibble_at(s, at + 2 * i, packed);
-        let v = nibble::nibble_at(s, at + 2 * i + 1, packed);
-        sum += mark_of(u) + mark_of(v);
+    while i < 16 {
+        w = w * 16 + numbers::wide(nibble::nibble_at(s, at + i, packed));
         i += 1;
+    }
+    w
+}
+
+// ---- the quality code
+
+// The weight of a flag: two bits for each.
+fn weight_of(v: u64) -> u64
+    requires { ⌜ v < 16 ⌝ }
+    ensures { λ r. ⌜ (r ≡ weight v) × (r ≤ 3) ⌝ }
+{
+    (0x3fea50 >> (2 * v)) % 4
+}
+
+// The weights of the fourteen flags that a number holds.
+fn weigh(flags: u64) -> u64
+    ensures { λ r. ⌜ (r ≡ totalWeight (nibblesIn 14 flags)) × (r ≤ 42) ⌝ }
+{
+    let mut left = flags;
+    let mut sum = 0;
+    let mut n: usize = 14;
+    while 0 < n {
+        sum += weight_of(left % 16);
+        left /= 16;
+        n -= 1;
     }
     sum
 }
 
-// The quality code that a sum of marks shows.
-fn code_in(sum: usize) -> usize
-    ensures { λ r. ⌜ r ≡ codeIn sum ⌝ }
+// Their quality code.
+fn code_of(flags: u64) -> u64
+    requires { ⌜ flags < 2 ^ 56 ⌝ }
+    ensures { λ r. ⌜ (r ≡ qualityCode (nibblesIn 14 flags)) × (r ≤ 43) ⌝ }
 {
-    if sum / 256 % 256 == 0 {
+    if flags == 0 {
         return 0;
     }
-    1 + sum % 256
+    1 + weigh(flags)
 }
 
-// The quality code of the fourteen flags from a place on.
+// The quality code of the fourteen flags of the body at a place.
 pub fn quality(s: &[u8], c: Cursor) -> u8
-    requires { ⌜ (c .at + 14 ≤ length (view (c .packed) (now s))) × (c .at ≤ 2 ^ 32) ⌝ }
+    requires { ⌜ Nibbles (view (c .packed) (now s)) × (c .at + 16 ≤ length (view (c .packed) (now s))) × (c .at ≤ 2 ^ 32) ⌝ }
     ensures { λ r. ⌜ r ≡ qualityCode (part (now (s .entry)) c 14) ⌝ }
 {
-    let q = code_in(sum_marks(s, c));
-    q as u8
+    let w = sixteen(s, c);
+    code_of(w / 256) as u8
 }
+
+// ---- the table
 
 // Whether flag j may be set to v.
 pub fn in_range(j: usize, v: usize, marks: FlagTable) -> bool
@@ -77,21 +86,61 @@ pub fn in_range(j: usize, v: usize, marks: FlagTable) -> bool
     marks[j - 1][v - 1] == 1
 }
 
+// The column of a value. A missing flag has none and gets the last, so that its mark is looked up without a branch and then
+// not heeded.
+fn column(v: u64) -> usize
+    requires { ⌜ v ≤ 10 ⌝ }
+    ensures { λ r. ⌜ Column v r ⌝ }
+{
+    if v == 0 {
+        return 9;
+    }
+    (v - 1) as usize
+}
+
+// Whether a flag of this value may stand, given its mark, which a missing one does not need.
+fn stands(v: u64, mark: u8) -> bool
+    ensures { λ r. ⌜ r ≡ (eqb mark 1 || eqb v 0) ⌝ }
+{
+    if mark == 1 {
+        return true;
+    }
+    v == 0
+}
+
+// Whether the fourteen flags that a number holds may stand under a table.
+fn fit(flags: u64, marks: &FlagTable) -> bool
+    ensures { λ r. ⌜ r ≡ flagsFit (now (marks .entry)) 1 (nibblesIn 14 flags) ⌝ }
+{
+    let mut left = flags;
+    let mut n: usize = 14;
+    while 0 < n {
+        let v = left % 16;
+        if 10 < v {
+            return false;
+        }
+        let row = n - 1;
+        let k = column(v);
+        if !stands(v, marks[row][k]) {
+            return false;
+        }
+        left /= 16;
+        n = row;
+    }
+    true
+}
+
 // Whether len nibbles from a place on are a body of attachment 1.
 pub fn valid(s: &[u8], c: Cursor, len: usize, marks: FlagTable) -> bool
-    requires { ⌜ (c .at + len ≤ length (view (c .packed) (now s))) × (c .at + len ≤ 2 ^ 32) ⌝ }
+    requires { ⌜ Nibbles (view (c .packed) (now s)) × (c .at + len ≤ length (view (c .packed) (now s))) × (c .at + len ≤ 2 ^ 32) ⌝ }
     ensures { λ r. ⌜ (r ≡ flagsValid marks (part (now (s .entry)) c len)) × MissingPermitted marks ⌝ }
 {
-    let at = c.at;
-    let packed = c.packed;
     if len != 16 {
         return false;
     }
-    let sum = sum_marks(s, c);
-    if sum < 65536 {
-        let high = numbers::wide(nibble::nibble_at(s, at + 14, packed)) as usize;
-        let low = numbers::wide(nibble::nibble_at(s, at + 15, packed)) as usize;
-        return high * 16 + low == code_in(sum);
+    let w = sixteen(s, c);
+    if fit(w / 256, &marks) {
+        return w % 256 == code_of(w / 256);
     }
     false
 }

@@ -1,34 +1,35 @@
--- `flags::quality` meets its contract.
--- Assumes nothing.
-use native.Mathlib.Omega.{arith}
-use mathlib.Core.Path.{_∙_}
-use denote.Ref.{now}
 use borrow.Author.Needs.{needs}
+use native.Mathlib.Omega.{arith}
+use mathlib.Core.Path.{sym, ap, _∙_}
+use denote.Ref.{now}
+use Rattle.format.specs.Flags.{qualityCode}
 use Rattle.nibble.specs.View.{part}
-use Rattle.nibble.proofs.View.{part-length}
-use Rattle.flags.proofs.Body.{code-is, code-small}
+use Rattle.nibble.proofs.View.{part-take}
+use Rattle.flags.proofs.Body.{body-flags}
 use Rattle.flags.proofs.quality.Statement.{statement}
 use Rattle.flags.proofs.quality.Tie as tie
+use Rattle.flags.proofs.quality.Reads as reads
+use Rattle.flags.proofs.quality.Lts as lts
+use Rattle.flags.proofs.code_of.Reads as code-of-reads
+use Rattle.flags.proofs.sixteen.Reads as sixteen-reads
 
-sum-marks-requires : tie.Need-sum-marks-requires
-sum-marks-requires c κs = search needs
+-- src/lib.rt:72:9
+sixteen-requires : tie.Need-sixteen-requires
+sixteen-requires c κs = search needs
 
-code-in-requires : tie.Need-code-in-requires
-code-in-requires c κs = search needs
+-- src/lib.rt:73:5
+code-of-requires : tie.Need-code-of-requires
+code-of-requires c κs = search needs
 
+-- src/lib.rt:73:5
 cast-result : tie.Need-cast-result
-cast-result c =
-    let a = c .before .before .before .args in
-    omega (
-      arith,
-      c .code-in .ensures,
-      code-small (part (now (a .s)) (a .c) 14) (part-length (now (a .s)) (a .c) 14 (c .before .before .before .pre .0)) _ (c .before .sum-marks .ensures),
-    )
+cast-result c = search needs
 
+-- src/lib.rt:68:1
 returns : tie.Need-returns
-returns c =
-    let a = c .before .before .before .args in
-    c .code-in .ensures ∙ code-is (part (now (a .s)) (a .c) 14) (part-length (now (a .s)) (a .c) 14 (c .before .before .before .pre .0)) _ (c .before .sum-marks .ensures)
+returns c = 
+    let row = part (now (c .before .before .before .args .s)) (c .before .before .before .args .c) 16 in
+    c .code-of .ensures .0 ∙ ap qualityCode (sym (body-flags row (c .before .sixteen .result) (c .before .sixteen .ensures)) ∙ part-take (now (c .before .before .before .args .s)) (c .before .before .before .args .c) 14 16 (omega arith))
 
 pub quality-spec : {M : Type 1} → statement M
-quality-spec = tie.close (tie.spec sum-marks-requires code-in-requires cast-result returns)
+quality-spec = tie.close (tie.spec sixteen-requires code-of-requires cast-result returns)
