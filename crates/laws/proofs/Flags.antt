@@ -17,7 +17,7 @@ use Rattle.laws.proofs.Sequences.{and-true, cond-case}
 -- ---- what a flag may hold
 
 -- flag j may hold v: missing, or in range
-abbrev pub flagFits : (marks : FlagTable) → ℕ → ℕ → Bool
+abbrev pub flagFits : FlagTable → ℕ → ℕ → Bool
 flagFits marks j v = cond (eqb v 0) true (flagInRange marks j v)
 
 pub missing-fits : (marks : FlagTable) (j : ℕ) → flagFits marks j 0 ≡ true

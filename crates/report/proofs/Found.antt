@@ -10,6 +10,7 @@ use lib.ListN.{length, take, drop}
 use lib.Seq.{take-at}
 use Rattle.format.specs.Bits.{Bytes}
 use Rattle.format.specs.Order.{Check, first, between}
+use Rattle.format.specs.Flags.{FlagTable}
 use Rattle.format.specs.Nibbles.{Attachment, attachment, nibbles, attachmentNibbles, tailNibbles}
 use Rattle.format.specs.Report.{observationOf}
 use Rattle.format.specs.Calls.{Call, stands, contentOf, outputsOf, idCheck, standsCheck, callChecks}
@@ -29,24 +30,24 @@ use Rattle.report.specs.Found.{Found}
 
 -- ---- what inspecting brings
 
-module _ (b : List ℕ) (i : ℕ) (x : Inspected) (is : x ≡ inspected b i) where
-  pub inspect-refused : (n p : ℕ) (c : Call) → x ≡ Inspected.Refused n p → after (refusal n p) b (outputsOf c) ≡ effect b c
-  inspect-refused n p c e = effect-refused b (record { number = n; place = p }) c (judge-refused b i n p x is e)
+module _ (marks : FlagTable) (b : List ℕ) (i : ℕ) (x : Inspected) (is : x ≡ inspected marks b i) where
+  pub inspect-refused : (n p : ℕ) (c : Call) → x ≡ Inspected.Refused n p → after (refusal n p) b (outputsOf c) ≡ effect marks b c
+  inspect-refused n p c e = effect-refused marks b (record { number = n; place = p }) c (judge-refused marks b i n p x is e)
 
-  pub inspect-found : (r : Report) → x ≡ Inspected.Fine r → Found b i r
-  inspect-found r e = let f = judge-fine b i r x is e in record { judged = f .0; is = f .1 }
+  pub inspect-found : (r : Report) → x ≡ Inspected.Fine r → Found marks b i r
+  inspect-found r e = let f = judge-fine marks b i r x is e in record { judged = f .0; is = f .1 }
 
 -- ---- the place of an attachment
 
-module _ {b : List ℕ} {i : ℕ} {r : Report} (bs : Bytes b) (f : Found b i r) where
+module _ (marks : FlagTable) {b : List ℕ} {i : ℕ} {r : Report} (bs : Bytes b) (f : Found marks b i r) where
   abbrev list : List Attachment
   list = observationOf b .attachments
 
   abbrev content : List ℕ
   content = contentOf i list
 
-  pub good : Good (observationOf b)
-  good = judged b (observationOf b) bs (f .judged) .good
+  pub good : Good marks (observationOf b)
+  good = judged marks b (observationOf b) bs (f .judged) .good
 
   pub al-is : r .al ≡ length (contentOf i (observationOf b .attachments))
   al-is = ap (λ (q : Report). q .al) (f .is)
@@ -55,7 +56,7 @@ module _ {b : List ℕ} {i : ℕ} {r : Report} (bs : Bytes b) (f : Found b i r) 
   end-is = ap (λ (q : Report). q .end) (f .is)
 
   pub count-is : r .count ≡ length (observationOf b .attachments)
-  count-is = ap (λ (q : Report). q .count) (f .is) ∙ counted b (observationOf b) bs (f .judged)
+  count-is = ap (λ (q : Report). q .count) (f .is) ∙ counted marks b (observationOf b) bs (f .judged)
 
   pub absent : r .place ≡ 0 → stands i (observationOf b .attachments) ≡ false
   absent e = absent-at i 75 list (omega arith) (sym (ap (λ (q : Report). q .place) (f .is)) ∙ e)
@@ -80,40 +81,40 @@ module _ {b : List ℕ} {i : ℕ} {r : Report} (bs : Bytes b) (f : Found b i r) 
 
     -- its header and its nibbles lie within the report
     pub inside : r .place + (3 + r .al) ≤ r .end
-    inside = omega (arith, al-is, end-is, body-ends b i bs (f .judged) p (r .place) (ap (λ (q : Report). q .place) (f .is)))
+    inside = omega (arith, al-is, end-is, body-ends marks b i bs (f .judged) p (r .place) (ap (λ (q : Report). q .place) (f .is)))
 
     -- its nibbles
     pub content-is : take (r .al) (drop (r .place + 3) (nibbles b)) ≡ contentOf i (observationOf b .attachments)
     content-is =
-        ap (take (r .al)) (body-is b i bs (f .judged) p (r .place) (ap (λ (q : Report). q .place) (f .is)))
-        ∙ take-at content (tailNibbles (p .after) ++ beyond b i bs (f .judged) p) (r .al) (sym al-is)
+        ap (take (r .al)) (body-is marks b i bs (f .judged) p (r .place) (ap (λ (q : Report). q .place) (f .is)))
+        ∙ take-at content (tailNibbles (p .after) ++ beyond marks b i bs (f .judged) p) (r .al) (sym al-is)
 
-module _ {b : List ℕ} {i : ℕ} {r : Report} (bs : Bytes b) (f : Found b i r) (h : r .place ≡ 0 → ⊥) where
+module _ (marks : FlagTable) {b : List ℕ} {i : ℕ} {r : Report} (bs : Bytes b) (f : Found marks b i r) (h : r .place ≡ 0 → ⊥) where
   pub spot : Placed i (contentOf i (observationOf b .attachments)) (observationOf b .attachments)
-  spot = placed i (observationOf b .attachments) (present bs f h)
+  spot = placed i (observationOf b .attachments) (present marks bs f h)
 
   -- it lies within the buffer
   pub reach : (r .place + 3 + r .al ≤ 2 * length b) × (r .place + 3 + r .al ≤ 3706)
   reach =
-      let w = within b (observationOf b) bs (f .judged) in
-      let k = inside bs f spot in
-      let e = end-is bs f in
+      let w = within marks b (observationOf b) bs (f .judged) in
+      let k = inside marks bs f spot in
+      let e = end-is marks bs f in
       (omega arith, omega arith)
 
 -- ---- refusals
 
-module _ {b : List ℕ} {i : ℕ} {r : Report} (bs : Bytes b) (f : Found b i r) (c : Call) where
+module _ (marks : FlagTable) {b : List ℕ} {i : ℕ} {r : Report} (bs : Bytes b) (f : Found marks b i r) (c : Call) where
   -- 8, which comes first
-  pub id-refused : (behind : List Check) → callChecks (observationOf b) c ≡ idCheck i ∷ behind
-      → (t : Bool) → t ≡ between 1 15 i → not t ≡ true → after (refusal 8 0) b (outputsOf c) ≡ effect b c
-  id-refused behind is = number-refuses b (observationOf b) c bs (f .judged) 1 15 i behind is
+  pub id-refused : (behind : List Check) → callChecks marks (observationOf b) c ≡ idCheck i ∷ behind
+      → (t : Bool) → t ≡ between 1 15 i → not t ≡ true → after (refusal 8 0) b (outputsOf c) ≡ effect marks b c
+  id-refused behind is = number-refuses marks b (observationOf b) c bs (f .judged) 1 15 i behind is
 
   -- 11
-  pub missing : (before : List Check) → callChecks (observationOf b) c ≡ before ++ (standsCheck (observationOf b) i ∷ []) → first before ≡ none
-      → r .place ≡ 0 → after (refusal 11 0) b (outputsOf c) ≡ effect b c
-  missing before is passed e = call-refuses b (observationOf b) c bs (f .judged) before (standsCheck (observationOf b) i) [] is passed (rw (absent bs f e))
+  pub missing : (before : List Check) → callChecks marks (observationOf b) c ≡ before ++ (standsCheck (observationOf b) i ∷ []) → first before ≡ none
+      → r .place ≡ 0 → after (refusal 11 0) b (outputsOf c) ≡ effect marks b c
+  missing before is passed e = call-refuses marks b (observationOf b) c bs (f .judged) before (standsCheck (observationOf b) i) [] is passed (rw (absent marks bs f e))
 
 -- ---- the check passed
 
-pub stands-passes : {b : List ℕ} {i : ℕ} {r : Report} → Bytes b → Found b i r → (r .place ≡ 0 → ⊥) → first (standsCheck (observationOf b) i ∷ []) ≡ none
-stands-passes {b} {i} bs f h = no-check (standsCheck (observationOf b) i) [] (ap not (present bs f h)) first-nil
+pub stands-passes : (marks : FlagTable) {b : List ℕ} {i : ℕ} {r : Report} → Bytes b → Found marks b i r → (r .place ≡ 0 → ⊥) → first (standsCheck (observationOf b) i ∷ []) ≡ none
+stands-passes marks {b} {i} bs f h = no-check (standsCheck (observationOf b) i) [] (ap not (present marks bs f h)) first-nil

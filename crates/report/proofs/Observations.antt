@@ -8,6 +8,7 @@ use mathlib.Core.Bool.{true, false}
 use mathlib.Core.List.{List, [], _∷_, _++_}
 use lib.ListN.{length, getD, take, drop, length-append}
 use lib.Seq.{take-suc, getD-take}
+use Rattle.format.specs.Flags.{FlagTable}
 use Rattle.format.specs.Observation.{Observation, packing, size}
 use Rattle.format.specs.Report.{Verdict, refused, accepted, judge}
 use Rattle.format.specs.Bits.{Bytes}
@@ -32,23 +33,23 @@ judged-accepted (accepted s) n e = (s, refl, cc)
 
 -- ---- sizes
 
-module _ (b : List ℕ) (bs : Bytes b) where
-  pub sizes : (r : Judged) → r ≡ judgedOf (judge b) → Sizes r
+module _ (marks : FlagTable) (b : List ℕ) (bs : Bytes b) where
+  pub sizes : (r : Judged) → r ≡ judgedOf (judge marks b) → Sizes marks r
   sizes r is = record {
     within = λ n e.
-        let a = judged-accepted (judge b) n (sym e ∙ is) in
-        let h = size-range (a .0) (judged b (a .0) bs (a .1) .good) in
+        let a = judged-accepted (judge marks b) n (sym e ∙ is) in
+        let h = size-range marks (a .0) (judged marks b (a .0) bs (a .1) .good) in
         let k = a .2 in
         (omega arith, omega arith);
-    least = let l = least-reached in (l .0, l .1, ap judgedOf (l .3) ∙ ap Judged.Accepted (l .4));
-    most = let l = most-reached in (l .0, l .1, ap judgedOf (l .3) ∙ ap Judged.Accepted (l .4));
+    least = let l = least-reached marks in (l .0, l .1, ap judgedOf (l .3) ∙ ap Judged.Accepted (l .4));
+    most = let l = most-reached marks in (l .0, l .1, ap judgedOf (l .3) ∙ ap Judged.Accepted (l .4));
   }
 
   -- an accepted report lies within its buffer
-  pub reaches : (n : ℕ) → Takes b n → n ≤ length b
+  pub reaches : (n : ℕ) → Takes marks b n → n ≤ length b
   reaches n e =
-      let a = judged-accepted (judge b) n e in
-      omega (arith, a .2, length-append (packing (a .0)) (drop (size (a .0)) b), ap length (judged b (a .0) bs (a .1) .starts))
+      let a = judged-accepted (judge marks b) n e in
+      omega (arith, a .2, length-append (packing (a .0)) (drop (size (a .0)) b), ap length (judged marks b (a .0) bs (a .1) .starts))
 
 -- ---- the first bytes
 
@@ -73,42 +74,42 @@ module _ (a b : List ℕ) where
 
 -- ---- the outcomes
 
-module _ (a b : List ℕ) where
-  pub first-refused : (n p : ℕ) → Judged.Refused n p ≡ judgedOf (judge a) → comparison (Compared.Refused n p) a b
-  first-refused n p e = rw (judged-refused (judge a) n p e)
+module _ (marks : FlagTable) (a b : List ℕ) where
+  pub first-refused : (n p : ℕ) → Judged.Refused n p ≡ judgedOf (judge marks a) → comparison marks (Compared.Refused n p) a b
+  first-refused n p e = rw (judged-refused (judge marks a) n p e)
 
-  pub second-refused : (m n p : ℕ) → Takes a m → Judged.Refused n p ≡ judgedOf (judge b) → comparison (Compared.Refused n p) a b
-  second-refused m n p ea eb = rw (judged-accepted (judge a) m ea .1, judged-refused (judge b) n p eb)
+  pub second-refused : (m n p : ℕ) → Takes marks a m → Judged.Refused n p ≡ judgedOf (judge marks b) → comparison marks (Compared.Refused n p) a b
+  second-refused m n p ea eb = rw (judged-accepted (judge marks a) m ea .1, judged-refused (judge marks b) n p eb)
 
-  module _ (ba : Bytes a) (bb : Bytes b) (m n : ℕ) (ea : Takes a m) (eb : Takes b n) where
+  module _ (ba : Bytes a) (bb : Bytes b) (m n : ℕ) (ea : Takes marks a m) (eb : Takes marks b n) where
     -- the bytes are the same exactly when the observations are
-    accepted-same : m ≡ n → take m a ≡ take m b → (s t : Observation) → judge a ≡ accepted s → judge b ≡ accepted t → m ≡ size s → n ≡ size t
+    accepted-same : m ≡ n → take m a ≡ take m b → (s t : Observation) → judge marks a ≡ accepted s → judge marks b ≡ accepted t → m ≡ size s → n ≡ size t
         → bothCompared Compared.Same a b s t
     accepted-same r e s t js jt x y =
         let f : take (size s) a ≡ take (size t) b = ap (λ (k : ℕ). take k a) (sym x) ∙ e ∙ ap (λ (k : ℕ). take k b) (r ∙ y) in
-        (f, reports-equal a b s t ba bb js jt .0 f)
+        (f, reports-equal marks a b s t ba bb js jt .0 f)
 
-    accepted-differ : (s t : Observation) → judge a ≡ accepted s → judge b ≡ accepted t → (s ≡ t → ⊥) → bothCompared Compared.Different a b s t
-    accepted-differ s t js jt h = (λ e. h (reports-equal a b s t ba bb js jt .0 e), h)
+    accepted-differ : (s t : Observation) → judge marks a ≡ accepted s → judge marks b ≡ accepted t → (s ≡ t → ⊥) → bothCompared Compared.Different a b s t
+    accepted-differ s t js jt h = (λ e. h (reports-equal marks a b s t ba bb js jt .0 e), h)
 
-    pub sizes-differ : (m ≡ n → ⊥) → comparison Compared.Different a b
+    pub sizes-differ : (m ≡ n → ⊥) → comparison marks Compared.Different a b
     sizes-differ h =
-        let x = judged-accepted (judge a) m ea in
-        let y = judged-accepted (judge b) n eb in
+        let x = judged-accepted (judge marks a) m ea in
+        let y = judged-accepted (judge marks b) n eb in
         rw (x .1, y .1) (accepted-differ (x .0) (y .0) (x .1) (y .1) (λ e. h (x .2 ∙ ap size e ∙ sym (y .2))))
 
     module _ (r : m ≡ n) where
-      pub bytes-same : take m a ≡ take m b → comparison Compared.Same a b
+      pub bytes-same : take m a ≡ take m b → comparison marks Compared.Same a b
       bytes-same e =
-          let x = judged-accepted (judge a) m ea in
-          let y = judged-accepted (judge b) n eb in
+          let x = judged-accepted (judge marks a) m ea in
+          let y = judged-accepted (judge marks b) n eb in
           rw (x .1, y .1) (accepted-same r e (x .0) (y .0) (x .1) (y .1) (x .2) (y .2))
 
-      pub bytes-differ : (take m a ≡ take m b → ⊥) → comparison Compared.Different a b
+      pub bytes-differ : (take m a ≡ take m b → ⊥) → comparison marks Compared.Different a b
       bytes-differ h =
-          let x = judged-accepted (judge a) m ea in
-          let y = judged-accepted (judge b) n eb in
-          let equal = reports-equal a b (x .0) (y .0) ba bb (x .1) (y .1) in
+          let x = judged-accepted (judge marks a) m ea in
+          let y = judged-accepted (judge marks b) n eb in
+          let equal = reports-equal marks a b (x .0) (y .0) ba bb (x .1) (y .1) in
           rw (x .1, y .1)
           (accepted-differ (x .0) (y .0) (x .1) (y .1)
           (λ e. h (ap (λ (k : ℕ). take k a) (x .2) ∙ equal .1 e ∙ ap (λ (k : ℕ). take k b) (sym (r ∙ y .2)))))

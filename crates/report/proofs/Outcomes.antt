@@ -13,6 +13,7 @@ use borrow.Author.Tests.{lt-ltb, le-ltb, ltb-false, eq-eqb, ne-eqb}
 use Rattle.format.specs.Bits.{Bytes}
 use Rattle.format.specs.Order.{Refusal, check, first}
 use Rattle.format.specs.Field.{Field, table, required}
+use Rattle.format.specs.Flags.{FlagTable}
 use Rattle.format.specs.Nibbles.{nibbles, odd, tailNibbles, attachmentsOf}
 use Rattle.format.specs.Observation.{checksum, size}
 use Rattle.format.specs.Report.{codesOf, checksumOf, countOf, tailOf, observationOf, fieldChecks, attachmentChecks, tailLength, reportChecks, refused, accepted, verdict, judge}
@@ -67,26 +68,26 @@ card-sum b w r is e = checked-sum (first (fieldChecks 1 table (codesOf b))) (che
 abbrev pub behindCard : Cursor
 behindCard = record { at = 75; packed = true }
 
-module _ (b : List ℕ) (i n : ℕ) (w : Walked) (count : n ≡ countOf b) (is : w ≡ walked b behindCard n i) where
-  whole : w ≡ walkedBy (first (attachmentChecks (countOf b) 1 [] (tailOf b))) (tailAt 75 i (attachmentsOf (countOf b) (tailOf b)))
+module _ (marks : FlagTable) (b : List ℕ) (i n : ℕ) (w : Walked) (count : n ≡ countOf b) (is : w ≡ walked marks b behindCard n i) where
+  whole : w ≡ walkedBy (first (attachmentChecks marks (countOf b) 1 [] (tailOf b))) (tailAt 75 i (attachmentsOf (countOf b) (tailOf b)))
   unfolding walked
-  whole = is ∙ ap (λ (m : ℕ). walked b behindCard m i) count
+  whole = is ∙ ap (λ (m : ℕ). walked marks b behindCard m i) count
 
-  pub tail-refused : (m p : ℕ) → w ≡ Walked.Refused m p → first (attachmentChecks (countOf b) 1 [] (tailOf b)) ≡ some (refusal m p)
+  pub tail-refused : (m p : ℕ) → w ≡ Walked.Refused m p → first (attachmentChecks marks (countOf b) 1 [] (tailOf b)) ≡ some (refusal m p)
   tail-refused m p e = walked-refused _ _ m p (sym whole ∙ e)
 
   pub tail-ended : (t : Tail) → w ≡ Walked.Ended t
-      → (first (attachmentChecks (countOf b) 1 [] (tailOf b)) ≡ none) × (t ≡ tailAt 75 i (attachmentsOf (countOf b) (tailOf b)))
+      → (first (attachmentChecks marks (countOf b) 1 [] (tailOf b)) ≡ none) × (t ≡ tailAt 75 i (attachmentsOf (countOf b) (tailOf b)))
   tail-ended t e = walked-ended _ _ t (sym whole ∙ e)
 
 -- the attachments end within the buffer, and within the largest report
-pub end-within : (b : List ℕ) → Bytes b → 38 ≤ length b → first (attachmentChecks (countOf b) 1 [] (tailOf b)) ≡ none
+pub end-within : (marks : FlagTable) (b : List ℕ) → Bytes b → 38 ≤ length b → first (attachmentChecks marks (countOf b) 1 [] (tailOf b)) ≡ none
     → (75 + tailLength b ≤ 2 * length b) × (75 + tailLength b ≤ 3706)
-end-within b bs long e =
-    let w = checks-fine (countOf b) 1 [] (tailOf b) (drop-below 16 75 (nibbles b) (nibbles-lt b bs)) e in
+end-within marks b bs long e =
+    let w = checks-fine marks (countOf b) 1 [] (tailOf b) (drop-below 16 75 (nibbles b) (nibbles-lt b bs)) e in
     let tail = tailNibbles (attachmentsOf (countOf b) (tailOf b)) in (
       omega (arith, ap length (w .starts), length-append tail (drop (length tail) (tailOf b)), length-drop 75 (nibbles b), length-nibbles b),
-      omega (arith, fine-size (w .fine)),
+      omega (arith, fine-size marks (w .fine)),
     )
 
 -- what reading the last nibble answers
@@ -126,7 +127,7 @@ module _ (b : List ℕ) where
 
   pub front-short : length b < 38 → Front b 1
   unfolding reportChecks
-  front-short h = record { passes = λ z. absurd (omega arith); refuses = λ _. first-fits _ _ (lt-ltb (length b) 38 h) }
+  front-short h = record { passes = λ z. absurd (omega arith); refuses = λ _ marks. first-fits _ _ (lt-ltb (length b) 38 h) }
 
   module _ (long : 38 ≤ length b) where
     pub front-field : (n k : ℕ) → n < 256 → first (fieldChecks 1 table (codesOf b)) ≡ some (refusal n k) → Front b (n + 256 * k)
@@ -137,7 +138,7 @@ module _ (b : List ℕ) where
         let y : k ≡ (n + 256 * k) / 256 = omega arith in
         record {
           passes = λ z. absurd (omega (arith, p .0));
-          refuses = λ _. first-skip _ _ (le-ltb (length b) 38 long) ∙ first-append-some _ _ (refusal n k) e ∙ (λ i. some (record { number = x i; place = y i }));
+          refuses = λ _ marks. first-skip _ _ (le-ltb (length b) 38 long) ∙ first-append-some _ _ (refusal n k) e ∙ (λ i. some (record { number = x i; place = y i }));
         }
 
     module _ (fields : first (fieldChecks 1 table (codesOf b)) ≡ none) where
@@ -146,11 +147,11 @@ module _ (b : List ℕ) where
       front-sum h =
           record {
             passes = λ z. absurd (omega arith);
-            refuses = λ _. first-skip _ _ (le-ltb (length b) 38 long) ∙ first-append-skip _ _ fields ∙ first-fits _ _ (ap not (ne-eqb (checksumOf b) (checksum (codesOf b)) h));
+            refuses = λ _ marks. first-skip _ _ (le-ltb (length b) 38 long) ∙ first-append-skip _ _ fields ∙ first-fits _ _ (ap not (ne-eqb (checksumOf b) (checksum (codesOf b)) h));
           }
 
       pub front-passes : checksumOf b ≡ checksum (codesOf b) → Front b 0
-      front-passes sum = record { passes = λ _. record { long = long; fields = fields; sum = sum }; refuses = λ h. absurd (h refl) }
+      front-passes sum = record { passes = λ _. record { long = long; fields = fields; sum = sum }; refuses = λ h marks. absurd (h refl) }
 
 -- ---- the outcomes
 
@@ -158,30 +159,30 @@ by-cond : (t : Bool) (q : Report) → inspectedBy (cond t (some (refusal 7 0)) n
 by-cond true q = refl
 by-cond false q = refl
 
-module _ (b : List ℕ) (i : ℕ) where
-  by-first : (o : Option Refusal) → first (reportChecks b) ≡ o → inspectedBy o (reportOf b i (attachmentsOf (countOf b) (tailOf b))) ≡ inspected b i
+module _ (marks : FlagTable) (b : List ℕ) (i : ℕ) where
+  by-first : (o : Option Refusal) → first (reportChecks marks b) ≡ o → inspectedBy o (reportOf b i (attachmentsOf (countOf b) (tailOf b))) ≡ inspected marks b i
   unfolding inspected
   by-first o e = ap (λ (x : Option Refusal). inspectedBy x (reportOf b i (attachmentsOf (countOf b) (tailOf b)))) (sym e)
 
-  pub front-refused : (v : ℕ) → Front b v → (v ≡ 0 → ⊥) → Inspected.Refused (v % 256) (v / 256) ≡ inspected b i
-  front-refused v f h = by-first (some (refusal (v % 256) (v / 256))) (f .refuses h)
+  pub front-refused : (v : ℕ) → Front b v → (v ≡ 0 → ⊥) → Inspected.Refused (v % 256) (v / 256) ≡ inspected marks b i
+  front-refused v f h = by-first (some (refusal (v % 256) (v / 256))) (f .refuses h marks)
 
   module _ (f : FrontPasses b) where
     behind-front : (o : Option Refusal)
-        → first (attachmentChecks (countOf b) 1 [] (tailOf b) ++ (check (odd (75 + tailLength b) && not (eqb (getD (tailOf b) (tailLength b) 0) 0)) 7 0 ∷ [])) ≡ o
-        → first (reportChecks b) ≡ o
+        → first (attachmentChecks marks (countOf b) 1 [] (tailOf b) ++ (check (odd (75 + tailLength b) && not (eqb (getD (tailOf b) (tailLength b) 0) 0)) 7 0 ∷ [])) ≡ o
+        → first (reportChecks marks b) ≡ o
     unfolding reportChecks
     behind-front o e =
         first-skip _ _ (le-ltb (length b) 38 (f .long)) ∙ first-append-skip _ _ (f .fields)
         ∙ first-skip _ _ (ap not (eq-eqb (checksumOf b) (checksum (codesOf b)) (f .sum))) ∙ e
 
-    pub attachment-refused : (n p : ℕ) → first (attachmentChecks (countOf b) 1 [] (tailOf b)) ≡ some (refusal n p) → Inspected.Refused n p ≡ inspected b i
+    pub attachment-refused : (n p : ℕ) → first (attachmentChecks marks (countOf b) 1 [] (tailOf b)) ≡ some (refusal n p) → Inspected.Refused n p ≡ inspected marks b i
     attachment-refused n p e = by-first (some (refusal n p)) (behind-front (some (refusal n p)) (first-append-some _ _ (refusal n p) e))
 
     -- the last nibble decides
-    pub last-decides : first (attachmentChecks (countOf b) 1 [] (tailOf b)) ≡ none
+    pub last-decides : first (attachmentChecks marks (countOf b) 1 [] (tailOf b)) ≡ none
         → (n : ℕ) (u : Tail) → n ≡ countOf b → u ≡ tailAt 75 i (attachmentsOf (countOf b) (tailOf b))
-        → lastOf b n u ≡ inspected b i
+        → lastOf b n u ≡ inspected marks b i
     unfolding first
     last-decides attachments n u en eu =
         let at : getD (nibbles b) (75 + tailLength b) 0 ≡ getD (tailOf b) (tailLength b) 0 = sym (getD-drop 75 (nibbles b) (tailLength b) 0) in
@@ -189,10 +190,10 @@ module _ (b : List ℕ) (i : ℕ) where
         rw (en, eu, at)
         (sym (by-cond test (reportOf b i (attachmentsOf (countOf b) (tailOf b))))
         ∙ by-first (cond test (some (refusal 7 0)) none)
-        (behind-front (cond test (some (refusal 7 0)) none) (first-append-skip (attachmentChecks (countOf b) 1 [] (tailOf b)) (check test 7 0 ∷ []) attachments)))
+        (behind-front (cond test (some (refusal 7 0)) none) (first-append-skip (attachmentChecks marks (countOf b) 1 [] (tailOf b)) (check test 7 0 ∷ []) attachments)))
 
     -- a card alone: AC and the last nibble are 0
-    pub card-alone : Bytes b → getD b 37 0 ≡ 0 → Inspected.Fine (record { count = 0; end = 75; place = 0; al = 0 }) ≡ inspected b i
+    pub card-alone : Bytes b → getD b 37 0 ≡ 0 → Inspected.Fine (record { count = 0; end = 75; place = 0; al = 0 }) ≡ inspected marks b i
     unfolding attachmentChecks attachmentsOf tailNibbles placeOf contentOf first
     card-alone bs e =
         let none-stand : countOf b ≡ 0 = sym (count-at b bs (f .long)) ∙ ap (λ (x : ℕ). x / 16) e in
@@ -212,25 +213,25 @@ by-fine : (o : Option Refusal) (q r : Report) → inspectedBy o q ≡ Inspected.
 by-fine none q r e = (refl, (cc))
 by-fine (some x) q r e = let z : _≡_ {A = ℕ} 0 1 = cc in absurd (omega arith)
 
-pub judge-refused : (b : List ℕ) (i n p : ℕ) (x : Inspected) → x ≡ inspected b i → x ≡ Inspected.Refused n p → judge b ≡ refused (refusal n p)
+pub judge-refused : (marks : FlagTable) (b : List ℕ) (i n p : ℕ) (x : Inspected) → x ≡ inspected marks b i → x ≡ Inspected.Refused n p → judge marks b ≡ refused (refusal n p)
 unfolding inspected judge
-judge-refused b i n p x is e = ap (λ (o : Option Refusal). verdict o (observationOf b)) (by-refused (first (reportChecks b)) (reportOf b i (attachmentsOf (countOf b) (tailOf b))) n p (sym is ∙ e))
+judge-refused marks b i n p x is e = ap (λ (o : Option Refusal). verdict o (observationOf b)) (by-refused (first (reportChecks marks b)) (reportOf b i (attachmentsOf (countOf b) (tailOf b))) n p (sym is ∙ e))
 
-pub judge-fine : (b : List ℕ) (i : ℕ) (r : Report) (x : Inspected) → x ≡ inspected b i → x ≡ Inspected.Fine r
-    → (judge b ≡ accepted (observationOf b)) × (r ≡ reportOf b i (observationOf b .attachments))
+pub judge-fine : (marks : FlagTable) (b : List ℕ) (i : ℕ) (r : Report) (x : Inspected) → x ≡ inspected marks b i → x ≡ Inspected.Fine r
+    → (judge marks b ≡ accepted (observationOf b)) × (r ≡ reportOf b i (observationOf b .attachments))
 unfolding inspected judge observationOf
-judge-fine b i r x is e =
-    let f = by-fine (first (reportChecks b)) (reportOf b i (attachmentsOf (countOf b) (tailOf b))) r (sym is ∙ e) in
+judge-fine marks b i r x is e =
+    let f = by-fine (first (reportChecks marks b)) (reportOf b i (attachmentsOf (countOf b) (tailOf b))) r (sym is ∙ e) in
     (ap (λ (o : Option Refusal). verdict o (observationOf b)) (f .0), f .1)
 
 -- the answer of judging, by outcome
-module _ (b : List ℕ) (i : ℕ) (x : Inspected) (is : x ≡ inspected b i) where
-  pub judged-refused : (n p : ℕ) → x ≡ Inspected.Refused n p → Judged.Refused n p ≡ judgedOf (judge b)
-  judged-refused n p e = ap judgedOf (sym (judge-refused b i n p x is e))
+module _ (marks : FlagTable) (b : List ℕ) (i : ℕ) (x : Inspected) (is : x ≡ inspected marks b i) where
+  pub judged-refused : (n p : ℕ) → x ≡ Inspected.Refused n p → Judged.Refused n p ≡ judgedOf (judge marks b)
+  judged-refused n p e = ap judgedOf (sym (judge-refused marks b i n p x is e))
 
-  pub judged-fine : (r : Report) → x ≡ Inspected.Fine r → Judged.Accepted (r .end / 2 + r .end % 2) ≡ judgedOf (judge b)
+  pub judged-fine : (r : Report) → x ≡ Inspected.Fine r → Judged.Accepted (r .end / 2 + r .end % 2) ≡ judgedOf (judge marks b)
   judged-fine r e =
-      let f = judge-fine b i r x is e in
+      let f = judge-fine marks b i r x is e in
       let end : r .end ≡ 75 + length (tailNibbles (observationOf b .attachments)) = ap (λ (q : Report). q .end) (f .1) in
       let half : r .end / 2 + r .end % 2 ≡ size (observationOf b) = omega (arith, size-is (observationOf b)) in
       ap Judged.Accepted half ∙ ap judgedOf (sym (f .0))

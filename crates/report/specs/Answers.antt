@@ -8,6 +8,7 @@ use lib.ListN.{length, getD, take}
 use lib.Dec.{eqb}
 use Rattle.format.specs.Field.{table}
 use Rattle.format.specs.Order.{Refusal, first}
+use Rattle.format.specs.Flags.{FlagTable}
 use Rattle.format.specs.Nibbles.{Attachment, nibbles, odd, tailNibbles, attachmentsOf}
 use Rattle.format.specs.Observation.{Observation, checksum, size}
 use Rattle.format.specs.Report.{codesOf, checksumOf, countOf, tailOf, fieldChecks, reportChecks, Verdict, refused, accepted, judge}
@@ -29,14 +30,14 @@ judgedOf (refused r) = JRefused (r .number) (r .place)
 judgedOf (accepted s) = Accepted (size s)
 
 -- b begins with an accepted report of n bytes
-abbrev pub Takes : List ℕ → ℕ → Type 0
-Takes b n = Accepted n ≡ judgedOf (judge b)
+abbrev pub Takes : FlagTable → List ℕ → ℕ → Type 0
+Takes marks b n = Accepted n ≡ judgedOf (judge marks b)
 
 -- FORMAT 3.3: an accepted report's size, and both ends are reached
-pub record Sizes (r : Judged) : Type 0 where
+pub record Sizes (marks : FlagTable) (r : Judged) : Type 0 where
   pub within : (n : ℕ) → r ≡ Accepted n → (38 ≤ n) × (n ≤ 1853)
-  pub least : (b : List ℕ) × Bytes b × (judgedOf (judge b) ≡ Accepted 38)
-  pub most : (b : List ℕ) × Bytes b × (judgedOf (judge b) ≡ Accepted 1853)
+  pub least : (b : List ℕ) × Bytes b × (judgedOf (judge marks b) ≡ Accepted 38)
+  pub most : (b : List ℕ) × Bytes b × (judgedOf (judge marks b) ≡ Accepted 1853)
 
 -- two accepted reports of observations s and t: equal byte for byte and by their observations, or neither
 abbrev pub bothCompared : Compared → List ℕ → List ℕ → Observation → Observation → Type 0
@@ -50,8 +51,12 @@ comparedBy c a b (accepted s) (refused r) = c ≡ CRefused (r .number) (r .place
 comparedBy c a b (accepted s) (accepted t) = bothCompared c a b s t
 
 -- FORMAT 7.1: the refusal of the first report that is refused, or whether they are the same
-abbrev pub comparison : Compared → List ℕ → List ℕ → Type 0
-comparison c a b = comparedBy c a b (judge a) (judge b)
+abbrev pub comparison : FlagTable → Compared → List ℕ → List ℕ → Type 0
+comparison marks c a b = comparedBy c a b (judge marks a) (judge marks b)
+
+-- of reports that take m and n bytes
+abbrev pub Compares : Compared → List ℕ → ℕ → List ℕ → ℕ → Type 0
+Compares c a m b n = (marks : FlagTable) → Takes marks a m → Takes marks b n → comparison marks c a b
 
 -- whether the first n bytes of both are the same
 pub record FrontCompared (r : Bool) (a b : List ℕ) (n : ℕ) : Type 0 where
@@ -73,8 +78,8 @@ inspectedBy (some r) report = Refused (r .number) (r .place)
 inspectedBy none report = Fine report
 
 -- the first refusal that fits, or what the report shows
-unfoldable pub inspected : List ℕ → ℕ → Inspected
-inspected b i = inspectedBy (first (reportChecks b)) (reportOf b i (attachmentsOf (countOf b) (tailOf b)))
+unfoldable pub inspected : FlagTable → List ℕ → ℕ → Inspected
+inspected marks b i = inspectedBy (first (reportChecks marks b)) (reportOf b i (attachmentsOf (countOf b) (tailOf b)))
 
 -- what the last nibble decides, behind a tail
 abbrev pub lastOf : List ℕ → ℕ → Tail → Inspected
@@ -88,7 +93,7 @@ pub record FrontPasses (b : List ℕ) : Type 0 where
   pub fields : first (fieldChecks 1 table (codesOf b)) ≡ none
   pub sum : checksumOf b ≡ checksum (codesOf b)
 
--- 0 where they have, else the report's first refusal: its number and 256 times its place
+-- 0 where they have, else the report's first refusal, whatever flags are permitted: its number and 256 times its place
 pub record Front (b : List ℕ) (r : ℕ) : Type 0 where
   pub passes : r ≡ 0 → FrontPasses b
-  pub refuses : (r ≡ 0 → ⊥) → first (reportChecks b) ≡ some (record { number = r % 256; place = r / 256 })
+  pub refuses : (r ≡ 0 → ⊥) → (marks : FlagTable) → first (reportChecks marks b) ≡ some (record { number = r % 256; place = r / 256 })

@@ -1,11 +1,12 @@
-// A report judged: its length, fields, checksum, attachments and padding nibble, in one walk.
+// A report judged under a table of permitted flags: its length, fields, checksum, attachments and padding nibble, in one walk.
 ghost use mathlib.Core.Path.{_≡_};
 ghost use mathlib.Core.Bool.{true};
 ghost use Prim.Native.Nat.{_*_, _≤_, _^_};
 ghost use lib.ListN.{length};
 ghost use Rattle.format.specs.Report.{judge};
-ghost use Rattle.report.specs.Answers.{judgedOf, Sizes, Front, FrontPasses, inspected, lastOf, Takes, comparison, FrontCompared};
+ghost use Rattle.report.specs.Answers.{judgedOf, Sizes, Front, FrontPasses, inspected, lastOf, Takes, comparison, Compares, FrontCompared};
 use checks::CardCheck;
+use format::FlagTable;
 use nibble::Cursor;
 use nibble::Step;
 use tail::Tail;
@@ -81,9 +82,9 @@ fn last(s: &[u8], count: usize, t: Tail) -> Inspected
 }
 
 // The attachments and the last nibble.
-fn inspect_tail(s: &[u8], want: usize) -> Inspected
+fn inspect_tail(s: &[u8], want: usize, marks: &FlagTable) -> Inspected
     requires { ⌜ FrontPasses (now s) ⌝ }
-    ensures { λ r. ⌜ r ≡ inspected (now (s .entry)) want ⌝ }
+    ensures { λ r. ⌜ r ≡ inspected (now (marks .entry)) (now (s .entry)) want ⌝ }
 {
     let count = card::count(&*s);
     let w = tail::walk(
@@ -94,6 +95,7 @@ fn inspect_tail(s: &[u8], want: usize) -> Inspected
         },
         count,
         want,
+        marks,
     );
     match w {
         Walked::Refused(n, p) => Inspected::Refused(n, p),
@@ -102,8 +104,8 @@ fn inspect_tail(s: &[u8], want: usize) -> Inspected
 }
 
 // Judges the report, and says where id `want` stands in it. A card alone is not walked.
-pub fn inspect(s: &[u8], want: usize) -> Inspected
-    ensures { λ r. ⌜ r ≡ inspected (now (s .entry)) want ⌝ }
+pub fn inspect(s: &[u8], want: usize, marks: FlagTable) -> Inspected
+    ensures { λ r. ⌜ r ≡ inspected marks (now (s .entry)) want ⌝ }
 {
     let v = front(&*s);
     if v != 0 {
@@ -117,13 +119,13 @@ pub fn inspect(s: &[u8], want: usize) -> Inspected
             al: 0,
         });
     }
-    inspect_tail(&*s, want)
+    inspect_tail(&*s, want, &marks)
 }
 
 // Judges the report that a buffer begins with. Not over `inspect`: as `front` has two callers it is not inlined into
 // `inspect`, which is then small enough to be inlined into its callers, and what both answer stays in registers.
-pub fn judge(s: &[u8]) -> Judged
-    ensures { λ r. ⌜ (r ≡ judgedOf (judge (now (s .entry)))) × Sizes r ⌝ }
+pub fn judge(s: &[u8], marks: FlagTable) -> Judged
+    ensures { λ r. ⌜ (r ≡ judgedOf (judge marks (now (s .entry)))) × Sizes marks r ⌝ }
 {
     let v = front(&*s);
     if v != 0 {
@@ -132,7 +134,7 @@ pub fn judge(s: &[u8]) -> Judged
     if s[37] == 0 {
         return Judged::Accepted(38);
     }
-    let i = inspect_tail(&*s, 0);
+    let i = inspect_tail(&*s, 0, &marks);
     match i {
         Inspected::Refused(n, p) => Judged::Refused(n, p),
         Inspected::Fine(r) => Judged::Accepted(r.end / 2 + r.end % 2),
@@ -165,8 +167,8 @@ fn same_front(a: &[u8], b: &[u8], n: usize) -> bool
 
 // Compares two accepted reports of m and n bytes.
 fn compare(a: &[u8], m: usize, b: &[u8], n: usize) -> Compared
-    requires { ⌜ Takes (now a) m × Takes (now b) n ⌝ }
-    ensures { λ r. ⌜ comparison r (now (a .entry)) (now (b .entry)) ⌝ }
+    requires { ⌜ (m ≤ length (now a)) × (n ≤ length (now b)) ⌝ }
+    ensures { λ r. ⌜ Compares r (now (a .entry)) m (now (b .entry)) n ⌝ }
 {
     if m != n {
         return Compared::Different;
@@ -178,11 +180,11 @@ fn compare(a: &[u8], m: usize, b: &[u8], n: usize) -> Compared
 }
 
 // Compares the report that b begins with to an accepted one of m bytes.
-fn compare_second(a: &[u8], m: usize, b: &[u8]) -> Compared
-    requires { ⌜ Takes (now a) m ⌝ }
-    ensures { λ r. ⌜ comparison r (now (a .entry)) (now (b .entry)) ⌝ }
+fn compare_second(a: &[u8], m: usize, b: &[u8], marks: &FlagTable) -> Compared
+    requires { ⌜ Takes (now marks) (now a) m ⌝ }
+    ensures { λ r. ⌜ comparison (now (marks .entry)) r (now (a .entry)) (now (b .entry)) ⌝ }
 {
-    let j = judge(b);
+    let j = judge(b, *marks);
     match j {
         Judged::Refused(n, p) => Compared::Refused(n, p),
         Judged::Accepted(n) => compare(a, m, b, n),
@@ -190,12 +192,12 @@ fn compare_second(a: &[u8], m: usize, b: &[u8]) -> Compared
 }
 
 // Whether the reports that two buffers begin with are equal byte for byte, which they are exactly when their observations are.
-pub fn same(a: &[u8], b: &[u8]) -> Compared
-    ensures { λ r. ⌜ comparison r (now (a .entry)) (now (b .entry)) ⌝ }
+pub fn same(a: &[u8], b: &[u8], marks: &FlagTable) -> Compared
+    ensures { λ r. ⌜ comparison (now (marks .entry)) r (now (a .entry)) (now (b .entry)) ⌝ }
 {
-    let j = judge(a);
+    let j = judge(a, *marks);
     match j {
         Judged::Refused(n, p) => Compared::Refused(n, p),
-        Judged::Accepted(m) => compare_second(a, m, b),
+        Judged::Accepted(m) => compare_second(a, m, b, marks),
     }
 }

@@ -10,6 +10,7 @@ use lib.ListN.{length}
 use lib.Dec.{ltb, eqb}
 use borrow.Author.Tests.{ltb-false, eq-eqb, ne-eqb, lt-ltb, le-ltb}
 use Rattle.format.specs.Order.{Refusal, first}
+use Rattle.format.specs.Flags.{FlagTable}
 use Rattle.format.specs.Nibbles.{lengthAt, idAt, behind, Nibbles}
 use Rattle.format.specs.Report.{bodyValid, attachmentChecks}
 use Rattle.format.specs.Whole.{bitAt}
@@ -20,31 +21,31 @@ use Rattle.nibble.proofs.View.{IsHead, from-length, from-moved, from-nibbles}
 use Rattle.tail.specs.Look.{judgedAt, lookedAt}
 use Rattle.tail.specs.declared.Looked.{Looked}
 use Rattle.tail.specs.declared.Looked.the-variants.{Fault, Fine}
-use Rattle.tail.proofs.Mask.{Marks}
+use Rattle.tail.proofs.Mask.{Seen}
 
 -- ---- what each test of the code answers
 
-module _ (b : List ℕ) (c : Cursor) (al id mask : ℕ) where
-  pub empty-data : al ≡ 0 → Fault 5 ≡ judgedAt b c al id mask
+module _ (marks : FlagTable) (b : List ℕ) (c : Cursor) (al id mask : ℕ) where
+  pub empty-data : al ≡ 0 → Fault 5 ≡ judgedAt marks b c al id mask
   unfolding judgedAt
   empty-data e = rw (eq-eqb al 0 e)
 
   module _ (n : al ≡ 0 → ⊥) where
-    pub no-id : id ≡ 0 → Fault 5 ≡ judgedAt b c al id mask
+    pub no-id : id ≡ 0 → Fault 5 ≡ judgedAt marks b c al id mask
     unfolding judgedAt
     no-id e = rw (ne-eqb al 0 n, eq-eqb id 0 e)
 
     module _ (m : id ≡ 0 → ⊥) where
-      pub seen-id : bitAt mask id ≡ true → Fault 5 ≡ judgedAt b c al id mask
+      pub seen-id : bitAt mask id ≡ true → Fault 5 ≡ judgedAt marks b c al id mask
       unfolding judgedAt
       seen-id e = rw (ne-eqb al 0 n, ne-eqb id 0 m, e)
 
       module _ (e : bitAt mask id ≡ false) where
-        pub long-data : length (from b c) < al → Fault 1 ≡ judgedAt b c al id mask
+        pub long-data : length (from b c) < al → Fault 1 ≡ judgedAt marks b c al id mask
         unfolding judgedAt
         long-data h = rw (ne-eqb al 0 n, ne-eqb id 0 m, e, lt-ltb (length (from b c)) al h)
 
-        pub judged-body : (t : Bool) → al ≤ length (from b c) → t ≡ bodyValid id (part b c al) → cond t (Fine al id) (Fault 6) ≡ judgedAt b c al id mask
+        pub judged-body : (t : Bool) → al ≤ length (from b c) → t ≡ bodyValid marks id (part b c al) → cond t (Fine al id) (Fault 6) ≡ judgedAt marks b c al id mask
         unfolding judgedAt
         judged-body t h q = rw (ne-eqb al 0 n, ne-eqb id 0 m, e, le-ltb (length (from b c)) al h, ← q) (turned t)
           where
@@ -53,15 +54,15 @@ module _ (b : List ℕ) (c : Cursor) (al id mask : ℕ) where
             turned false = refl
 
 -- a header that does not fit, and one that does
-pub look-short : (b : List ℕ) (c : Cursor) (mask : ℕ) → length (view (c .packed) b) < c .at + 3 → Fault 1 ≡ lookedAt b c mask
+pub look-short : (marks : FlagTable) (b : List ℕ) (c : Cursor) (mask : ℕ) → length (view (c .packed) b) < c .at + 3 → Fault 1 ≡ lookedAt marks b c mask
 unfolding lookedAt
-look-short b c mask h =
+look-short marks b c mask h =
     let g : length (from b c) < 3 = omega (arith, from-length b c) in
     rw (lt-ltb (length (from b c)) 3 g)
 
-pub look-judged : (b : List ℕ) (c body : Cursor) (al id mask : ℕ) → IsHead b c al id body → judgedAt b body al id mask ≡ lookedAt b c mask
+pub look-judged : (marks : FlagTable) (b : List ℕ) (c body : Cursor) (al id mask : ℕ) → IsHead b c al id body → judgedAt marks b body al id mask ≡ lookedAt marks b c mask
 unfolding lookedAt
-look-judged b c body al id mask h =
+look-judged marks b c body al id mask h =
     let i = h .inside in
     let g : 3 ≤ length (from b c) = omega (arith, from-length b c) in
     rw (le-ltb (length (from b c)) 3 g, h .behind, h .read, h .told)
@@ -79,11 +80,11 @@ told-cond true x y i more = refl
 told-cond false x y i more = refl
 
 -- the first check of an attachment and of those behind it
-pub look-checks : (b : List ℕ) (c : Cursor) (mask : ℕ) (seen : List ℕ) (n i : ℕ) → Marks mask seen
-    → first (attachmentChecks (suc n) i seen (from b c))
-    ≡ told (lookedAt b c mask) i (first (attachmentChecks n (suc i) (idAt (from b c) ∷ seen) (behind (from b c))))
+pub look-checks : (marks : FlagTable) (b : List ℕ) (c : Cursor) (mask : ℕ) (seen : List ℕ) (n i : ℕ) → Seen mask seen
+    → first (attachmentChecks marks (suc n) i seen (from b c))
+    ≡ told (lookedAt marks b c mask) i (first (attachmentChecks marks n (suc i) (idAt (from b c) ∷ seen) (behind (from b c))))
 unfolding lookedAt judgedAt attachmentChecks first
-look-checks b c mask seen n i m = simp (told-cond, m .at, ← from-moved b c 3)
+look-checks marks b c mask seen n i m = simp (told-cond, m .at, ← from-moved b c 3)
 
 -- an attachment that passes: what was read, that its id is new, and that its data fit
 pub record Passed (b : List ℕ) (c : Cursor) (mask al id : ℕ) : Type 0 where
@@ -97,15 +98,15 @@ cond-fine : (t : Bool) (n al id : ℕ) (v : Looked) → cond t (Fault n) v ≡ F
 cond-fine true n al id v e = let z : _≡_ {A = ℕ} 0 1 = cc in absurd (omega arith)
 cond-fine false n al id v e = (refl, e)
 
-pub passes : (b : List ℕ) (c : Cursor) (mask al id : ℕ) → lookedAt b c mask ≡ Fine al id → Passed b c mask al id
+pub passes : (marks : FlagTable) (b : List ℕ) (c : Cursor) (mask al id : ℕ) → lookedAt marks b c mask ≡ Fine al id → Passed b c mask al id
 unfolding lookedAt judgedAt
-passes b c mask al id e =
+passes marks b c mask al id e =
     let l = lengthAt (from b c) in
     let d = idAt (from b c) in
-    let e1 = cond-fine (ltb (length (from b c)) 3) 1 al id (judgedAt b (moved c 3) l d mask) e in
+    let e1 = cond-fine (ltb (length (from b c)) 3) 1 al id (judgedAt marks b (moved c 3) l d mask) e in
     let e2 = cond-fine (eqb l 0 || (eqb d 0 || bitAt mask d)) 5 al id _ (e1 .1) in
     let e3 = cond-fine (ltb (length (from b (moved c 3))) l) 1 al id _ (e2 .1) in
-    let e4 = cond-fine (not (bodyValid d (part b (moved c 3) l))) 6 al id (Fine l d) (e3 .1) in
+    let e4 = cond-fine (not (bodyValid marks d (part b (moved c 3) l))) 6 al id (Fine l d) (e3 .1) in
     let t1 = or-false (eqb l 0) (eqb d 0 || bitAt mask d) (e2 .0) in
     let t2 = or-false (eqb d 0) (bitAt mask d) (t1 .1) in
     let h1 = ltb-false (length (from b c)) 3 (e1 .0) in

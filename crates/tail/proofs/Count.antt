@@ -9,6 +9,7 @@ use mathlib.Core.List.{List, [], _∷_}
 use mathlib.Core.Option.{Option, none, some}
 use lib.ListN.{length, length-drop, drop-of-length-le}
 use Rattle.format.specs.Order.{Refusal, first}
+use Rattle.format.specs.Flags.{FlagTable}
 use Rattle.format.specs.Nibbles.{behind, Nibbles}
 use Rattle.format.specs.Report.{attachmentChecks}
 use Rattle.format.specs.Whole.{countFrom, countIn}
@@ -44,34 +45,34 @@ counted-by : (o : Option Refusal) (t : Tail) (n : ℕ) → asCounted n (walkedBy
 counted-by none t n = refl
 counted-by (some r) t n = refl
 
-counted-is : (s : List ℕ) → asCounted (countIn s) (walked s atTail (countIn s) 0) ≡ tailCounted s
+counted-is : (marks : FlagTable) (s : List ℕ) → asCounted (countIn s) (walked marks s atTail (countIn s) 0) ≡ tailCounted marks s
 unfolding walked tailCounted
-counted-is s = counted-by (first (attachmentChecks (countIn s) 1 [] s)) _ (countIn s)
+counted-is marks s = counted-by (first (attachmentChecks marks (countIn s) 1 [] s)) _ (countIn s)
 
 -- i attachments of a tail are walked over, at least one nibble each, and the others are still to be counted
-pub record Counting (s : List ℕ) (st : State) (i : ℕ) : Type 0 where
-  pub walking : Walking s atTail (countIn s) 0 st i
+pub record Counting (marks : FlagTable) (s : List ℕ) (st : State) (i : ℕ) : Type 0 where
+  pub walking : Walking marks s atTail (countIn s) 0 st i
   pub flat : st .cursor .packed ≡ false
   pub few : i ≤ st .cursor .at
   pub rest : i + countFrom (length s - i) (from s (st .cursor)) ≡ countIn s
 
-pub count-start : (s : List ℕ) → Nibbles s → Counting s (record { cursor = atTail; mask = 0; place = 0; al = 0 }) 0
-count-start s n =
+pub count-start : (marks : FlagTable) (s : List ℕ) → Nibbles s → Counting marks s (record { cursor = atTail; mask = 0; place = 0; al = 0 }) 0
+count-start marks s n =
     let e : length s - 0 ≡ length s = omega arith in
     record {
-      walking = walk-start s atTail (countIn s) 0 n (omega arith);
+      walking = walk-start marks s atTail (countIn s) 0 n (omega arith);
       flat = refl;
       few = omega arith;
       rest = rw e (zero-add (countIn s));
     }
 
-module _ (s : List ℕ) (st : State) (i : ℕ) (k : Counting s st i) where
-  pub count-end : length s ≤ st .cursor .at → Counted.Ended i ≡ tailCounted s
+module _ (marks : FlagTable) (s : List ℕ) (st : State) (i : ℕ) (k : Counting marks s st i) where
+  pub count-end : length s ≤ st .cursor .at → Counted.Ended i ≡ tailCounted marks s
   count-end h =
       let z : countFrom (length s - i) (from s (st .cursor)) ≡ 0 = rw (k .flat, drop-of-length-le s h) (count-nil (length s - i)) in
       let r = k .rest in
       let e : i ≡ countIn s = omega arith in
-      ap Counted.Ended e ∙ ap (asCounted (countIn s)) (walk-end s atTail (countIn s) 0 st i (k .walking) (omega arith)) ∙ counted-is s
+      ap Counted.Ended e ∙ ap (asCounted (countIn s)) (walk-end marks s atTail (countIn s) 0 st i (k .walking) (omega arith)) ∙ counted-is marks s
 
   module _ (h : st .cursor .at < length s) where
     -- the attachment at the cursor is one of them
@@ -85,14 +86,14 @@ module _ (s : List ℕ) (st : State) (i : ℕ) (k : Counting s st i) where
     before-end : i < countIn s
     before-end = omega (arith, one-of)
 
-    pub count-fault : (n : ℕ) → lookedAt s (st .cursor) (st .mask) ≡ Fault n → Counted.Refused n (i + 1) ≡ tailCounted s
-    count-fault n e = ap (asCounted (countIn s)) (walk-fault s atTail (countIn s) 0 st i (k .walking) before-end n e) ∙ counted-is s
+    pub count-fault : (n : ℕ) → lookedAt marks s (st .cursor) (st .mask) ≡ Fault n → Counted.Refused n (i + 1) ≡ tailCounted marks s
+    count-fault n e = ap (asCounted (countIn s)) (walk-fault marks s atTail (countIn s) 0 st i (k .walking) before-end n e) ∙ counted-is marks s
 
-    pub count-more : (a d : ℕ) → lookedAt s (st .cursor) (st .mask) ≡ Fine a d → Counting s (passedBy st a d 0) (i + 1)
+    pub count-more : (a d : ℕ) → lookedAt marks s (st .cursor) (st .mask) ≡ Fine a d → Counting marks s (passedBy st a d 0) (i + 1)
     count-more a d e =
-        let b = behind-from s (st .cursor) a (passes s (st .cursor) (st .mask) a d e .read) in
+        let b = behind-from s (st .cursor) a (passes marks s (st .cursor) (st .mask) a d e .read) in
         record {
-          walking = walk-more s atTail (countIn s) 0 st i (k .walking) before-end a d e;
+          walking = walk-more marks s atTail (countIn s) 0 st i (k .walking) before-end a d e;
           flat = k .flat;
           few = omega (arith, k .few);
           rest = rw (← b) (omega (arith, one-of));

@@ -55,16 +55,16 @@ bit-set m k i =
     rw (s, t))
 
 -- the bits of m are the ids seen
-pub record Marks (m : ℕ) (seen : List ℕ) : Type 0 where
+pub record Seen (m : ℕ) (seen : List ℕ) : Type 0 where
   pub at : (i : ℕ) → bitAt m i ≡ among i seen
 
-pub marks-none : Marks 0 []
+pub seen-none : Seen 0 []
 unfolding among
-marks-none = record { at = λ i. rw zero-div }
+seen-none = record { at = λ i. rw zero-div }
 
-pub marks-more : (m : ℕ) (seen : List ℕ) (k : ℕ) → Marks m seen → Marks (bitOr m (2 ^ k)) (k ∷ seen)
+pub seen-more : (m : ℕ) (seen : List ℕ) (k : ℕ) → Seen m seen → Seen (bitOr m (2 ^ k)) (k ∷ seen)
 unfolding among
-marks-more m seen k h = record { at = λ i. bit-set m k i ∙ ap (λ (t : Bool). eqb i k || t) (h .at i) }
+seen-more m seen k h = record { at = λ i. bit-set m k i ∙ ap (λ (t : Bool). eqb i k || t) (h .at i) }
 
 pub bit-shifted : (k : ℕ) → k < 64 → (1 * 2 ^ k) % 2 ^ 64 ≡ 2 ^ k
 bit-shifted k h = shl-exact 1 k 64 (lit< tt) (omega arith) ∙ one-mul (2 ^ k)

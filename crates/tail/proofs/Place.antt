@@ -9,6 +9,7 @@ use lib.ListN.{length, drop, length-append}
 use lib.Seq.{drop-drop, drop-append-add}
 use lib.Dec.{eqb}
 use borrow.Author.Tests.{eq-eqb}
+use Rattle.format.specs.Flags.{FlagTable}
 use Rattle.format.specs.Nibbles.{Attachment, attachment, nibbles, attachmentNibbles, tailNibbles}
 use Rattle.format.specs.Observation.{size}
 use Rattle.format.specs.Report.{tailOf, observationOf, accepted, judge}
@@ -59,7 +60,7 @@ module _ (i : ℕ) where
 
 -- ---- in an accepted report
 
-module _ (b : List ℕ) (i : ℕ) (bs : Bytes b) (j : judge b ≡ accepted (observationOf b))
+module _ (marks : FlagTable) (b : List ℕ) (i : ℕ) (bs : Bytes b) (j : judge marks b ≡ accepted (observationOf b))
     (p : Placed i (contentOf i (observationOf b .attachments)) (observationOf b .attachments)) where
   abbrev list : List Attachment
   list = observationOf b .attachments
@@ -72,7 +73,7 @@ module _ (b : List ℕ) (i : ℕ) (bs : Bytes b) (j : judge b ≡ accepted (obse
   beyond = zeros (2 * size (observationOf b) - (75 + length (tailNibbles list))) ++ drop (2 * size (observationOf b)) (nibbles b)
 
   pub tail-split : tailOf b ≡ tailNibbles (p .before) ++ (attachmentNibbles (attachment i content) ++ (tailNibbles (p .after) ++ beyond))
-  tail-split = tail-taken b (observationOf b) bs j ∙ ap (λ (x : List ℕ). x ++ beyond) (around i p) ∙ simp append-assoc
+  tail-split = tail-taken marks b (observationOf b) bs j ∙ ap (λ (x : List ℕ). x ++ beyond) (around i p) ∙ simp append-assoc
 
   module _ (place : ℕ) (is : place ≡ placeOf 75 i list) where
     -- its nibbles stand behind its header

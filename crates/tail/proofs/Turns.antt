@@ -13,6 +13,7 @@ use lib.Seq.{length-take-le}
 use lib.Dec.{eqb}
 use borrow.Author.Tests.{eqb-true, eqb-false, eq-eqb, ne-eqb}
 use Rattle.format.specs.Order.{Refusal, first}
+use Rattle.format.specs.Flags.{FlagTable}
 use Rattle.format.specs.Nibbles.{Attachment, attachment, tailNibbles, attachmentsOf, lengthAt, contentAt, behind, among, Nibbles}
 use Rattle.format.specs.Report.{attachmentChecks}
 use Rattle.format.specs.Calls.{contentOf}
@@ -28,7 +29,7 @@ use Rattle.tail.specs.declared.State.{State}
 use Rattle.tail.specs.declared.Tail.{Tail}
 use Rattle.tail.specs.declared.Walked.{Walked}
 use Rattle.tail.specs.declared.Walked.the-variants.{Refused, Ended}
-use Rattle.tail.proofs.Mask.{Marks, marks-none, marks-more, mask-grows, mask-lt}
+use Rattle.tail.proofs.Mask.{Seen, seen-none, seen-more, mask-grows, mask-lt}
 use Rattle.tail.proofs.Checks.{look-checks, passes, passed-small}
 
 -- where attachments that begin at a place end; the place and AL of an id: those found, or else those to come
@@ -40,9 +41,9 @@ tailBehind found place al at want list = record {
 }
 
 -- what n attachments from position i on give
-unfoldable pub walkedFrom : List ℕ → ℕ → ℕ → List ℕ → Cursor → ℕ → ℕ → ℕ → Walked
-walkedFrom b n i seen c want place al =
-    walkedBy (first (attachmentChecks n i seen (from b c))) (tailBehind (among want seen) place al (c .at) want (attachmentsOf n (from b c)))
+unfoldable pub walkedFrom : FlagTable → List ℕ → ℕ → ℕ → List ℕ → Cursor → ℕ → ℕ → ℕ → Walked
+walkedFrom marks b n i seen c want place al =
+    walkedBy (first (attachmentChecks marks n i seen (from b c))) (tailBehind (among want seen) place al (c .at) want (attachmentsOf n (from b c)))
 
 -- ---- a choice between what was found and what is still to come
 
@@ -88,16 +89,16 @@ behind-from b c a q =
 
 -- ---- one attachment of a walk
 
-module _ (b : List ℕ) (c : Cursor) (mask : ℕ) (seen : List ℕ) (want place al n i : ℕ) (m : Marks mask seen) where
-  from-fault : (k : ℕ) → lookedAt b c mask ≡ Fault k → walkedFrom b (suc n) i seen c want place al ≡ Refused k i
+module _ (marks : FlagTable) (b : List ℕ) (c : Cursor) (mask : ℕ) (seen : List ℕ) (want place al n i : ℕ) (m : Seen mask seen) where
+  from-fault : (k : ℕ) → lookedAt marks b c mask ≡ Fault k → walkedFrom marks b (suc n) i seen c want place al ≡ Refused k i
   unfolding walkedFrom
-  from-fault k e = rw (look-checks b c mask seen n i m, e)
+  from-fault k e = rw (look-checks marks b c mask seen n i m, e)
 
-  from-fine : (a d : ℕ) → lookedAt b c mask ≡ Fine a d
-      → walkedFrom b (suc n) i seen c want place al ≡ walkedFrom b n (suc i) (d ∷ seen) (moved c (3 + a)) want (cond (eqb d want) (c .at) place) (cond (eqb d want) a al)
+  from-fine : (a d : ℕ) → lookedAt marks b c mask ≡ Fine a d
+      → walkedFrom marks b (suc n) i seen c want place al ≡ walkedFrom marks b n (suc i) (d ∷ seen) (moved c (3 + a)) want (cond (eqb d want) (c .at) place) (cond (eqb d want) a al)
   unfolding walkedFrom attachmentsOf among
   from-fine a d e =
-      let p = passes b c mask a d e in
+      let p = passes marks b c mask a d e in
       let ns = from b c in
       let next = moved c (3 + a) in
       let more = attachmentsOf n (from b next) in
@@ -105,31 +106,31 @@ module _ (b : List ℕ) (c : Cursor) (mask : ℕ) (seen : List ℕ) (want place 
       let list : attachmentsOf (suc n) ns ≡ attachment d (contentAt ns) ∷ more = rw (rest, p .told) in
       let size : length (contentAt ns) ≡ a = length-take-le (lengthAt ns) (drop 3 ns) (omega (arith, p .fits, p .read, length-drop 3 ns, from-length b c)) ∙ sym (p .read) in
       let new : d ≡ want → among want seen ≡ false = λ q. ap (λ (x : ℕ). among x seen) (sym q) ∙ sym (m .at d) ∙ p .new in
-      let checks : first (attachmentChecks (suc n) i seen ns) ≡ first (attachmentChecks n (suc i) (d ∷ seen) (from b next)) = look-checks b c mask seen n i m ∙ rw (e, rest, p .told) in
+      let checks : first (attachmentChecks marks (suc n) i seen ns) ≡ first (attachmentChecks marks n (suc i) (d ∷ seen) (from b next)) = look-checks marks b c mask seen n i m ∙ rw (e, rest, p .told) in
       ap₂ walkedBy checks (ap (tailBehind (among want seen) place al (c .at) want) list ∙ tail-passed (among want seen) place al (c .at) want a d (contentAt ns) more size new)
 
 -- ---- the walk
 
 -- i attachments of count are walked over: the ids seen, bounds, and what the others give
-pub record Walking (b : List ℕ) (c : Cursor) (count want : ℕ) (st : State) (i : ℕ) : Type 0 where
+pub record Walking (marks : FlagTable) (b : List ℕ) (c : Cursor) (count want : ℕ) (st : State) (i : ℕ) : Type 0 where
   pub seen : List ℕ
-  pub marks : Marks (st .mask) seen
+  pub ids : Seen (st .mask) seen
   pub kept : among want seen ≡ false → (st .place ≡ 0) × (st .al ≡ 0)
   pub few : i ≤ st .mask
   pub low : st .mask < 65536
   pub near : st .cursor .at ≤ 65536 + 258 * i
   pub nibbles : Nibbles (view (st .cursor .packed) b)
   pub passed : i ≤ count
-  pub rest : walkedFrom b (count - i) (i + 1) seen (st .cursor) want (st .place) (st .al) ≡ walked b c count want
+  pub rest : walkedFrom marks b (count - i) (i + 1) seen (st .cursor) want (st .place) (st .al) ≡ walked marks b c count want
 
-pub walk-start : (b : List ℕ) (c : Cursor) (count want : ℕ) → Nibbles (view (c .packed) b) → c .at ≤ 65536
-    → Walking b c count want (record { cursor = c; mask = 0; place = 0; al = 0 }) 0
+pub walk-start : (marks : FlagTable) (b : List ℕ) (c : Cursor) (count want : ℕ) → Nibbles (view (c .packed) b) → c .at ≤ 65536
+    → Walking marks b c count want (record { cursor = c; mask = 0; place = 0; al = 0 }) 0
 unfolding walkedFrom walked among
-walk-start b c count want n h =
+walk-start marks b c count want n h =
     let e : count - 0 ≡ count = omega arith in
     record {
       seen = [];
-      marks = marks-none;
+      ids = seen-none;
       kept = λ _. (refl, refl);
       few = omega arith;
       low = omega arith;
@@ -139,14 +140,14 @@ walk-start b c count want n h =
       rest = rw e;
     }
 
-module _ (b : List ℕ) (c : Cursor) (count want : ℕ) (st : State) (i : ℕ) (k : Walking b c count want st i) where
-  pub walk-end : count ≤ i → Ended (record { end = st .cursor .at; place = st .place; al = st .al }) ≡ walked b c count want
+module _ (marks : FlagTable) (b : List ℕ) (c : Cursor) (count want : ℕ) (st : State) (i : ℕ) (k : Walking marks b c count want st i) where
+  pub walk-end : count ≤ i → Ended (record { end = st .cursor .at; place = st .place; al = st .al }) ≡ walked marks b c count want
   unfolding walkedFrom attachmentsOf attachmentChecks first placeOf contentOf tailNibbles
   walk-end h =
       let z : count - i ≡ 0 = omega arith in
       let place = found-or (among want (k .seen)) (st .place) (λ t. k .kept t .0) in
       let al = found-or (among want (k .seen)) (st .al) (λ t. k .kept t .1) in
-      let ended : walkedFrom b 0 (i + 1) (k .seen) (st .cursor) want (st .place) (st .al) ≡ Ended (record { end = st .cursor .at; place = st .place; al = st .al }) =
+      let ended : walkedFrom marks b 0 (i + 1) (k .seen) (st .cursor) want (st .place) (st .al) ≡ Ended (record { end = st .cursor .at; place = st .place; al = st .al }) =
       rw (add-zero (st .cursor .at), place, al) in
       sym ended ∙ (rw z at (k .rest))
 
@@ -154,36 +155,36 @@ module _ (b : List ℕ) (c : Cursor) (count want : ℕ) (st : State) (i : ℕ) (
   pub walk-look : Nibbles (view (st .cursor .packed) b) × (st .cursor .at ≤ 2 ^ 30)
   walk-look = (k .nibbles, omega (arith, k .few, k .low, k .near))
 
-  pub walk-pass : (a d : ℕ) → lookedAt b (st .cursor) (st .mask) ≡ Fine a d → (st .cursor .at ≤ 2 ^ 30) × (a < 256) × (d < 16)
+  pub walk-pass : (a d : ℕ) → lookedAt marks b (st .cursor) (st .mask) ≡ Fine a d → (st .cursor .at ≤ 2 ^ 30) × (a < 256) × (d < 16)
   walk-pass a d e =
-      let s = passed-small b (st .cursor) (st .mask) a d (k .nibbles) (passes b (st .cursor) (st .mask) a d e) in
+      let s = passed-small b (st .cursor) (st .mask) a d (k .nibbles) (passes marks b (st .cursor) (st .mask) a d e) in
       (walk-look .1, s .0, s .1)
 
   module _ (h : i < count) where
     left : count - i ≡ suc (count - (i + 1))
     left = omega arith
 
-    pub walk-fault : (n : ℕ) → lookedAt b (st .cursor) (st .mask) ≡ Fault n → Refused n (i + 1) ≡ walked b c count want
-    walk-fault n e = sym (from-fault b (st .cursor) (st .mask) (k .seen) want (st .place) (st .al) (count - (i + 1)) (i + 1) (k .marks) n e) ∙ (rw left at (k .rest))
+    pub walk-fault : (n : ℕ) → lookedAt marks b (st .cursor) (st .mask) ≡ Fault n → Refused n (i + 1) ≡ walked marks b c count want
+    walk-fault n e = sym (from-fault marks b (st .cursor) (st .mask) (k .seen) want (st .place) (st .al) (count - (i + 1)) (i + 1) (k .ids) n e) ∙ (rw left at (k .rest))
 
-    pub walk-more : (a d : ℕ) → lookedAt b (st .cursor) (st .mask) ≡ Fine a d → Walking b c count want (passedBy st a d want) (i + 1)
+    pub walk-more : (a d : ℕ) → lookedAt marks b (st .cursor) (st .mask) ≡ Fine a d → Walking marks b c count want (passedBy st a d want) (i + 1)
     unfolding among
     walk-more a d e =
-        let p = passes b (st .cursor) (st .mask) a d e in
+        let p = passes marks b (st .cursor) (st .mask) a d e in
         let s = walk-pass a d e in
         let g = mask-grows (st .mask) d (p .new) in
         let few = k .few in
         let near = k .near in
         record {
           seen = d ∷ k .seen;
-          marks = marks-more (st .mask) (k .seen) d (k .marks);
+          ids = seen-more (st .mask) (k .seen) d (k .ids);
           kept = λ t. let f = or-false (eqb want d) (among want (k .seen)) t in rw (eqb-sym d want, f .0) (k .kept (f .1));
           few = omega arith;
           low = mask-lt (st .mask) d (k .low) (s .2);
           near = omega arith;
           nibbles = k .nibbles;
           passed = omega arith;
-          rest = rw (add-one (i + 1)) (sym (from-fine b (st .cursor) (st .mask) (k .seen) want (st .place) (st .al) (count - (i + 1)) (i + 1) (k .marks) a d e) ∙ (rw left at (k .rest)));
+          rest = rw (add-one (i + 1)) (sym (from-fine marks b (st .cursor) (st .mask) (k .seen) want (st .place) (st .al) (count - (i + 1)) (i + 1) (k .ids) a d e) ∙ (rw left at (k .rest)));
         }
 
 -- ---- what an answer says

@@ -6,6 +6,7 @@ use mathlib.Core.Option.{Option, none, some}
 use lib.ListN.{length}
 use lib.Dec.{eqb}
 use Rattle.format.specs.Order.{Refusal, first}
+use Rattle.format.specs.Flags.{FlagTable}
 use Rattle.format.specs.Nibbles.{Attachment, tailNibbles, attachmentsOf}
 use Rattle.format.specs.Report.{attachmentChecks}
 use Rattle.format.specs.Calls.{contentOf}
@@ -32,14 +33,14 @@ walkedBy (some r) t = Refused (r .number) (r .place)
 walkedBy none t = Ended t
 
 -- the first refusal of the attachments from a cursor on, 1, 5 or 6, or where they end and where id i stands
-unfoldable pub walked : List ℕ → Cursor → ℕ → ℕ → Walked
-walked b c count i =
-    walkedBy (first (attachmentChecks count 1 [] (from b c))) (tailAt (c .at) i (attachmentsOf count (from b c)))
+unfoldable pub walked : FlagTable → List ℕ → Cursor → ℕ → ℕ → Walked
+walked marks b c count i =
+    walkedBy (first (attachmentChecks marks count 1 [] (from b c))) (tailAt (c .at) i (attachmentsOf count (from b c)))
 
 abbrev pub countedBy : Option Refusal → ℕ → Counted
 countedBy (some r) n = Counted.Refused (r .number) (r .place)
 countedBy none n = Counted.Ended n
 
 -- the first refusal of a tail's attachments, 1, 5 or 6, or how many there are
-unfoldable pub tailCounted : List ℕ → Counted
-tailCounted ns = countedBy (first (attachmentChecks (countIn ns) 1 [] ns)) (countIn ns)
+unfoldable pub tailCounted : FlagTable → List ℕ → Counted
+tailCounted marks ns = countedBy (first (attachmentChecks marks (countIn ns) 1 [] ns)) (countIn ns)

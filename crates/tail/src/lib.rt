@@ -1,4 +1,4 @@
-// The attachments behind the card: a walk that checks each, and says where they end and where one id stands, or how many there are.
+// The attachments behind the card: a walk that checks each under a table of permitted flags, and says where they end and where one id stands, or how many there are.
 ghost use mathlib.Core.Path.{_≡_};
 ghost use Prim.Native.Nat.{_+_, _≤_, _<_, _^_};
 ghost use lib.ListN.{length};
@@ -7,6 +7,7 @@ ghost use Rattle.format.specs.Report.{bodyValid};
 ghost use Rattle.nibble.specs.View.{view, part};
 ghost use Rattle.tail.specs.Look.{judgedAt, lookedAt, passedBy};
 ghost use Rattle.tail.specs.Walk.{walked, tailCounted};
+use format::FlagTable;
 use nibble::Cursor;
 use nibble::Header;
 
@@ -48,12 +49,12 @@ struct State {
 }
 
 // Whether len nibbles from a place on may stand under an id.
-pub fn body_valid(s: &[u8], c: Cursor, id: usize, len: usize) -> bool
-    requires { ⌜ (c .at + len ≤ length (view (c .packed) (now s))) × (c .at + len ≤ 2 ^ 32) × (len ≤ 4096) ⌝ }
-    ensures { λ r. ⌜ r ≡ bodyValid id (part (now (s .entry)) c len) ⌝ }
+pub fn body_valid(s: &[u8], c: Cursor, id: usize, len: usize, marks: &FlagTable) -> bool
+    requires { ⌜ Nibbles (view (c .packed) (now s)) × (c .at + len ≤ length (view (c .packed) (now s))) × (c .at + len ≤ 2 ^ 32) × (len ≤ 4096) ⌝ }
+    ensures { λ r. ⌜ r ≡ bodyValid (now (marks .entry)) id (part (now (s .entry)) c len) ⌝ }
 {
     if id == 1 {
-        return flags::valid(s, c, len);
+        return flags::valid(s, c, len, *marks);
     }
     if id == 4 {
         return text::valid(s, c, len);
@@ -62,9 +63,9 @@ pub fn body_valid(s: &[u8], c: Cursor, id: usize, len: usize) -> bool
 }
 
 // The attachment of this AL and AID whose data begin at a place.
-fn judged(s: &[u8], c: Cursor, al: usize, id: usize, mask: u64) -> Looked
-    requires { ⌜ (c .at ≤ length (view (c .packed) (now s))) × (c .at ≤ 2 ^ 31) × (al < 256) × (id < 16) ⌝ }
-    ensures { λ r. ⌜ r ≡ judgedAt (now (s .entry)) c al id mask ⌝ }
+fn judged(s: &[u8], c: Cursor, al: usize, id: usize, mask: u64, marks: &FlagTable) -> Looked
+    requires { ⌜ Nibbles (view (c .packed) (now s)) × (c .at ≤ length (view (c .packed) (now s))) × (c .at ≤ 2 ^ 31) × (al < 256) × (id < 16) ⌝ }
+    ensures { λ r. ⌜ r ≡ judgedAt (now (marks .entry)) (now (s .entry)) c al id mask ⌝ }
 {
     let last = c.at + al;
     let packed = c.packed;
@@ -78,7 +79,7 @@ fn judged(s: &[u8], c: Cursor, al: usize, id: usize, mask: u64) -> Looked
         return Looked::Fault(5);
     }
     if nibble::inside(s, last - 1, packed) {
-        if body_valid(s, c, id, al) {
+        if body_valid(s, c, id, al, marks) {
             return Looked::Fine(al, id);
         }
         return Looked::Fault(6);
@@ -87,14 +88,14 @@ fn judged(s: &[u8], c: Cursor, al: usize, id: usize, mask: u64) -> Looked
 }
 
 // The attachment at a place.
-fn look(s: &[u8], c: Cursor, mask: u64) -> Looked
+fn look(s: &[u8], c: Cursor, mask: u64, marks: &FlagTable) -> Looked
     requires { ⌜ Nibbles (view (c .packed) (now s)) × (c .at ≤ 2 ^ 30) ⌝ }
-    ensures { λ r. ⌜ r ≡ lookedAt (now (s .entry)) c mask ⌝ }
+    ensures { λ r. ⌜ r ≡ lookedAt (now (marks .entry)) (now (s .entry)) c mask ⌝ }
 {
     let h = c.header(s);
     match h {
         Header::Short => Looked::Fault(1),
-        Header::Head(al, id, body) => judged(s, body, al, id, mask),
+        Header::Head(al, id, body) => judged(s, body, al, id, mask, marks),
     }
 }
 
@@ -123,9 +124,9 @@ fn passed(st: State, al: usize, id: usize, want: usize) -> State
 }
 
 // Checks count attachments from a place on; where they end, and where an id stands among them.
-pub fn walk(s: &[u8], c: Cursor, count: usize, want: usize) -> Walked
+pub fn walk(s: &[u8], c: Cursor, count: usize, want: usize, marks: &FlagTable) -> Walked
     requires { ⌜ Nibbles (view (c .packed) (now s)) × (c .at ≤ length (view (c .packed) (now s))) × (c .at ≤ 65536) ⌝ }
-    ensures { λ r. ⌜ r ≡ walked (now (s .entry)) c count want ⌝ }
+    ensures { λ r. ⌜ r ≡ walked (now (marks .entry)) (now (s .entry)) c count want ⌝ }
 {
     let mut st = State {
         cursor: c,
@@ -135,7 +136,7 @@ pub fn walk(s: &[u8], c: Cursor, count: usize, want: usize) -> Walked
     };
     let mut i = 0;
     while i < count {
-        let l = look(s, st.cursor, st.mask);
+        let l = look(s, st.cursor, st.mask, marks);
         match l {
             Looked::Fault(n) => {
                 return Walked::Refused(n, i + 1);
@@ -154,9 +155,9 @@ pub fn walk(s: &[u8], c: Cursor, count: usize, want: usize) -> Walked
 }
 
 // Checks the attachments of a tail, one nibble a byte, to its end, and counts them.
-pub fn walk_tail(s: &[u8]) -> Counted
+pub fn walk_tail(s: &[u8], marks: &FlagTable) -> Counted
     requires { ⌜ Nibbles (now s) ⌝ }
-    ensures { λ r. ⌜ r ≡ tailCounted (now (s .entry)) ⌝ }
+    ensures { λ r. ⌜ r ≡ tailCounted (now (marks .entry)) (now (s .entry)) ⌝ }
 {
     let mut st = State {
         cursor: Cursor {
@@ -169,7 +170,7 @@ pub fn walk_tail(s: &[u8]) -> Counted
     };
     let mut count = 0;
     while st.cursor.at < s.len() {
-        let l = look(s, st.cursor, st.mask);
+        let l = look(s, st.cursor, st.mask, marks);
         match l {
             Looked::Fault(n) => {
                 return Counted::Refused(n, count + 1);

@@ -27,7 +27,7 @@ cast-result c = search needs
 
 -- src/lib.rt:68:1
 returns : tie.Need-returns
-returns c = 
+returns c =
     let row = part (now (c .before .before .before .args .s)) (c .before .before .before .args .c) 16 in
     c .code-of .ensures .0 ∙ ap qualityCode (sym (body-flags row (c .before .sixteen .result) (c .before .sixteen .ensures)) ∙ part-take (now (c .before .before .before .args .s)) (c .before .before .before .args .c) 14 16 (omega arith))
 

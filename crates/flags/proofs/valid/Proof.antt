@@ -14,7 +14,7 @@ use Rattle.flags.proofs.sixteen.Reads as sixteen-reads
 
 -- src/lib.rt:139:9
 returns : tie.Need-returns
-returns c = 
+returns c =
     (other-length (c .before .before .args .t4) (part (now (c .before .before .args .s)) (c .before .before .args .c) (c .before .before .args .len)) (c .before .before .args .len) (part-length (now (c .before .before .args .s)) (c .before .before .args .c) (c .before .before .args .len) (c .before .before .pre .1)) (c .if1 .taken), missing-permitted _)
 
 -- src/lib.rt:141:9

@@ -28,20 +28,20 @@ enum-known-w-2 c = search needs
 
 last-requires : tie.Need-last-requires
 last-requires c κs =
-    let t = tail-ended _ _ _ _ (c .before .before .before .before .count .ensures .0) (c .before .before .before .walk .ensures) _ (c .before .w2 .given .1) in
-    let within = end-within _ (λ i. c .before .before .before .before .before .shared-slice-known .given i .fits) (c .before .before .before .before .before .before .pre .long) (t .0) in
+    let t = tail-ended _ _ _ _ _ (c .before .before .before .before .count .ensures .0) (c .before .before .before .walk .ensures) _ (c .before .w2 .given .1) in
+    let within = end-within _ _ (λ i. c .before .before .before .before .before .shared-slice-known .given i .fits) (c .before .before .before .before .before .before .pre .long) (t .0) in
     let end = ap (λ (x : Tail). x .end) (t .1) in
     (omega (arith, end, within .0), omega (arith, end, within .1))
 
 returns : tie.Need-returns
 returns c =
-    attachment-refused _ _ (c .before .before .before .before .before .before .pre) _ _
-    (tail-refused _ _ _ _ (c .before .before .before .before .count .ensures .0) (c .before .before .before .walk .ensures) _ _ (c .before .w .given .1))
+    attachment-refused _ _ _ (c .before .before .before .before .before .before .pre) _ _
+    (tail-refused _ _ _ _ _ (c .before .before .before .before .count .ensures .0) (c .before .before .before .walk .ensures) _ _ (c .before .w .given .1))
 
 returns-2 : tie.Need-returns-2
 returns-2 c =
-    let t = tail-ended _ _ _ _ (c .before .before .before .before .before .count .ensures .0) (c .before .before .before .before .walk .ensures) _ (c .before .before .w2 .given .1) in
-    c .last .ensures ∙ last-decides _ _ (c .before .before .before .before .before .before .before .pre) (t .0) _ _ (c .before .before .before .before .before .count .ensures .0) (t .1)
+    let t = tail-ended _ _ _ _ _ (c .before .before .before .before .before .count .ensures .0) (c .before .before .before .before .walk .ensures) _ (c .before .before .w2 .given .1) in
+    c .last .ensures ∙ last-decides _ _ _ (c .before .before .before .before .before .before .before .pre) (t .0) _ _ (c .before .before .before .before .before .count .ensures .0) (t .1)
 
 pub inspect-tail-spec : {M : Type 1} → statement M
 inspect-tail-spec =

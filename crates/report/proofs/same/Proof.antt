@@ -19,7 +19,7 @@ compare-second-requires : tie.Need-compare-second-requires
 compare-second-requires c κs = sym (c .before .j2 .given .1) ∙ c .before .before .before .judge .ensures .0
 
 returns : tie.Need-returns
-returns c = first-refused _ _ _ _ (sym (c .before .j .given .1) ∙ c .before .before .before .judge .ensures .0)
+returns c = first-refused _ _ _ _ _ (sym (c .before .j .given .1) ∙ c .before .before .before .judge .ensures .0)
 
 returns-2 : tie.Need-returns-2
 returns-2 c = search needs

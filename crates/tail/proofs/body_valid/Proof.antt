@@ -11,7 +11,7 @@ valid-requires c κs = search needs
 
 returns : tie.Need-returns
 unfolding bodyValid
-returns c = rw (eq-eqb (c .before .before .before .args .id) 1 (c .before .if1 .taken)) (c .valid .ensures)
+returns c = rw (eq-eqb (c .before .before .before .before .args .id) 1 (c .before .before .if1 .taken)) (c .valid .ensures .0)
 
 valid-requires-2 : tie.Need-valid-requires-2
 valid-requires-2 c κs = search needs

@@ -34,15 +34,15 @@ judged-requires c κs =
     let i = k .inside in
     let r = k .read in
     let t = k .told in
-    rw (k .behind) (omega arith, omega arith, omega arith, omega arith)
+    rw (k .behind) (c .before .before .before .before .before .pre .0, omega arith, omega arith, omega arith, omega arith)
 
 returns : tie.Need-returns
 returns c =
     let a = c .before .before .before .before .args in
-    look-short _ _ _ (is-short (now (a .s)) (a .c) (sym (c .before .before .header .ensures) ∙ c .enum-told .given .1))
+    look-short _ _ _ _ (is-short (now (a .s)) (a .c) (sym (c .before .before .header .ensures) ∙ c .enum-told .given .1))
 
 returns-2 : tie.Need-returns-2
-returns-2 c = c .judged .ensures ∙ look-judged _ _ _ _ _ _ (head (c .before))
+returns-2 c = c .judged .ensures ∙ look-judged _ _ _ _ _ _ _ (head (c .before))
 
 pub look-spec : {M : Type 1} → statement M
 look-spec =

@@ -11,27 +11,27 @@ use Rattle.tail.proofs.walk_tail.Statement.{statement}
 use Rattle.tail.proofs.walk_tail.Tie as tie
 
 abbrev Inv-loop : tie.InvT-loop
-Inv-loop s st₀ count₀ st count = Counting s st count
+Inv-loop s marks st₀ count₀ st count = Counting marks s st count
 
 abbrev μ-loop : tie.MeasureT-loop
-μ-loop s st₀ count₀ st count = length s - st .cursor .at
+μ-loop s marks st₀ count₀ st count = length s - st .cursor .at
 
 loop-holds : tie.Need-loop-holds Inv-loop μ-loop
-loop-holds c = count-start _ (c .before .pre)
+loop-holds c = count-start _ _ (c .before .pre)
 
 look-requires : tie.Need-look-requires Inv-loop μ-loop
-look-requires c κs = walk-look _ _ _ _ _ _ (c .before .before .loop .inv .walking)
+look-requires c κs = walk-look _ _ _ _ _ _ _ (c .before .before .loop .inv .walking)
 
 enum-known-l : tie.Need-enum-known-l Inv-loop μ-loop
 enum-known-l c = search needs
 
-add-t11 : tie.Need-add-t11 Inv-loop μ-loop
-add-t11 c = search needs
+add-t12 : tie.Need-add-t12 Inv-loop μ-loop
+add-t12 c = search needs
 
 returns : tie.Need-returns Inv-loop μ-loop
 returns c =
     let l = c .before .before .before .before .before .before .loop in
-    count-fault _ _ _ (l .inv) (omega arith) _ (sym (c .before .before .before .look .ensures) ∙ c .before .l .given .1)
+    count-fault _ _ _ _ (l .inv) (omega arith) _ (sym (c .before .before .before .look .ensures) ∙ c .before .l .given .1)
 
 enum-known-l-2 : tie.Need-enum-known-l-2 Inv-loop μ-loop
 enum-known-l-2 c = search needs
@@ -39,7 +39,7 @@ enum-known-l-2 c = search needs
 passed-requires : tie.Need-passed-requires Inv-loop μ-loop
 passed-requires c κs =
     let l = c .before .before .before .before .before .before .loop in
-    walk-pass _ _ _ _ _ _ (l .inv .walking) _ _ (sym (c .before .before .before .look .ensures) ∙ c .before .l2 .given .1)
+    walk-pass _ _ _ _ _ _ _ (l .inv .walking) _ _ (sym (c .before .before .before .look .ensures) ∙ c .before .l2 .given .1)
 
 add-count : tie.Need-add-count Inv-loop μ-loop
 add-count c = search needs
@@ -51,10 +51,10 @@ loop-again : tie.Need-loop-again Inv-loop μ-loop
 loop-again c =
     let l = c .before .before .before .before .before .before .before .loop in
     let e = sym (c .before .before .before .before .look .ensures) ∙ c .before .before .l2 .given .1 in
-    rw (c .passed .ensures) (count-more _ _ _ (l .inv) (omega arith) _ _ e)
+    rw (c .passed .ensures) (count-more _ _ _ _ (l .inv) (omega arith) _ _ e)
 
 returns-2 : tie.Need-returns-2 Inv-loop μ-loop
-returns-2 c = count-end _ _ _ (c .before .before .loop .inv) (omega arith)
+returns-2 c = count-end _ _ _ _ (c .before .before .loop .inv) (omega arith)
 
 pub walk-tail-spec : {M : Type 1} → statement M
 walk-tail-spec =
@@ -65,7 +65,7 @@ walk-tail-spec =
     loop-holds
     look-requires
     enum-known-l
-    add-t11
+    add-t12
     returns
     enum-known-l-2
     passed-requires
