@@ -12,10 +12,10 @@ use lib.Seq.{take-at, take-suc, take-all, getD-append-add}
 use lib.Dec.{eqb, leb}
 use borrow.Author.Tests.{le-leb, lt-leb, ne-eqb, eqb-true, eqb-false, leb-true, not-true}
 use Rattle.format.specs.Order.{between}
-use Rattle.format.specs.Flags.{FlagTable, isFlag, weights, weight, totalWeight, allMissing, qualityCode, flagInRange, flagsFit, withFlag, flagsValid}
+use Rattle.format.specs.Flags.{FlagTable, isFlag, weights, weight, totalWeight, allMissing, qualityCode, flagInRange, flagFits, flagsFit, flagsValid}
 use Rattle.laws.proofs.Sequences.{and-true, test-case}
 use Rattle.laws.proofs.Order.{between-in}
-use Rattle.laws.proofs.Flags.{flagFits, missing-fits, flag-set-valid}
+use Rattle.laws.proofs.Flags.{missing-fits, flag-set-valid}
 use Rattle.laws.proofs.Characters.{allBelow, at-below}
 use Rattle.flags.specs.Word.{nibblesIn, Column}
 use Rattle.flags.specs.Missing.{MissingPermitted}
@@ -275,6 +275,6 @@ other-length marks row n l h = rw (l, ne-eqb n 16 h)
 -- ---- a missing flag
 
 pub missing-permitted : (marks : FlagTable) → MissingPermitted marks
-unfolding flagsValid flagsFit qualityCode allMissing
+unfolding flagsFit
 missing-permitted marks =
-    record { none = refl; cleared = λ body j i e. flag-set-valid body j 0 marks e (leb-true 1 j (and-true (leb 1 j) (leb j 14) i .0)) (missing-fits marks j) }
+    record { fits = λ j vs. refl; cleared = λ body j i e. flag-set-valid body j 0 marks e (leb-true 1 j (and-true (leb 1 j) (leb j 14) i .0)) (missing-fits marks j) }

@@ -65,7 +65,7 @@ pub record Standing : Type 0 where
 abbrev pub standing : Observation → ℕ → Standing
 standing s e = record { observation = s; longest = e }
 
--- its step, on a buffer of n bytes
+-- its step under a table, on a buffer of n bytes
 abbrev pub stepping : FlagTable → ℕ → Standing → Call → Moved Standing Shown
 stepping marks n m c =
     let t = step marks n (m .observation) c in

@@ -170,7 +170,7 @@ flagNumberCheck j = check (not (isFlag j)) 8 0
 abbrev pub idCheck : ℕ → Check
 idCheck i = check (not (between 1 15 i)) 8 0
 
--- 9: value out of range
+-- 9: value out of range, of a flag also one that the table does not permit
 abbrev pub valueCheck : ℕ → Scaled → Check
 valueCheck k v = check (not (inRange (fieldAt k) v)) 9 k
 

@@ -44,14 +44,18 @@ permitted marks j v = eqb (markOf marks j v) 1
 unfoldable pub allYes : FlagTable
 allYes = replicate 14 (replicate 10 1)
 
--- a value that flag j may be set to
+-- a value that flag j may be set to: one of 1 to 10 that the table permits
 abbrev pub flagInRange : FlagTable → ℕ → ℕ → Bool
 flagInRange marks j v = between 1 10 v && permitted marks j v
 
--- what the flags from j on may hold: a value in range, or 0, missing, which every table permits
+-- what flag j may hold: 0, missing, whatever the table says, or a value in range
+abbrev pub flagFits : FlagTable → ℕ → ℕ → Bool
+flagFits marks j v = cond (eqb v 0) true (flagInRange marks j v)
+
+-- the flags from j on
 unfoldable pub flagsFit : FlagTable → ℕ → List ℕ → Bool
 flagsFit marks j [] = true
-flagsFit marks j (v ∷ vs) = cond (eqb v 0) true (flagInRange marks j v) && flagsFit marks (suc j) vs
+flagsFit marks j (v ∷ vs) = flagFits marks j v && flagsFit marks (suc j) vs
 
 -- flag j of a body
 abbrev pub flagAt : List ℕ → ℕ → ℕ
@@ -65,7 +69,7 @@ flagBody flags = flags ++ (qualityCode flags / 16 ∷ qualityCode flags % 16 ∷
 unfoldable pub withFlag : List ℕ → ℕ → ℕ → List ℕ
 withFlag body j v = flagBody (set (take 14 body) (j - 1) v)
 
--- a valid content of id 1: 16 nibbles, no flag that is out of range, the quality code of the flags
+-- a valid content of id 1: 16 nibbles, each flag missing or in range, the quality code of the flags
 unfoldable pub flagsValid : FlagTable → List ℕ → Bool
 flagsValid marks body =
     eqb (length body) 16 && (flagsFit marks 1 (take 14 body) && eqb (getD body 14 0 * 16 + getD body 15 0) (qualityCode (take 14 body)))

@@ -36,12 +36,12 @@ unfoldable pub loadChecks : List ℕ → List Check
 loadChecks lent = check (not (eqb (length lent) 140) || (not (allMarks lent) || not (everyRow (tableOf lent)))) 16 0 ∷ []
 
 -- acceptance, which gives nothing, or the refusal
-abbrev pub loadedBy : Option Refusal → Answer
-loadedBy (some r) = refused r
-loadedBy none = accepted []
+abbrev pub loadAnswerBy : Option Refusal → Answer
+loadAnswerBy (some r) = refused r
+loadAnswerBy none = accepted []
 
-unfoldable pub loaded : List ℕ → Answer
-loaded lent = loadedBy (first (loadChecks lent))
+unfoldable pub loadAnswer : List ℕ → Answer
+loadAnswer lent = loadAnswerBy (first (loadChecks lent))
 
 -- the table in force afterwards: the lent one, or where that is refused the former one
 abbrev pub inForceBy : Option Refusal → FlagTable → List ℕ → FlagTable

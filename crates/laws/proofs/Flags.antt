@@ -11,14 +11,10 @@ use lib.Seq.{length-take-le, take-at, getD-append-add, getD-take}
 use lib.Dec.{eqb, leb}
 use borrow.Author.Tests.{leb-true, eqb-true, eq-eqb}
 use Rattle.format.specs.Order.{between}
-use Rattle.format.specs.Flags.{FlagTable, permitted, weights, weight, totalWeight, allMissing, qualityCode, flagInRange, flagsFit, flagBody, withFlag, flagsValid}
+use Rattle.format.specs.Flags.{FlagTable, permitted, weights, weight, totalWeight, allMissing, qualityCode, flagInRange, flagFits, flagsFit, flagBody, withFlag, flagsValid}
 use Rattle.laws.proofs.Sequences.{and-true, cond-case}
 
 -- ---- what a flag may hold
-
--- flag j may hold v: missing, or in range
-abbrev pub flagFits : FlagTable → ℕ → ℕ → Bool
-flagFits marks j v = cond (eqb v 0) true (flagInRange marks j v)
 
 pub missing-fits : (marks : FlagTable) (j : ℕ) → flagFits marks j 0 ≡ true
 missing-fits marks j = refl

@@ -13,7 +13,7 @@ use borrow.Author.Tests.{ltb-false, not-false}
 use Rattle.format.specs.Order.{Refusal, first}
 use Rattle.format.specs.Field.{fieldAt, required}
 use Rattle.format.specs.Nibbles.{attachment}
-use Rattle.format.specs.Flags.{FlagTable, withFlag}
+use Rattle.format.specs.Flags.{FlagTable, flagFits, withFlag}
 use Rattle.format.specs.ShipText.{writeText}
 use Rattle.format.specs.Observation.{Observation, packing, size}
 use Rattle.format.specs.Report.{Verdict, judge, bodyValid}
@@ -27,7 +27,7 @@ use Rattle.laws.proofs.Order.{between-in, first-none, first-append-none
 use Rattle.format.specs.declared.Scaled.{Scaled}
 use Rattle.format.specs.Bits.{Bytes}
 use Rattle.laws.proofs.Fields.{Fair, missing-fair, in-range-fair, fair-set, Present, present-some, present-none}
-use Rattle.laws.proofs.Flags.{flagFits, missing-fits, range-fits, valid-flags, flag-set-length, flag-set-valid, flag-set-nibbles}
+use Rattle.laws.proofs.Flags.{missing-fits, range-fits, valid-flags, flag-set-length, flag-set-valid, flag-set-nibbles}
 use Rattle.laws.proofs.Attachments.{FineAt}
 use Rattle.laws.proofs.AttachmentEdits.{put-fine, put-checked, remove-fine, content-fine}
 use Rattle.laws.proofs.Report.{Good, judge-packing, judged, size-within}
