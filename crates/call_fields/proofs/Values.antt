@@ -11,6 +11,7 @@ use mathlib.Core.Option.{Option, none, some}
 use lib.ListN.{length, getD, set}
 use Rattle.format.specs.Bits.{total, Bytes}
 use Rattle.format.specs.Field.{Field, table, fieldAt, isField, required, inRange, coded, scaledOf, codedOf, entryOf, codeOf, entries, codes}
+use Rattle.format.specs.Flags.{FlagTable}
 use Rattle.format.specs.Observation.{checksum, cardNumbers, size}
 use Rattle.format.specs.Report.{codesOf, observationOf}
 use Rattle.format.specs.Calls.{reads, edits, made, readField, setField, clearField, valueAt, withValue, valueNumber, fieldNumberCheck, valueCheck, requiredCheck}
@@ -55,9 +56,9 @@ coding-in f v c = go (inRange f v)
 
 -- ---- a code stored
 
-module _ (b : List ℕ) (bs : Bytes b) (k : ℕ) (low : 1 ≤ k) (high : k ≤ 46) where
+module _ (marks : FlagTable) (b : List ℕ) (bs : Bytes b) (k : ℕ) (low : 1 ≤ k) (high : k ≤ 46) where
   -- it is that of the entry e: the buffer is the layout of the observation with e
-  value-laid : (d : List ℕ) (e : Option Scaled) (c : Coded) → Accepted b → Bytes d → c ≡ codeOf (fieldAt k) e
+  value-laid : (d : List ℕ) (e : Option Scaled) (c : Coded) → Accepted marks b → Bytes d → c ≡ codeOf (fieldAt k) e
       → Carded b d (replaced b k (c .0)) → d ≡ layout b (size (observationOf b)) (withValue (observationOf b) k e)
   unfolding observationOf
   value-laid d e c j bd is r =
@@ -65,12 +66,12 @@ module _ (b : List ℕ) (bs : Bytes b) (k : ℕ) (low : 1 ≤ k) (high : k ≤ 4
       let code : c .0 ≡ codeOf (fieldAt k) e .0 = ap (λ (x : Coded). x .0) is in
       let card : replaced b k (c .0) ≡ cardNumbers (withValue (observationOf b) k e) =
       sym (value-numbers (observationOf b) k e long low high
-      ∙ rw (← code, codes-back b, numbers-taken b (observationOf b) bs j) refl) in
-      field-laid b d (observationOf b) (withValue (observationOf b) k e) bs j refl bd (r .long) (r .card ∙ card) (r .behind)
+      ∙ rw (← code, codes-back b, numbers-taken marks b (observationOf b) bs j) refl) in
+      field-laid marks b d (observationOf b) (withValue (observationOf b) k e) bs j refl bd (r .long) (r .card ∙ card) (r .behind)
 
 -- ---- the returns of the calls on fields, where k is a field
 
-module _ (b : List ℕ) (bs : Bytes b) (j : Accepted b) (k : ℕ) (t : Bool) (is : t ≡ isField k) (h : not t ≡ false) where
+module _ (marks : FlagTable) (b : List ℕ) (bs : Bytes b) (j : Accepted marks b) (k : ℕ) (t : Bool) (is : t ≡ isField k) (h : not t ≡ false) where
   known : (1 ≤ k) × (k ≤ 46)
   known = between-in 1 46 k t is h
 
@@ -78,50 +79,50 @@ module _ (b : List ℕ) (bs : Bytes b) (j : Accepted b) (k : ℕ) (t : Bool) (is
   known-passes = number-passes 1 46 k t is h
 
   field-gives : (c : Coded) → c .0 ≡ getD (codesOf b) (k - 1) 0 → (e : Option Scaled) → entryOf (fieldAt k) c ≡ e
-      → after (Answer.accepted (given Quantity.value (valueNumber e) ∷ [])) b [] ≡ effect b (reads (readField k))
+      → after (Answer.accepted (given Quantity.value (valueNumber e) ∷ [])) b [] ≡ effect marks b (reads (readField k))
   unfolding callChecks gives
   field-gives c at e there =
       ap (λ (x : Option Scaled). after (Answer.accepted (given Quantity.value (valueNumber x) ∷ [])) b []) (sym (value-is b k c (known .0) (known .1) at ∙ there))
-      ∙ read-done b (observationOf b) bs j (readField k) (no-check (fieldNumberCheck k) [] known-passes first-nil)
+      ∙ read-done marks b (observationOf b) bs j (readField k) (no-check (fieldNumberCheck k) [] known-passes first-nil)
 
   module _ (c : Coded) (at : c .0 ≡ getD (codesOf b) (k - 1) 0) (m : Bool) (missing : m ≡ eqb (c .0) 0) where
-    pub field-missing : m ≡ true → after (answerOf MissingValue) b [] ≡ effect b (reads (readField k))
+    pub field-missing : m ≡ true → after (answerOf MissingValue) b [] ≡ effect marks b (reads (readField k))
     field-missing e = field-gives c at none (entry-missing (fieldAt k) c (eqb-true (c .0) 0 (sym missing ∙ e)))
 
-    pub field-read : m ≡ false → (v : Scaled) → v ≡ scaledOf (fieldAt k) c → after (answerOf (Value v)) b [] ≡ effect b (reads (readField k))
+    pub field-read : m ≡ false → (v : Scaled) → v ≡ scaledOf (fieldAt k) c → after (answerOf (Value v)) b [] ≡ effect marks b (reads (readField k))
     field-read e v is = field-gives c at (some v) (entry-there (fieldAt k) c (eqb-false (c .0) 0 (sym missing ∙ e)) ∙ ap some (sym is))
 
   -- set and clear: a code stored, and the checks before 13 passed
   module _ (d : List ℕ) (bd : Bytes d) where
     pub field-set : (v : Scaled) (c : Coded) → Code c ≡ codingOf (fieldAt k) v → Carded b d (replaced b k (c .0))
-        → after (answerOf Done) d [] ≡ effect b (edits (setField k v))
+        → after (answerOf Done) d [] ≡ effect marks b (edits (setField k v))
     unfolding callChecks made gives codeOf
     field-set v c e r =
         let q = coding-code (fieldAt k) v c e in
-        edit-done b (observationOf b) bs j (setField k v) d
+        edit-done marks b (observationOf b) bs j (setField k v) d
         (no-check (fieldNumberCheck k) (valueCheck k v ∷ []) known-passes (no-check (valueCheck k v) [] (ap not (coding-in (fieldAt k) v c e)) first-nil))
-        (same-within b (observationOf b) bs j (withValue (observationOf b) k (some v)) refl)
-        (value-laid b bs k (known .0) (known .1) d (some v) c j bd (q .0) r)
+        (same-within marks b (observationOf b) bs j (withValue (observationOf b) k (some v)) refl)
+        (value-laid marks b bs k (known .0) (known .1) d (some v) c j bd (q .0) r)
 
     pub field-cleared : (q : Bool) → q ≡ required k → q ≡ false → (c : Coded) → c ≡ coded 0 → Carded b d (replaced b k (c .0))
-        → after (answerOf Done) d [] ≡ effect b (edits (clearField k))
+        → after (answerOf Done) d [] ≡ effect marks b (edits (clearField k))
     unfolding callChecks made gives codeOf
     field-cleared q eq free c e r =
-        edit-done b (observationOf b) bs j (clearField k) d
+        edit-done marks b (observationOf b) bs j (clearField k) d
         (no-check (fieldNumberCheck k) (requiredCheck k ∷ []) known-passes (no-check (requiredCheck k) [] (sym eq ∙ free) first-nil))
-        (same-within b (observationOf b) bs j (withValue (observationOf b) k none) refl)
-        (value-laid b bs k (known .0) (known .1) d none c j bd e r)
+        (same-within marks b (observationOf b) bs j (withValue (observationOf b) k none) refl)
+        (value-laid marks b bs k (known .0) (known .1) d none c j bd e r)
 
-  pub field-outside : (v : Scaled) → Outside ≡ codingOf (fieldAt k) v → after (refusal 9 k) b [] ≡ effect b (edits (setField k v))
+  pub field-outside : (v : Scaled) → Outside ≡ codingOf (fieldAt k) v → after (refusal 9 k) b [] ≡ effect marks b (edits (setField k v))
   unfolding callChecks outputsOf
   field-outside v e =
-      call-refuses b (observationOf b) (edits (setField k v)) bs j (fieldNumberCheck k ∷ []) (valueCheck k v) [] refl
+      call-refuses marks b (observationOf b) (edits (setField k v)) bs j (fieldNumberCheck k ∷ []) (valueCheck k v) [] refl
       (no-check (fieldNumberCheck k) [] known-passes first-nil) (ap not (coding-outside (fieldAt k) v e))
 
-  pub field-required : (q : Bool) → q ≡ required k → q ≡ true → after (refusal 10 k) b [] ≡ effect b (edits (clearField k))
+  pub field-required : (q : Bool) → q ≡ required k → q ≡ true → after (refusal 10 k) b [] ≡ effect marks b (edits (clearField k))
   unfolding callChecks outputsOf
   field-required q eq must =
-      call-refuses b (observationOf b) (edits (clearField k)) bs j (fieldNumberCheck k ∷ []) (requiredCheck k) [] refl
+      call-refuses marks b (observationOf b) (edits (clearField k)) bs j (fieldNumberCheck k ∷ []) (requiredCheck k) [] refl
       (no-check (fieldNumberCheck k) [] known-passes first-nil) (sym eq ∙ must)
 
 -- ---- the new checksum

@@ -8,18 +8,19 @@ ghost use Rattle.format.specs.Buffer.{after, effect};
 ghost use Rattle.format.specs.Reply.{answerOf};
 ghost use Rattle.card.specs.Answers.{Carded};
 ghost use Rattle.card.specs.Rows.{Row};
-ghost use Rattle.report.specs.Found.{Accepted};
+ghost use Rattle.report.specs.Found.{AcceptedBySome, Leaves};
 ghost use Rattle.call_fields.specs.Replaced.{replaced};
 use card::Coding;
 use format::Coded;
+use format::FlagTable;
 use format::Reply;
 use format::Scaled;
 use report::Inspected;
 
 // The value of field k of an accepted report.
 fn field_of(s: &[u8], k: usize) -> Reply
-    requires { ⌜ Accepted (now s) ⌝ }
-    ensures { λ r. ⌜ after (answerOf r) (now (s .entry)) [] ≡ effect (now (s .entry)) (reads (readField k)) ⌝ }
+    requires { ⌜ AcceptedBySome (now s) ⌝ }
+    ensures { λ r. ⌜ Leaves (now (s .entry)) (reads (readField k)) (after (answerOf r) (now (s .entry)) []) ⌝ }
 {
     if !numbers::within(1, 46, k) {
         return Reply::Refused(8, 0);
@@ -33,10 +34,10 @@ fn field_of(s: &[u8], k: usize) -> Reply
 }
 
 // The value of field k, or that it is missing.
-pub fn read_field(s: &[u8], k: usize) -> Reply
-    ensures { λ r. ⌜ after (answerOf r) (now (s .entry)) [] ≡ effect (now (s .entry)) (reads (readField k)) ⌝ }
+pub fn read_field(s: &[u8], k: usize, marks: &FlagTable) -> Reply
+    ensures { λ r. ⌜ after (answerOf r) (now (s .entry)) [] ≡ effect (now (marks .entry)) (now (s .entry)) (reads (readField k)) ⌝ }
 {
-    let i = report::inspect(&*s, 0);
+    let i = report::inspect(&*s, 0, *marks);
     match i {
         Inspected::Refused(n, p) => Reply::Refused(n, p),
         Inspected::Fine(_) => field_of(&*s, k),
@@ -45,7 +46,7 @@ pub fn read_field(s: &[u8], k: usize) -> Reply
 
 // Stores a code in field k, whose row is given, of an accepted report, and sets the checksum.
 fn replace(s: &mut [u8], k: usize, row: u64, c: Coded)
-    requires { ⌜ Accepted (now s) × (1 ≤ k) × (k ≤ 46) × Row k row × (c .0 ≤ fieldAt k .highest) ⌝ }
+    requires { ⌜ AcceptedBySome (now s) × (1 ≤ k) × (k ≤ 46) × Row k row × (c .0 ≤ fieldAt k .highest) ⌝ }
     ensures { λ _. ⌜ Carded (now (s .entry)) (now (s .exit)) (replaced (now (s .entry)) k (c .0)) ⌝ }
 {
     let n = card::checksum(s);
@@ -59,8 +60,8 @@ fn replace(s: &mut [u8], k: usize, row: u64, c: Coded)
 
 // Sets field k of an accepted report.
 fn set_field_of(s: &mut [u8], k: usize, v: Scaled) -> Reply
-    requires { ⌜ Accepted (now s) ⌝ }
-    ensures { λ r. ⌜ after (answerOf r) (now (s .exit)) [] ≡ effect (now (s .entry)) (edits (setField k v)) ⌝ }
+    requires { ⌜ AcceptedBySome (now s) ⌝ }
+    ensures { λ r. ⌜ Leaves (now (s .entry)) (edits (setField k v)) (after (answerOf r) (now (s .exit)) []) ⌝ }
 {
     if !numbers::within(1, 46, k) {
         return Reply::Refused(8, 0);
@@ -77,10 +78,10 @@ fn set_field_of(s: &mut [u8], k: usize, v: Scaled) -> Reply
 }
 
 // Sets field k to v.
-pub fn set_field(s: &mut [u8], k: usize, v: Scaled) -> Reply
-    ensures { λ r. ⌜ after (answerOf r) (now (s .exit)) [] ≡ effect (now (s .entry)) (edits (setField k v)) ⌝ }
+pub fn set_field(s: &mut [u8], k: usize, v: Scaled, marks: &FlagTable) -> Reply
+    ensures { λ r. ⌜ after (answerOf r) (now (s .exit)) [] ≡ effect (now (marks .entry)) (now (s .entry)) (edits (setField k v)) ⌝ }
 {
-    let i = report::inspect(s, 0);
+    let i = report::inspect(s, 0, *marks);
     match i {
         Inspected::Refused(n, p) => Reply::Refused(n, p),
         Inspected::Fine(_) => set_field_of(s, k, v),
@@ -89,8 +90,8 @@ pub fn set_field(s: &mut [u8], k: usize, v: Scaled) -> Reply
 
 // Clears field k of an accepted report.
 fn clear_field_of(s: &mut [u8], k: usize) -> Reply
-    requires { ⌜ Accepted (now s) ⌝ }
-    ensures { λ r. ⌜ after (answerOf r) (now (s .exit)) [] ≡ effect (now (s .entry)) (edits (clearField k)) ⌝ }
+    requires { ⌜ AcceptedBySome (now s) ⌝ }
+    ensures { λ r. ⌜ Leaves (now (s .entry)) (edits (clearField k)) (after (answerOf r) (now (s .exit)) []) ⌝ }
 {
     if !numbers::within(1, 46, k) {
         return Reply::Refused(8, 0);
@@ -104,10 +105,10 @@ fn clear_field_of(s: &mut [u8], k: usize) -> Reply
 }
 
 // Makes field k missing.
-pub fn clear_field(s: &mut [u8], k: usize) -> Reply
-    ensures { λ r. ⌜ after (answerOf r) (now (s .exit)) [] ≡ effect (now (s .entry)) (edits (clearField k)) ⌝ }
+pub fn clear_field(s: &mut [u8], k: usize, marks: &FlagTable) -> Reply
+    ensures { λ r. ⌜ after (answerOf r) (now (s .exit)) [] ≡ effect (now (marks .entry)) (now (s .entry)) (edits (clearField k)) ⌝ }
 {
-    let i = report::inspect(s, 0);
+    let i = report::inspect(s, 0, *marks);
     match i {
         Inspected::Refused(n, p) => Reply::Refused(n, p),
         Inspected::Fine(_) => clear_field_of(s, k),

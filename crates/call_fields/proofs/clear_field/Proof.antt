@@ -16,20 +16,20 @@ enum-told : tie.Need-enum-told
 enum-told c = search needs
 
 clear-field-of-requires : tie.Need-clear-field-of-requires
-clear-field-of-requires c κs = inspect-found _ _ _ (c .before .before .before .inspect .ensures) _ (c .before .enum-told .given .1) .judged
+clear-field-of-requires c κs = (_, inspect-found _ _ _ _ (c .before .before .before .inspect .ensures) _ (c .before .enum-told .given .1) .judged)
 
 same-length : tie.Need-same-length
 same-length c = search needs
 
 returns : tie.Need-returns
 unfolding outputsOf
-returns c = inspect-refused _ _ _ (c .before .before .before .inspect .ensures) _ _ (edits (clearField (c .before .before .before .before .before .before .args .k))) (c .before .i .given .1)
+returns c = inspect-refused _ _ _ _ (c .before .before .before .inspect .ensures) _ _ (edits (clearField (c .before .before .before .before .before .before .before .args .k))) (c .before .i .given .1)
 
 same-length-2 : tie.Need-same-length-2
 same-length-2 c = search needs
 
 returns-2 : tie.Need-returns-2
-returns-2 c = search needs
+returns-2 c = c .before .before .clear-field-of .ensures _ (inspect-found _ _ _ _ (c .before .before .before .before .before .before .inspect .ensures) _ (c .before .before .before .before .enum-told .given .1) .judged)
 
 pub clear-field-spec : {M : Type 1} → statement M
 clear-field-spec =

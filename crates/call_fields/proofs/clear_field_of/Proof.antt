@@ -17,9 +17,9 @@ within-requires c κs = search needs
 
 returns : tie.Need-returns
 unfolding callChecks outputsOf
-returns c =
+returns c marks j =
     let args = c .before .before .before .args in
-    number-refuses _ (observationOf (now (args .s))) (edits (clearField (args .k))) (λ i. c .before .before .slice-known .given i .fits) (c .before .before .before .pre)
+    number-refuses _ _ (observationOf (now (args .s))) (edits (clearField (args .k))) (λ i. c .before .before .slice-known .given i .fits) j
     1 46 (args .k) _ refl _ (c .before .within .ensures) (c .if1 .taken)
 
 row-requires : tie.Need-row-requires
@@ -29,12 +29,11 @@ is-required-requires : tie.Need-is-required-requires
 is-required-requires c κs = search needs
 
 returns-2 : tie.Need-returns-2
-returns-2 c =
+returns-2 c marks j =
     let args = c .before .before .before .before .before .before .args in
-    let pre = c .before .before .before .before .before .before .pre in
     let slice-known = c .before .before .before .before .before .slice-known in
     let within = c .before .before .before .before .within in
-    field-required _ (λ i. slice-known .given i .fits) pre (args .k) _ (within .ensures) (c .before .before .before .if1 .left) _ (c .before .is-required .ensures)
+    field-required _ _ (λ i. slice-known .given i .fits) j (args .k) _ (within .ensures) (c .before .before .before .if1 .left) _ (c .before .is-required .ensures)
     (c .if2 .taken)
 
 replace-requires : tie.Need-replace-requires
@@ -50,15 +49,14 @@ same-length : tie.Need-same-length
 same-length c = search needs
 
 returns-3 : tie.Need-returns-3
-returns-3 c =
+returns-3 c marks j =
     let args = c .before .before .before .before .before .before .before .before .before .before .args in
-    let pre = c .before .before .before .before .before .before .before .before .before .before .pre in
     let slice-known = c .before .before .before .before .before .before .before .before .before .slice-known in
     let within = c .before .before .before .before .before .before .before .before .within in
     let if1 = c .before .before .before .before .before .before .before .if1 in
     let is-required = c .before .before .before .before .before .is-required in
     let if2 = c .before .before .before .before .if2 in
-    field-cleared _ (λ i. slice-known .given i .fits) pre (args .k) _ (within .ensures) (if1 .left) _ (λ i. c .slice-known2 .given i .fits) _ (is-required .ensures)
+    field-cleared _ _ (λ i. slice-known .given i .fits) j (args .k) _ (within .ensures) (if1 .left) _ (λ i. c .slice-known2 .given i .fits) _ (is-required .ensures)
     (if2 .left) _ refl (c .before .before .replace .ensures)
 
 pub clear-field-of-spec : {M : Type 1} → statement M

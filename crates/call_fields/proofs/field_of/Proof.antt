@@ -21,38 +21,36 @@ within-requires c κs = search needs
 
 returns : tie.Need-returns
 unfolding callChecks outputsOf
-returns c =
+returns c marks j =
     let args = c .before .before .before .args in
-    number-refuses _ (observationOf (now (args .s))) (reads (readField (args .k))) (λ i. c .before .before .shared-slice-known .given i .fits) (c .before .before .before .pre)
+    number-refuses _ _ (observationOf (now (args .s))) (reads (readField (args .k))) (λ i. c .before .before .shared-slice-known .given i .fits) j
     1 46 (args .k) [] refl _ (c .before .within .ensures) (c .if1 .taken)
 
 row-requires : tie.Need-row-requires
 row-requires c κs = between-in 1 46 (c .before .before .before .args .k) _ (c .before .within .ensures) (c .if1 .left)
 
 code-in-requires : tie.Need-code-in-requires
-code-in-requires c κs = row-window (c .before .before .before .before .args .k) _ _ (c .row .ensures) (passes _ _ (c .before .before .before .before .pre) .0 .long)
+code-in-requires c κs = row-window (c .before .before .before .before .args .k) _ _ (c .row .ensures) (passes _ _ _ (c .before .before .before .before .pre .1) .0 .long)
 
 is-missing-requires : tie.Need-is-missing-requires
 is-missing-requires c κs = search needs
 
 returns-2 : tie.Need-returns-2
-returns-2 c =
+returns-2 c marks j =
     let args = c .before .before .before .before .before .before .before .args in
-    let pre = c .before .before .before .before .before .before .before .pre in
     let shared-slice-known = c .before .before .before .before .before .before .shared-slice-known in
     let within = c .before .before .before .before .before .within in
     let if1 = c .before .before .before .before .if1 in
     let h = between-in 1 46 (args .k) _ (within .ensures) (if1 .left) in
     let at = c .before .before .code-in .ensures ∙ row-at (now (args .s)) (args .k) _ (c .before .before .before .row .ensures) (h .0) (h .1) in
-    field-missing _ (λ i. shared-slice-known .given i .fits) pre (args .k) _ (within .ensures) (if1 .left) _ at _ (c .before .is-missing .ensures) (c .if2 .taken)
+    field-missing _ _ (λ i. shared-slice-known .given i .fits) j (args .k) _ (within .ensures) (if1 .left) _ at _ (c .before .is-missing .ensures) (c .if2 .taken)
 
 scaled-in-requires : tie.Need-scaled-in-requires
 scaled-in-requires c κs = search needs
 
 returns-3 : tie.Need-returns-3
-returns-3 c =
+returns-3 c marks j =
     let args = c .before .before .before .before .before .before .before .before .args in
-    let pre = c .before .before .before .before .before .before .before .before .pre in
     let shared-slice-known = c .before .before .before .before .before .before .before .shared-slice-known in
     let within = c .before .before .before .before .before .before .within in
     let if1 = c .before .before .before .before .before .if1 in
@@ -60,7 +58,7 @@ returns-3 c =
     let code-in = c .before .before .before .code-in in
     let h = between-in 1 46 (args .k) _ (within .ensures) (if1 .left) in
     let at = code-in .ensures ∙ row-at (now (args .s)) (args .k) _ (row .ensures) (h .0) (h .1) in
-    field-read _ (λ i. shared-slice-known .given i .fits) pre (args .k) _ (within .ensures) (if1 .left) _ at _ (c .before .before .is-missing .ensures)
+    field-read _ _ (λ i. shared-slice-known .given i .fits) j (args .k) _ (within .ensures) (if1 .left) _ at _ (c .before .before .is-missing .ensures)
     (c .before .if2 .left) _
     (c .scaled-in .ensures ∙ ap (λ (f : Field). scaledOf f (code-in .result)) (field-row (args .k) _ (row .ensures) (h .0) (h .1)))
 

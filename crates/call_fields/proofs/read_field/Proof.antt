@@ -16,14 +16,14 @@ enum-told : tie.Need-enum-told
 enum-told c = search needs
 
 field-of-requires : tie.Need-field-of-requires
-field-of-requires c κs = inspect-found _ _ _ (c .before .before .inspect .ensures) _ (c .enum-told .given .1) .judged
+field-of-requires c κs = (_, inspect-found _ _ _ _ (c .before .before .inspect .ensures) _ (c .enum-told .given .1) .judged)
 
 returns : tie.Need-returns
 unfolding outputsOf
-returns c = inspect-refused _ _ _ (c .before .before .before .inspect .ensures) _ _ (reads (readField (c .before .before .before .before .before .args .k))) (c .before .i .given .1)
+returns c = inspect-refused _ _ _ _ (c .before .before .before .inspect .ensures) _ _ (reads (readField (c .before .before .before .before .before .before .args .k))) (c .before .i .given .1)
 
 returns-2 : tie.Need-returns-2
-returns-2 c = search needs
+returns-2 c = c .field-of .ensures _ (inspect-found _ _ _ _ (c .before .before .before .inspect .ensures) _ (c .before .enum-told .given .1) .judged)
 
 pub read-field-spec : {M : Type 1} → statement M
 read-field-spec =

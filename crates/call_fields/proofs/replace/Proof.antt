@@ -18,16 +18,16 @@ use Rattle.call_fields.proofs.replace.Statement.{statement}
 use Rattle.call_fields.proofs.replace.Tie as tie
 
 checksum-requires : tie.Need-checksum-requires
-checksum-requires c κs = passes _ _ (c .before .before .pre .0) .0 .long
+checksum-requires c κs = passes _ _ _ (c .before .before .pre .0 .1) .0 .long
 
 code-in-requires : tie.Need-code-in-requires
-code-in-requires c κs = row-window (c .before .before .before .before .args .k) _ _ (c .before .before .before .before .pre .3) (passes _ _ (c .before .before .before .before .pre .0) .0 .long)
+code-in-requires c κs = row-window (c .before .before .before .before .args .k) _ _ (c .before .before .before .before .pre .3) (passes _ _ _ (c .before .before .before .before .pre .0 .1) .0 .long)
 
 store-in-requires : tie.Need-store-in-requires
 store-in-requires c κs =
     let args = c .before .before .before .before .before .before .args in
     let pre = c .before .before .before .before .before .before .pre in
-    (row-window (args .k) _ _ (pre .3) (passes _ _ (pre .0) .0 .long), row-lt (args .k) _ _ (pre .3) (pre .1) (pre .2) (pre .4))
+    (row-window (args .k) _ _ (pre .3) (passes _ _ _ (pre .0 .1) .0 .long), row-lt (args .k) _ _ (pre .3) (pre .1) (pre .2) (pre .4))
 
 add-set-checksum : tie.Need-add-set-checksum
 add-set-checksum c = search needs
@@ -47,7 +47,7 @@ add-set-checksum-2 c = search needs
 set-checksum-requires : tie.Need-set-checksum-requires
 set-checksum-requires c κs =
     let pre = c .before .before .before .before .before .before .before .before .before .before .pre in
-    omega (arith, c .before .before .before .store-in .ensures .1, passes _ _ (pre .0) .0 .long)
+    omega (arith, c .before .before .before .store-in .ensures .1, passes _ _ _ (pre .0 .1) .0 .long)
 
 same-length : tie.Need-same-length
 same-length c = search needs
@@ -65,7 +65,7 @@ returns c =
     let b : List ℕ = now (args .s) in
     let k : ℕ = args .k in
     let x : ℕ = args .c .0 in
-    let p = passes _ _ (pre .0) .0 in
+    let p = passes _ _ _ (pre .0 .1) .0 in
     let old = code-in .ensures ∙ row-at b k _ (pre .3) (pre .1) (pre .2) in
     let small : code-in .result .0 < 65536 = search needs in
     let sum = new-checksum b _ k (checksum .ensures .0 ∙ p .sum) (pre .1) (pre .2) (code-in .result) (args .c) old small in

@@ -16,7 +16,7 @@ enum-told : tie.Need-enum-told
 enum-told c = search needs
 
 set-field-of-requires : tie.Need-set-field-of-requires
-set-field-of-requires c κs = inspect-found _ _ _ (c .before .before .before .inspect .ensures) _ (c .before .enum-told .given .1) .judged
+set-field-of-requires c κs = (_, inspect-found _ _ _ _ (c .before .before .before .inspect .ensures) _ (c .before .enum-told .given .1) .judged)
 
 same-length : tie.Need-same-length
 same-length c = search needs
@@ -24,14 +24,14 @@ same-length c = search needs
 returns : tie.Need-returns
 unfolding outputsOf
 returns c =
-    let args = c .before .before .before .before .before .before .args in
-    inspect-refused _ _ _ (c .before .before .before .inspect .ensures) _ _ (edits (setField (args .k) (args .v))) (c .before .i .given .1)
+    let args = c .before .before .before .before .before .before .before .args in
+    inspect-refused _ _ _ _ (c .before .before .before .inspect .ensures) _ _ (edits (setField (args .k) (args .v))) (c .before .i .given .1)
 
 same-length-2 : tie.Need-same-length-2
 same-length-2 c = search needs
 
 returns-2 : tie.Need-returns-2
-returns-2 c = search needs
+returns-2 c = c .before .before .set-field-of .ensures _ (inspect-found _ _ _ _ (c .before .before .before .before .before .before .inspect .ensures) _ (c .before .before .before .before .enum-told .given .1) .judged)
 
 pub set-field-spec : {M : Type 1} → statement M
 set-field-spec =

@@ -20,9 +20,9 @@ within-requires c κs = search needs
 
 returns : tie.Need-returns
 unfolding callChecks outputsOf
-returns c =
+returns c marks j =
     let args = c .before .before .before .args in
-    number-refuses _ (observationOf (now (args .s))) (edits (setField (args .k) (args .v))) (λ i. c .before .before .slice-known .given i .fits) (c .before .before .before .pre)
+    number-refuses _ _ (observationOf (now (args .s))) (edits (setField (args .k) (args .v))) (λ i. c .before .before .slice-known .given i .fits) j
     1 46 (args .k) _ refl _ (c .before .within .ensures) (c .if1 .taken)
 
 row-requires : tie.Need-row-requires
@@ -55,14 +55,13 @@ replace-requires c κs =
     )
 
 returns-2 : tie.Need-returns-2
-returns-2 c =
+returns-2 c marks j =
     let args = c .before .before .before .before .before .before .before .args in
-    let pre = c .before .before .before .before .before .before .before .pre in
     let slice-known = c .before .before .before .before .before .before .slice-known in
     let within = c .before .before .before .before .before .within in
     let if1 = c .before .before .before .before .if1 in
     let h = between-in 1 46 (args .k) _ (within .ensures) (if1 .left) in
-    field-outside _ (λ i. slice-known .given i .fits) pre (args .k) _ (within .ensures) (if1 .left) (args .v)
+    field-outside _ _ (λ i. slice-known .given i .fits) j (args .k) _ (within .ensures) (if1 .left) (args .v)
     (sym (c .enum-told .given .1) ∙ c .before .before .coded-in .ensures ∙ ap (λ (f : Field). codingOf f (args .v))
     (field-row (args .k) _ (c .before .before .before .row .ensures) (h .0) (h .1)))
 
@@ -70,9 +69,8 @@ same-length : tie.Need-same-length
 same-length c = search needs
 
 returns-3 : tie.Need-returns-3
-returns-3 c =
+returns-3 c marks j =
     let args = c .before .before .before .before .before .before .before .before .before .before .before .before .args in
-    let pre = c .before .before .before .before .before .before .before .before .before .before .before .before .pre in
     let slice-known = c .before .before .before .before .before .before .before .before .before .before .before .slice-known in
     let within = c .before .before .before .before .before .before .before .before .before .before .within in
     let if1 = c .before .before .before .before .before .before .before .before .before .if1 in
@@ -80,7 +78,7 @@ returns-3 c =
     let coded-in = c .before .before .before .before .before .before .before .coded-in in
     let the-g = c .before .before .before .before .before .g in
     let h = between-in 1 46 (args .k) _ (within .ensures) (if1 .left) in
-    field-set _ (λ i. slice-known .given i .fits) pre (args .k) _ (within .ensures) (if1 .left) _ (λ i. c .slice-known2 .given i .fits) (args .v) _
+    field-set _ _ (λ i. slice-known .given i .fits) j (args .k) _ (within .ensures) (if1 .left) _ (λ i. c .slice-known2 .given i .fits) (args .v) _
     (sym (the-g .given .1) ∙ coded-in .ensures ∙ ap (λ (f : Field). codingOf f (args .v)) (field-row (args .k) _ (row .ensures) (h .0) (h .1)))
     (c .before .before .replace .ensures)
 
