@@ -13,7 +13,7 @@ use borrow.Author.Tests.{eq-eqb, ne-eqb, not-false, not-true}
 use Rattle.format.specs.Order.{first, between}
 use Rattle.format.specs.Bits.{Bytes}
 use Rattle.format.specs.Nibbles.{attachment, nibbles, attachmentNibbles, tailNibbles}
-use Rattle.format.specs.Flags.{isFlag, flagInRange, qualityCode, flagAt, flagBody, withFlag}
+use Rattle.format.specs.Flags.{FlagTable, isFlag, permitted, flagInRange, flagFits, qualityCode, flagAt, flagBody, withFlag}
 use Rattle.format.specs.Observation.{size}
 use Rattle.format.specs.Report.{observationOf, bodyValid}
 use Rattle.format.specs.Calls.{reads, edits, made, readFlag, setFlag, clearFlag, putIn, withContent, content, flagNumber, flagNumberCheck, flagValueCheck, standsCheck}
@@ -21,8 +21,9 @@ use Rattle.format.specs.Calls.{callChecks, Quantity, given, gives, outputsOf, A
 use Rattle.format.specs.Buffer.{layout, after, effect}
 use Rattle.format.specs.Reply.{refusal, answerOf}
 use Rattle.format.specs.declared.Reply.the-variants.{Done, Flag, MissingFlag}
+use Rattle.laws.proofs.Sequences.{and-true}
 use Rattle.laws.proofs.Order.{between-in, number-passes, first-nil, no-check}
-use Rattle.laws.proofs.Flags.{flagFits, missing-fits, range-fits, valid-flags, flag-set-length, flag-set-valid, flag-set-nibbles}
+use Rattle.laws.proofs.Flags.{missing-fits, range-fits, valid-flags, flag-set-length, flag-set-valid, flag-set-nibbles}
 use Rattle.laws.proofs.Attachments.{FineAt, fine-nibbles, fine-count, tail-append}
 use Rattle.laws.proofs.AttachmentEdits.{content-fine, put-fine, put-placed, put-size, put-length}
 use Rattle.laws.proofs.Report.{same-within}
@@ -31,7 +32,8 @@ use Rattle.laws.proofs.Effects.{call-refuses, read-done, edit-done}
 use Rattle.report.specs.declared.Report.{Report}
 use Rattle.report.specs.declared.Inspected.{Inspected}
 use Rattle.report.specs.Answers.{inspected}
-use Rattle.report.proofs.Found.{inspect-found, good, al-is, present, split, place-is, content-is, spot, reach, stands-passes}
+use Rattle.report.specs.Found.{Accepted}
+use Rattle.report.proofs.Found.{inspect-found, found-by, good, al-is, present, split, place-is, content-is, spot, reach, stands-passes}
 use Rattle.call_flags.specs.Flags.{FlagsAt, flagged}
 
 -- ---- three nibbles stored
@@ -86,85 +88,93 @@ module _ (ns : List ℕ) (at j v : ℕ) (h : at + 16 ≤ length ns) (low : 1 ≤
 
 -- ---- the returns of the calls on flags
 
-pub flags-found : (b : List ℕ) (r : Report) (x : Inspected) → x ≡ inspected b 1 → x ≡ Inspected.Fine r → FlagsAt b (r .place)
-flags-found b r x is e = record { report = r; found = inspect-found b 1 x is r e; is = refl }
+pub flags-found : (marks : FlagTable) (b : List ℕ) (r : Report) (x : Inspected) → x ≡ inspected marks b 1 → x ≡ Inspected.Fine r → FlagsAt marks b (r .place)
+flags-found marks b r x is e = record { report = r; found = inspect-found marks b 1 x is r e; is = refl }
 
-pub value-passes : (j v : ℕ) (u : Bool) → u ≡ between 1 10 v → not u ≡ false → flagValueCheck j v .fits ≡ false
-value-passes j v u eu hu = rw (sym eu ∙ not-false u hu)
+-- under another table that accepts the report
+pub flags-by : {marks other : FlagTable} {b : List ℕ} {place : ℕ} → FlagsAt marks b place → Accepted other b → FlagsAt other b place
+flags-by f j = record { report = f .report; found = found-by (f .found) j; is = f .is }
 
-module _ (b : List ℕ) (bs : Bytes b) (place : ℕ) (f : FlagsAt b place) where
-  -- 9: the value is not one of the ten
-  pub value-refuses : (j v : ℕ) (t u : Bool) → t ≡ isFlag j → not t ≡ false → u ≡ between 1 10 v → not u ≡ true → after (refusal 9 j) b [] ≡ effect b (edits (setFlag j v))
+pub value-passes : (marks : FlagTable) (j v : ℕ) (u : Bool) → u ≡ flagInRange marks j v → not u ≡ false → flagValueCheck marks j v .fits ≡ false
+value-passes marks j v u eu hu = rw (sym eu ∙ not-false u hu)
+
+-- a value in range is one of the ten
+pub in-ten : (marks : FlagTable) (j v : ℕ) (u : Bool) → u ≡ flagInRange marks j v → not u ≡ false → (1 ≤ v) × (v ≤ 10)
+in-ten marks j v u eu hu = let e = and-true (between 1 10 v) (permitted marks j v) (sym eu ∙ not-false u hu) in between-in 1 10 v true (sym (e .0)) refl
+
+module _ (marks : FlagTable) (b : List ℕ) (bs : Bytes b) (place : ℕ) (f : FlagsAt marks b place) where
+  -- 9: the value is out of range, or not permitted
+  pub value-refuses : (j v : ℕ) (t u : Bool) → t ≡ isFlag j → not t ≡ false → u ≡ flagInRange marks j v → not u ≡ true → after (refusal 9 j) b [] ≡ effect marks b (edits (setFlag j v))
   unfolding callChecks outputsOf
   value-refuses j v t u is h eu hu =
-      call-refuses b (observationOf b) (edits (setFlag j v)) bs (f .found .judged) (flagNumberCheck j ∷ []) (flagValueCheck j v) _ refl
+      call-refuses marks b (observationOf b) (edits (setFlag j v)) bs (f .found .judged) (flagNumberCheck j ∷ []) (flagValueCheck marks j v) _ refl
       (no-check (flagNumberCheck j) [] (number-passes 1 14 j t is h) first-nil) (rw (sym eu ∙ not-true u hu))
 
   module _ (there : place ≡ 0 → ⊥) where
     stands : f .report .place ≡ 0 → ⊥
     stands e = there (f .is ∙ e)
 
-    fine : FineAt (attachment 1 (content (observationOf b) 1))
-    fine = content-fine 1 (good bs (f .found) .fine) (present bs (f .found) stands)
+    fine : FineAt marks (attachment 1 (content (observationOf b) 1))
+    fine = content-fine marks 1 (good marks bs (f .found) .fine) (present marks bs (f .found) stands)
 
     body-long : length (content (observationOf b) 1) ≡ 16
     unfolding bodyValid
-    body-long = valid-flags (content (observationOf b) 1) (fine .valid) .long
+    body-long = valid-flags marks (content (observationOf b) 1) (fine .valid) .long
 
     -- the sixteen nibbles
     flags-body : take 16 (drop (place + 3) (nibbles b)) ≡ content (observationOf b) 1
     flags-body =
-        ap₂ (λ (n m : ℕ). take n (drop (m + 3) (nibbles b))) (sym (al-is bs (f .found) ∙ body-long)) (f .is)
-        ∙ content-is bs (f .found) (spot bs (f .found) stands)
+        ap₂ (λ (n m : ℕ). take n (drop (m + 3) (nibbles b))) (sym (al-is marks bs (f .found) ∙ body-long)) (f .is)
+        ∙ content-is marks bs (f .found) (spot marks bs (f .found) stands)
 
     -- they stand in the buffer
     pub body-within : (place + 19 ≤ 2 * length b) × (place + 19 ≤ 3706)
     body-within =
-        let r = reach bs (f .found) stands in
-        let l = al-is bs (f .found) in
+        let r = reach marks bs (f .found) stands in
+        let l = al-is marks bs (f .found) in
         let k = body-long in
         let i = f .is in
         (omega arith, omega arith)
 
     -- sixteen others in their place
     module _ (ns : List ℕ) (l : length ns ≡ 16) where
-      body-edit : Edit b (putIn 1 ns (observationOf b .attachments)) ns (place + 3) 16 (75 + length (tailNibbles (observationOf b .attachments))) (length (observationOf b .attachments))
+      body-edit : Edit marks b (putIn 1 ns (observationOf b .attachments)) ns (place + 3) 16 (75 + length (tailNibbles (observationOf b .attachments))) (length (observationOf b .attachments))
       unfolding tailNibbles attachmentNibbles
       body-edit =
-          let p = spot bs (f .found) stands in
+          let p = spot marks bs (f .found) stands in
           let header : List ℕ = 1 ∷ 0 ∷ 1 ∷ [] in
           let old = body-long in record {
             judged = f .found .judged;
             before = tailNibbles (p .before) ++ (1 ∷ 0 ∷ 1 ∷ []);
             gone = content (observationOf b) 1;
             behind = tailNibbles (p .after);
-            from = split bs (f .found) p ∙ ap (λ (n : ℕ). tailNibbles (p .before) ++ ((n / 16 ∷ n % 16 ∷ 1 ∷ []) ++ (content (observationOf b) 1 ++ tailNibbles (p .after)))) old
+            from = split marks bs (f .found) p ∙ ap (λ (n : ℕ). tailNibbles (p .before) ++ ((n / 16 ∷ n % 16 ∷ 1 ∷ []) ++ (content (observationOf b) 1 ++ tailNibbles (p .after)))) old
                 ∙ sym (append-assoc (tailNibbles (p .before)) header (content (observationOf b) 1 ++ tailNibbles (p .after)));
             to = ap tailNibbles (put-placed p ns) ∙ tail-append (p .before) (attachment 1 ns ∷ p .after)
                 ∙ ap (λ (n : ℕ). tailNibbles (p .before) ++ ((n / 16 ∷ n % 16 ∷ 1 ∷ []) ++ (ns ++ tailNibbles (p .after)))) l
                 ∙ sym (append-assoc (tailNibbles (p .before)) header (ns ++ tailNibbles (p .after)));
-            at-is = omega (arith, f .is, place-is bs (f .found) p, length-append (tailNibbles (p .before)) header);
+            at-is = omega (arith, f .is, place-is marks bs (f .found) p, length-append (tailNibbles (p .before)) header);
             old-is = sym old;
             end-is = refl;
             count-is = sym (put-length p ns);
-            count-lt = omega (arith, fine-count (good bs (f .found) .fine));
+            count-lt = omega (arith, fine-count marks (good marks bs (f .found) .fine));
           }
 
-      body-laid : (d : List ℕ) → Bytes d → length d ≡ length b → FineAt (attachment 1 ns)
+      body-laid : (d : List ℕ) → Bytes d → length d ≡ length b → FineAt marks (attachment 1 ns)
           → nibbles d ≡ take (place + 3) (nibbles b) ++ (ns ++ drop (place + 3 + 16) (nibbles b))
           → d ≡ layout b (size (observationOf b)) (withContent (observationOf b) 1 ns)
       body-laid d bd same fits written =
-          edit-kept bs body-edit d (written ∙ spliced-same bs body-edit l)
-          (fine-nibbles (put-fine 1 ns fits (good bs (f .found) .fine))) bd same (put-length (spot bs (f .found) stands) ns)
+          edit-kept marks bs body-edit d (written ∙ spliced-same marks bs body-edit l)
+          (fine-nibbles marks (put-fine marks 1 ns fits (good marks bs (f .found) .fine))) bd same (put-length (spot marks bs (f .found) stands) ns)
 
     module _ (j : ℕ) (t : Bool) (is : t ≡ isFlag j) (h : not t ≡ false) where
       known : (1 ≤ j) × (j ≤ 14)
       known = between-in 1 14 j t is h
 
       passes : first (flagNumberCheck j ∷ standsCheck (observationOf b) 1 ∷ []) ≡ none
-      passes = no-check (flagNumberCheck j) (standsCheck (observationOf b) 1 ∷ []) (number-passes 1 14 j t is h) (stands-passes bs (f .found) stands)
+      passes = no-check (flagNumberCheck j) (standsCheck (observationOf b) 1 ∷ []) (number-passes 1 14 j t is h) (stands-passes marks bs (f .found) stands)
 
-      flag-gives : (v : ℕ) → v ≡ getD (nibbles b) (place + 3 + (j - 1)) 0 → after (Answer.accepted (given Quantity.flag (flagNumber v) ∷ [])) b [] ≡ effect b (reads (readFlag j))
+      flag-gives : (v : ℕ) → v ≡ getD (nibbles b) (place + 3 + (j - 1)) 0 → after (Answer.accepted (given Quantity.flag (flagNumber v) ∷ [])) b [] ≡ effect marks b (reads (readFlag j))
       unfolding callChecks made gives
       flag-gives v e =
           let k = known in
@@ -172,18 +182,18 @@ module _ (b : List ℕ) (bs : Bytes b) (place : ℕ) (f : FlagsAt b place) where
           e ∙ sym (getD-take 16 (drop (place + 3) (nibbles b)) (j - 1) 0 (omega arith) ∙ getD-drop (place + 3) (nibbles b) (j - 1) 0)
           ∙ ap (λ (x : List ℕ). getD x (j - 1) 0) flags-body in
           ap (λ (x : ℕ). after (Answer.accepted (given Quantity.flag (flagNumber x) ∷ [])) b []) at
-          ∙ read-done b (observationOf b) bs (f .found .judged) (readFlag j) passes
+          ∙ read-done marks b (observationOf b) bs (f .found .judged) (readFlag j) passes
 
       module _ (v : ℕ) (at : v ≡ getD (nibbles b) (place + 3 + (j - 1)) 0) where
-        pub flag-missing : v ≡ 0 → after (answerOf MissingFlag) b [] ≡ effect b (reads (readFlag j))
+        pub flag-missing : v ≡ 0 → after (answerOf MissingFlag) b [] ≡ effect marks b (reads (readFlag j))
         flag-missing e = rw (eq-eqb v 0 e) at (flag-gives v at)
 
-        pub flag-read : (v ≡ 0 → ⊥) → after (answerOf (Flag v)) b [] ≡ effect b (reads (readFlag j))
+        pub flag-read : (v ≡ 0 → ⊥) → after (answerOf (Flag v)) b [] ≡ effect marks b (reads (readFlag j))
         flag-read n = rw (ne-eqb v 0 n) at (flag-gives v at)
 
       -- set and clear
       module _ (d : List ℕ) (bd : Bytes d) (same : length d ≡ length b) (v : ℕ) (written : nibbles d ≡ flagged (nibbles b) (place + 3) j v) where
-        flag-laid : flagFits j v ≡ true → d ≡ layout b (size (observationOf b)) (withContent (observationOf b) 1 (withFlag (content (observationOf b) 1) j v))
+        flag-laid : flagFits marks j v ≡ true → d ≡ layout b (size (observationOf b)) (withContent (observationOf b) 1 (withFlag (content (observationOf b) 1) j v))
         unfolding flagged bodyValid
         flag-laid fits =
             let old = content (observationOf b) 1 in
@@ -192,31 +202,31 @@ module _ (b : List ℕ) (bs : Bytes b) (place : ℕ) (f : FlagsAt b place) where
             (record {
               filled = omega arith;
               short = omega arith;
-              nibbles = flag-set-nibbles old j v (fine .valid) (known .0) fits;
+              nibbles = flag-set-nibbles old j v marks (fine .valid) (known .0) fits;
               low = omega arith;
               high = omega arith;
-              valid = flag-set-valid old j v (fine .valid) (known .0) fits;
+              valid = flag-set-valid old j v marks (fine .valid) (known .0) fits;
             })
             (written ∙ rw flags-body refl)
 
         flag-fits : size (withContent (observationOf b) 1 (withFlag (content (observationOf b) 1) j v)) ≤ length b
         flag-fits =
             let old = content (observationOf b) 1 in
-            let p = spot bs (f .found) stands in
-            same-within b (observationOf b) bs (f .found .judged) (withContent (observationOf b) 1 (withFlag old j v))
+            let p = spot marks bs (f .found) stands in
+            same-within marks b (observationOf b) bs (f .found .judged) (withContent (observationOf b) 1 (withFlag old j v))
             (omega (arith, put-size p (withFlag old j v), flag-set-length old j v body-long, body-long))
 
-        pub flag-set : (u : Bool) → u ≡ between 1 10 v → not u ≡ false → after (answerOf Done) d [] ≡ effect b (edits (setFlag j v))
+        pub flag-set : (u : Bool) → u ≡ flagInRange marks j v → not u ≡ false → after (answerOf Done) d [] ≡ effect marks b (edits (setFlag j v))
         unfolding callChecks made gives
         flag-set u eu hu =
-            let inside : flagInRange j v ≡ true = rw (sym eu ∙ not-false u hu) in
-            edit-done b (observationOf b) bs (f .found .judged) (setFlag j v) d
-            (no-check (flagNumberCheck j) (flagValueCheck j v ∷ standsCheck (observationOf b) 1 ∷ []) (number-passes 1 14 j t is h)
-            (no-check (flagValueCheck j v) (standsCheck (observationOf b) 1 ∷ []) (value-passes j v u eu hu) (stands-passes bs (f .found) stands)))
-            flag-fits (flag-laid (range-fits j v inside))
+            let inside = sym eu ∙ not-false u hu in
+            edit-done marks b (observationOf b) bs (f .found .judged) (setFlag j v) d
+            (no-check (flagNumberCheck j) (flagValueCheck marks j v ∷ standsCheck (observationOf b) 1 ∷ []) (number-passes 1 14 j t is h)
+            (no-check (flagValueCheck marks j v) (standsCheck (observationOf b) 1 ∷ []) (value-passes marks j v u eu hu) (stands-passes marks bs (f .found) stands)))
+            flag-fits (flag-laid (range-fits marks j v inside))
 
-        pub flag-cleared : v ≡ 0 → after (answerOf Done) d [] ≡ effect b (edits (clearFlag j))
+        pub flag-cleared : v ≡ 0 → after (answerOf Done) d [] ≡ effect marks b (edits (clearFlag j))
         unfolding callChecks made gives
         flag-cleared e =
-            edit-done b (observationOf b) bs (f .found .judged) (clearFlag j) d passes
-            (rw e at flag-fits) (rw e at (flag-laid (rw e (missing-fits j))))
+            edit-done marks b (observationOf b) bs (f .found .judged) (clearFlag j) d passes
+            (rw e at flag-fits) (rw e at (flag-laid (rw e (missing-fits marks j))))

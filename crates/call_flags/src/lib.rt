@@ -7,15 +7,17 @@ ghost use Rattle.format.specs.Nibbles.{nibbles};
 ghost use Rattle.format.specs.Calls.{reads, edits, readFlag, setFlag, clearFlag};
 ghost use Rattle.format.specs.Buffer.{after, effect};
 ghost use Rattle.format.specs.Reply.{answerOf};
-ghost use Rattle.call_flags.specs.Flags.{FlagsAt, flagged};
+ghost use Rattle.report.specs.Found.{Leaves};
+ghost use Rattle.call_flags.specs.Flags.{FlagsAt, FlagsAtBySome, flagged};
+use format::FlagTable;
 use format::Reply;
 use nibble::Cursor;
 use report::Inspected;
 
 // The value of flag j, where id 1 stands at a place, or nowhere.
 fn flag_of(s: &[u8], j: usize, place: usize) -> Reply
-    requires { ⌜ FlagsAt (now s) place ⌝ }
-    ensures { λ r. ⌜ after (answerOf r) (now (s .entry)) [] ≡ effect (now (s .entry)) (reads (readFlag j)) ⌝ }
+    requires { ⌜ FlagsAtBySome (now s) place ⌝ }
+    ensures { λ r. ⌜ Leaves (now (s .entry)) (reads (readFlag j)) (after (answerOf r) (now (s .entry)) []) ⌝ }
 {
     if !numbers::within(1, 14, j) {
         return Reply::Refused(8, 0);
@@ -31,10 +33,10 @@ fn flag_of(s: &[u8], j: usize, place: usize) -> Reply
 }
 
 // The value of flag j, or that it is missing.
-pub fn read_flag(s: &[u8], j: usize) -> Reply
-    ensures { λ r. ⌜ after (answerOf r) (now (s .entry)) [] ≡ effect (now (s .entry)) (reads (readFlag j)) ⌝ }
+pub fn read_flag(s: &[u8], j: usize, marks: &FlagTable) -> Reply
+    ensures { λ r. ⌜ after (answerOf r) (now (s .entry)) [] ≡ effect (now (marks .entry)) (now (s .entry)) (reads (readFlag j)) ⌝ }
 {
-    let i = report::inspect(&*s, 1);
+    let i = report::inspect(&*s, 1, *marks);
     match i {
         Inspected::Refused(n, p) => Reply::Refused(n, p),
         Inspected::Fine(r) => flag_of(&*s, j, r.place),
@@ -53,14 +55,14 @@ fn store_flag(s: &mut [u8], at: usize, j: usize, v: u8)
 }
 
 // Sets flag j, where id 1 stands at a place, or nowhere.
-fn set_flag_of(s: &mut [u8], j: usize, v: usize, place: usize) -> Reply
-    requires { ⌜ FlagsAt (now s) place ⌝ }
-    ensures { λ r. ⌜ after (answerOf r) (now (s .exit)) [] ≡ effect (now (s .entry)) (edits (setFlag j v)) ⌝ }
+fn set_flag_of(s: &mut [u8], j: usize, v: usize, place: usize, marks: &FlagTable) -> Reply
+    requires { ⌜ FlagsAt (now marks) (now s) place ⌝ }
+    ensures { λ r. ⌜ after (answerOf r) (now (s .exit)) [] ≡ effect (now (marks .entry)) (now (s .entry)) (edits (setFlag j v)) ⌝ }
 {
     if !numbers::within(1, 14, j) {
         return Reply::Refused(8, 0);
     }
-    if !numbers::within(1, 10, v) {
+    if !flags::in_range(j, v, *marks) {
         return Reply::Refused(9, j);
     }
     if place == 0 {
@@ -71,20 +73,20 @@ fn set_flag_of(s: &mut [u8], j: usize, v: usize, place: usize) -> Reply
 }
 
 // Sets flag j to v, and the quality code.
-pub fn set_flag(s: &mut [u8], j: usize, v: usize) -> Reply
-    ensures { λ r. ⌜ after (answerOf r) (now (s .exit)) [] ≡ effect (now (s .entry)) (edits (setFlag j v)) ⌝ }
+pub fn set_flag(s: &mut [u8], j: usize, v: usize, marks: &FlagTable) -> Reply
+    ensures { λ r. ⌜ after (answerOf r) (now (s .exit)) [] ≡ effect (now (marks .entry)) (now (s .entry)) (edits (setFlag j v)) ⌝ }
 {
-    let i = report::inspect(s, 1);
+    let i = report::inspect(s, 1, *marks);
     match i {
         Inspected::Refused(n, p) => Reply::Refused(n, p),
-        Inspected::Fine(r) => set_flag_of(s, j, v, r.place),
+        Inspected::Fine(r) => set_flag_of(s, j, v, r.place, marks),
     }
 }
 
 // Clears flag j, where id 1 stands at a place, or nowhere.
 fn clear_flag_of(s: &mut [u8], j: usize, place: usize) -> Reply
-    requires { ⌜ FlagsAt (now s) place ⌝ }
-    ensures { λ r. ⌜ after (answerOf r) (now (s .exit)) [] ≡ effect (now (s .entry)) (edits (clearFlag j)) ⌝ }
+    requires { ⌜ FlagsAtBySome (now s) place ⌝ }
+    ensures { λ r. ⌜ Leaves (now (s .entry)) (edits (clearFlag j)) (after (answerOf r) (now (s .exit)) []) ⌝ }
 {
     if !numbers::within(1, 14, j) {
         return Reply::Refused(8, 0);
@@ -97,10 +99,10 @@ fn clear_flag_of(s: &mut [u8], j: usize, place: usize) -> Reply
 }
 
 // Makes flag j missing, and sets the quality code.
-pub fn clear_flag(s: &mut [u8], j: usize) -> Reply
-    ensures { λ r. ⌜ after (answerOf r) (now (s .exit)) [] ≡ effect (now (s .entry)) (edits (clearFlag j)) ⌝ }
+pub fn clear_flag(s: &mut [u8], j: usize, marks: &FlagTable) -> Reply
+    ensures { λ r. ⌜ after (answerOf r) (now (s .exit)) [] ≡ effect (now (marks .entry)) (now (s .entry)) (edits (clearFlag j)) ⌝ }
 {
-    let i = report::inspect(s, 1);
+    let i = report::inspect(s, 1, *marks);
     match i {
         Inspected::Refused(n, p) => Reply::Refused(n, p),
         Inspected::Fine(r) => clear_flag_of(s, j, r.place),

@@ -26,7 +26,7 @@ use Rattle.report.specs.declared.Report.{Report}
 use Rattle.report.specs.declared.Inspected.{Inspected}
 use Rattle.report.specs.Answers.{inspected}
 use Rattle.report.proofs.Outcomes.{judge-refused, judge-fine}
-use Rattle.report.specs.Found.{Found}
+use Rattle.report.specs.Found.{Accepted, Found}
 
 -- ---- what inspecting brings
 
@@ -100,6 +100,10 @@ module _ (marks : FlagTable) {b : List ℕ} {i : ℕ} {r : Report} (bs : Bytes b
       let k = inside marks bs f spot in
       let e = end-is marks bs f in
       (omega arith, omega arith)
+
+-- what was found under one table is what is found under another that accepts the report
+pub found-by : {marks other : FlagTable} {b : List ℕ} {i : ℕ} {r : Report} → Found marks b i r → Accepted other b → Found other b i r
+found-by f j = record { judged = j; is = f .is }
 
 -- ---- refusals
 

@@ -24,3 +24,6 @@ Leaves b c a = (marks : FlagTable) → Accepted marks b → a ≡ effect marks b
 pub record Found (marks : FlagTable) (b : List ℕ) (i : ℕ) (r : Report) : Type 0 where
   pub judged : Accepted marks b
   pub is : r ≡ reportOf b i (observationOf b .attachments)
+
+abbrev pub FoundBySome : List ℕ → ℕ → Report → Type 0
+FoundBySome b i r = (marks : FlagTable) × Found marks b i r

@@ -17,20 +17,20 @@ enum-known-i-2 : tie.Need-enum-known-i-2
 enum-known-i-2 c = search needs
 
 clear-flag-of-requires : tie.Need-clear-flag-of-requires
-clear-flag-of-requires c κs = flags-found _ _ _ (c .before .before .before .before .inspect .ensures) (c .before .before .i2 .given .1)
+clear-flag-of-requires c κs = (_, flags-found _ _ _ _ (c .before .before .before .before .inspect .ensures) (c .before .before .i2 .given .1))
 
 same-length : tie.Need-same-length
 same-length c = search needs
 
 returns : tie.Need-returns
 unfolding outputsOf
-returns c = inspect-refused _ _ _ (c .before .before .before .inspect .ensures) _ _ (edits (clearFlag (c .before .before .before .before .before .before .args .j))) (c .before .i .given .1)
+returns c = inspect-refused _ _ _ _ (c .before .before .before .inspect .ensures) _ _ (edits (clearFlag (c .before .before .before .before .before .before .before .args .j))) (c .before .i .given .1)
 
 same-length-2 : tie.Need-same-length-2
 same-length-2 c = search needs
 
 returns-2 : tie.Need-returns-2
-returns-2 c = search needs
+returns-2 c = c .before .before .clear-flag-of .ensures _ (flags-found _ _ _ _ (c .before .before .before .before .before .before .before .inspect .ensures) (c .before .before .before .before .before .i2 .given .1) .found .judged)
 
 pub clear-flag-spec : {M : Type 1} → statement M
 clear-flag-spec =

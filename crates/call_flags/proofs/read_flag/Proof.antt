@@ -17,14 +17,14 @@ enum-known-i-2 : tie.Need-enum-known-i-2
 enum-known-i-2 c = search needs
 
 flag-of-requires : tie.Need-flag-of-requires
-flag-of-requires c κs = flags-found _ _ _ (c .before .before .before .inspect .ensures) (c .before .i2 .given .1)
+flag-of-requires c κs = (_, flags-found _ _ _ _ (c .before .before .before .inspect .ensures) (c .before .i2 .given .1))
 
 returns : tie.Need-returns
 unfolding outputsOf
-returns c = inspect-refused _ _ _ (c .before .before .before .inspect .ensures) _ _ (reads (readFlag (c .before .before .before .before .before .args .j))) (c .before .i .given .1)
+returns c = inspect-refused _ _ _ _ (c .before .before .before .inspect .ensures) _ _ (reads (readFlag (c .before .before .before .before .before .before .args .j))) (c .before .i .given .1)
 
 returns-2 : tie.Need-returns-2
-returns-2 c = search needs
+returns-2 c = c .flag-of .ensures _ (flags-found _ _ _ _ (c .before .before .before .before .inspect .ensures) (c .before .before .i2 .given .1) .found .judged)
 
 pub read-flag-spec : {M : Type 1} → statement M
 read-flag-spec =

@@ -17,7 +17,7 @@ enum-known-i-2 : tie.Need-enum-known-i-2
 enum-known-i-2 c = search needs
 
 set-flag-of-requires : tie.Need-set-flag-of-requires
-set-flag-of-requires c κs = flags-found _ _ _ (c .before .before .before .before .inspect .ensures) (c .before .before .i2 .given .1)
+set-flag-of-requires c κs = flags-found _ _ _ _ (c .before .before .before .before .inspect .ensures) (c .before .before .i2 .given .1)
 
 same-length : tie.Need-same-length
 same-length c = search needs
@@ -25,8 +25,8 @@ same-length c = search needs
 returns : tie.Need-returns
 unfolding outputsOf
 returns c =
-    let args = c .before .before .before .before .before .before .args in
-    inspect-refused _ _ _ (c .before .before .before .inspect .ensures) _ _ (edits (setFlag (args .j) (args .v))) (c .before .i .given .1)
+    let args = c .before .before .before .before .before .before .before .args in
+    inspect-refused _ _ _ _ (c .before .before .before .inspect .ensures) _ _ (edits (setFlag (args .j) (args .v))) (c .before .i .given .1)
 
 same-length-2 : tie.Need-same-length-2
 same-length-2 c = search needs

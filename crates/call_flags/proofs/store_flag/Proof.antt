@@ -7,7 +7,7 @@ use lib.ListN.{take, drop, set}
 use denote.Ref.{now}
 use Rattle.format.specs.Nibbles.{nibbles}
 use Rattle.format.specs.Flags.{qualityCode}
-use Rattle.laws.proofs.Nibbles.{length-nibbles}
+use Rattle.laws.proofs.Nibbles.{length-nibbles, nibbles-lt}
 use Rattle.call_flags.proofs.Flags.{flag-stored}
 use native.Mathlib.Omega.{arith}
 use borrow.Author.Needs.{needs}
@@ -24,7 +24,7 @@ put-requires : tie.Need-put-requires
 put-requires c κs = search needs
 
 quality-requires : tie.Need-quality-requires
-quality-requires c κs = (omega (arith, length-nibbles (c .before .before .before .put .last .0), c .before .before .before .put .ensures .1), omega arith)
+quality-requires c κs = (nibbles-lt (c .before .before .before .put .last .0) (λ i. c .before .slice-known2 .given i .fits), omega (arith, length-nibbles (c .before .before .before .put .last .0), c .before .before .before .put .ensures .1), omega arith)
 
 add-put-2 : tie.Need-add-put-2
 add-put-2 c = search needs
