@@ -4,7 +4,8 @@ use mathlib.Core.Bool.{cond}
 use mathlib.Core.List.{List, [], _++_}
 use lib.ListN.{length, take, drop}
 use lib.Dec.{ltb}
-use Rattle.format.specs.Nibbles.{attachment, attachmentNibbles}
+use Rattle.format.specs.Nibbles.{Attachment, attachment, attachmentNibbles}
+use Rattle.format.specs.Flags.{FlagTable}
 use Rattle.format.specs.Observation.{size}
 use Rattle.format.specs.Report.{observationOf}
 use Rattle.format.specs.Calls.{Answer, putIn, removeFrom, withAttachments, withContent}
@@ -12,6 +13,8 @@ use Rattle.format.specs.Buffer.{zeros, layout, After, after}
 use Rattle.format.specs.Reply.{refusal}
 use Rattle.laws.proofs.Attachments.{FineAt}
 use Rattle.laws.proofs.Edits.{clearedTo, Edit}
+use Rattle.report.specs.declared.Report.{Report}
+use Rattle.report.specs.Found.{Found}
 
 -- old nibbles at a place of a report that ends at end, and new ones in their place, within n bytes
 pub record Resizable (n at old new end : ℕ) : Type 0 where
@@ -29,10 +32,21 @@ resized ns at old new end =
     let last = at + new + rest in
     take (at + new) ns ++ (take rest (drop (at + old) ns) ++ (zeros (clearedTo end last - last) ++ drop (clearedTo end last) ns))
 
+-- an attachment that may stand under one table or another
+abbrev pub FineBySome : Attachment → Type 0
+FineBySome a = (marks : FlagTable) × FineAt marks a
+
+-- content ns may stand under id i, and r is what was found in the report, both under one table
+pub record Puttable (b : List ℕ) (i : ℕ) (r : Report) (ns : List ℕ) : Type 0 where
+  pub marks : FlagTable
+  pub found : Found marks b i r
+  pub fine : FineAt marks (attachment i ns)
+
 -- the edit that puts content ns under id i, and that this content may stand there
 pub record PutEdit (b : List ℕ) (i : ℕ) (ns : List ℕ) (at old end count : ℕ) : Type 0 where
-  pub edit : Edit b (putIn i ns (observationOf b .attachments)) (attachmentNibbles (attachment i ns)) at old end count
-  pub fine : FineAt (attachment i ns)
+  pub marks : FlagTable
+  pub edit : Edit marks b (putIn i ns (observationOf b .attachments)) (attachmentNibbles (attachment i ns)) at old end count
+  pub fine : FineAt marks (attachment i ns)
 
 -- the bytes of a report that ended at end, with an attachment of n nibbles in place of old ones
 abbrev pub newSize : ℕ → ℕ → ℕ → ℕ

@@ -9,9 +9,9 @@ ghost use Rattle.format.specs.Nibbles.{nibbles, attachment, attachmentNibbles};
 ghost use Rattle.format.specs.Calls as call;
 ghost use Rattle.format.specs.Buffer.{after, effect};
 ghost use Rattle.format.specs.Reply.{answerOf};
-ghost use Rattle.laws.proofs.Attachments.{FineAt};
-ghost use Rattle.report.specs.Found.{Found};
-ghost use Rattle.call_attachments.specs.Edit.{Resizable, resized, PutEdit, newSize, withPut, withoutId, putting};
+ghost use Rattle.report.specs.Found.{FoundBySome, Leaves};
+ghost use Rattle.call_attachments.specs.Edit.{Resizable, resized, FineBySome, Puttable, PutEdit, newSize, withPut, withoutId, putting};
+use format::FlagTable;
 use format::Reply;
 use report::Inspected;
 use report::Report;
@@ -35,7 +35,7 @@ fn resize(s: &mut [u8], at: usize, old: usize, new: usize, end: usize)
 
 // Commits a drop: takes an attachment out of the report that was inspected and in which it stands.
 fn commit_drop(s: &mut [u8], id: usize, found: Report)
-    requires { ⌜ Found (now s) id found × (found .place ≡ 0 → ⊥) ⌝ }
+    requires { ⌜ FoundBySome (now s) id found × (found .place ≡ 0 → ⊥) ⌝ }
     ensures { λ _. ⌜ now (s .exit) ≡ withoutId (now (s .entry)) id ⌝ }
 {
     let al = found.al;
@@ -46,8 +46,8 @@ fn commit_drop(s: &mut [u8], id: usize, found: Report)
 
 // Removes from a report that was inspected.
 fn remove_found(s: &mut [u8], id: usize, found: Report) -> Reply
-    requires { ⌜ Found (now s) id found ⌝ }
-    ensures { λ r. ⌜ after (answerOf r) (now (s .exit)) [] ≡ effect (now (s .entry)) (call.edits (call.remove id)) ⌝ }
+    requires { ⌜ FoundBySome (now s) id found ⌝ }
+    ensures { λ r. ⌜ Leaves (now (s .entry)) (call.edits (call.remove id)) (after (answerOf r) (now (s .exit)) []) ⌝ }
 {
     if !numbers::within(1, 15, id) {
         return Reply::Refused(8, 0);
@@ -60,10 +60,10 @@ fn remove_found(s: &mut [u8], id: usize, found: Report) -> Reply
 }
 
 // Removes an attachment; the others keep their order.
-pub fn remove(s: &mut [u8], id: usize) -> Reply
-    ensures { λ r. ⌜ after (answerOf r) (now (s .exit)) [] ≡ effect (now (s .entry)) (call.edits (call.remove id)) ⌝ }
+pub fn remove(s: &mut [u8], id: usize, marks: &FlagTable) -> Reply
+    ensures { λ r. ⌜ after (answerOf r) (now (s .exit)) [] ≡ effect (now (marks .entry)) (now (s .entry)) (call.edits (call.remove id)) ⌝ }
 {
-    let i = report::inspect(s, id);
+    let i = report::inspect(s, id, *marks);
     match i {
         Inspected::Refused(n, p) => Reply::Refused(n, p),
         Inspected::Fine(found) => remove_found(s, id, found),
@@ -74,7 +74,7 @@ pub fn remove(s: &mut [u8], id: usize) -> Reply
 
 // Lays the header and the nibbles of an attachment.
 fn lay_attachment(s: &mut [u8], at: usize, id: usize, content: &[u8])
-    requires { ⌜ (at + (3 + length (now content)) ≤ 2 * length (now s)) × (at ≤ 65536) × FineAt (attachment id (now content)) ⌝ }
+    requires { ⌜ (at + (3 + length (now content)) ≤ 2 * length (now s)) × (at ≤ 65536) × FineBySome (attachment id (now content)) ⌝ }
     ensures { λ _. ⌜ (nibbles (now (s .exit)) ≡ paste (nibbles (now (s .entry))) at (attachmentNibbles (attachment id (now (content .entry)))) (3 + length (now (content .entry))))
         × (length (now (s .exit)) ≡ length (now (s .entry))) ⌝ }
 {
@@ -126,7 +126,7 @@ fn put_at(
 
 // Puts an attachment to a report that was inspected: in place of the one of its id, or at the end.
 pub fn put_nibbles(s: &mut [u8], id: usize, found: Report, content: &[u8]) -> Reply
-    requires { ⌜ Found (now s) id found × FineAt (attachment id (now content)) ⌝ }
+    requires { ⌜ Puttable (now s) id found (now content) ⌝ }
     ensures { λ r. ⌜ after (answerOf r) (now (s .exit)) [] ≡ putting (now (s .entry)) id (now (content .entry)) ⌝ }
 {
     let place = found.place;

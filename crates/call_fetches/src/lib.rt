@@ -5,7 +5,8 @@ ghost use mathlib.Core.List.{[], _∷_};
 ghost use Rattle.format.specs.Calls as call;
 ghost use Rattle.format.specs.Buffer.{after, effect};
 ghost use Rattle.format.specs.Reply.{answerOf};
-ghost use Rattle.report.specs.Found.{Found};
+ghost use Rattle.report.specs.Found.{FoundBySome, Leaves};
+use format::FlagTable;
 use format::Reply;
 use nibble::Cursor;
 use report::Inspected;
@@ -13,8 +14,8 @@ use report::Report;
 
 // Fetches from a report that was inspected.
 fn fetch_found(s: &[u8], id: usize, found: Report, out: &mut [u8]) -> Reply
-    requires { ⌜ Found (now s) id found ⌝ }
-    ensures { λ r. ⌜ after (answerOf r) (now (s .entry)) (now (out .exit) ∷ []) ≡ effect (now (s .entry)) (call.fetches (call.fetch id (now (out .entry)))) ⌝ }
+    requires { ⌜ FoundBySome (now s) id found ⌝ }
+    ensures { λ r. ⌜ Leaves (now (s .entry)) (call.fetches (call.fetch id (now (out .entry)))) (after (answerOf r) (now (s .entry)) (now (out .exit) ∷ [])) ⌝ }
 {
     let place = found.place;
     let al = found.al;
@@ -32,10 +33,10 @@ fn fetch_found(s: &[u8], id: usize, found: Report, out: &mut [u8]) -> Reply
 }
 
 // Writes the nibbles of an id to the front of out, one a byte.
-pub fn fetch(s: &[u8], id: usize, out: &mut [u8]) -> Reply
-    ensures { λ r. ⌜ after (answerOf r) (now (s .entry)) (now (out .exit) ∷ []) ≡ effect (now (s .entry)) (call.fetches (call.fetch id (now (out .entry)))) ⌝ }
+pub fn fetch(s: &[u8], id: usize, out: &mut [u8], marks: &FlagTable) -> Reply
+    ensures { λ r. ⌜ after (answerOf r) (now (s .entry)) (now (out .exit) ∷ []) ≡ effect (now (marks .entry)) (now (s .entry)) (call.fetches (call.fetch id (now (out .entry)))) ⌝ }
 {
-    let i = report::inspect(&*s, id);
+    let i = report::inspect(&*s, id, *marks);
     match i {
         Inspected::Refused(n, p) => Reply::Refused(n, p),
         Inspected::Fine(found) => fetch_found(&*s, id, found, out),
@@ -44,8 +45,8 @@ pub fn fetch(s: &[u8], id: usize, out: &mut [u8]) -> Reply
 
 // Fetches the ship text from a report that was inspected.
 fn fetch_text_found(s: &[u8], found: Report, out: &mut [u8]) -> Reply
-    requires { ⌜ Found (now s) 4 found ⌝ }
-    ensures { λ r. ⌜ after (answerOf r) (now (s .entry)) (now (out .exit) ∷ []) ≡ effect (now (s .entry)) (call.fetches (call.fetchText (now (out .entry)))) ⌝ }
+    requires { ⌜ FoundBySome (now s) 4 found ⌝ }
+    ensures { λ r. ⌜ Leaves (now (s .entry)) (call.fetches (call.fetchText (now (out .entry)))) (after (answerOf r) (now (s .entry)) (now (out .exit) ∷ [])) ⌝ }
 {
     let place = found.place;
     let al = found.al;
@@ -63,10 +64,10 @@ fn fetch_text_found(s: &[u8], found: Report, out: &mut [u8]) -> Reply
 }
 
 // Writes the ship text to the front of out.
-pub fn fetch_text(s: &[u8], out: &mut [u8]) -> Reply
-    ensures { λ r. ⌜ after (answerOf r) (now (s .entry)) (now (out .exit) ∷ []) ≡ effect (now (s .entry)) (call.fetches (call.fetchText (now (out .entry)))) ⌝ }
+pub fn fetch_text(s: &[u8], out: &mut [u8], marks: &FlagTable) -> Reply
+    ensures { λ r. ⌜ after (answerOf r) (now (s .entry)) (now (out .exit) ∷ []) ≡ effect (now (marks .entry)) (now (s .entry)) (call.fetches (call.fetchText (now (out .entry)))) ⌝ }
 {
-    let i = report::inspect(&*s, 4);
+    let i = report::inspect(&*s, 4, *marks);
     match i {
         Inspected::Refused(n, p) => Reply::Refused(n, p),
         Inspected::Fine(found) => fetch_text_found(&*s, found, out),

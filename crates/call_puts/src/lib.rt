@@ -5,15 +5,14 @@ ghost use mathlib.Core.Bool.{_&&_};
 ghost use mathlib.Core.List.{[]};
 ghost use Prim.Native.Nat.{_≤_};
 ghost use lib.ListN.{length, take};
-ghost use Rattle.format.specs.Nibbles.{attachment};
 ghost use Rattle.format.specs.Report.{bodyValid};
 ghost use Rattle.format.specs.Calls.{allNibbles};
 ghost use Rattle.format.specs.Calls as call;
 ghost use Rattle.format.specs.Buffer.{after, effect};
 ghost use Rattle.format.specs.Reply.{answerOf};
-ghost use Rattle.laws.proofs.Attachments.{FineAt};
-ghost use Rattle.report.specs.Found.{Found};
-ghost use Rattle.call_attachments.specs.Edit.{putting};
+ghost use Rattle.report.specs.Found.{Found, FoundBySome, Leaves};
+ghost use Rattle.call_attachments.specs.Edit.{Puttable, putting};
+use format::FlagTable;
 use format::Reply;
 use nibble::Cursor;
 use report::Inspected;
@@ -23,9 +22,9 @@ use text_writer::Written;
 // ---- a content
 
 // Whether these bytes may stand under an id.
-fn content_valid(id: usize, content: &[u8]) -> bool
+fn content_valid(id: usize, content: &[u8], marks: &FlagTable) -> bool
     requires { ⌜ length (now content) ≤ 255 ⌝ }
-    ensures { λ r. ⌜ r ≡ allNibbles (now (content .entry)) && bodyValid id (now (content .entry)) ⌝ }
+    ensures { λ r. ⌜ r ≡ allNibbles (now (content .entry)) && bodyValid (now (marks .entry)) id (now (content .entry)) ⌝ }
 {
     if nibble::all_nibbles(content) {
         return tail::body_valid(
@@ -36,15 +35,16 @@ fn content_valid(id: usize, content: &[u8]) -> bool
             },
             id,
             content.len(),
+            marks,
         );
     }
     false
 }
 
 // Puts to a report that was inspected.
-fn put_found(s: &mut [u8], id: usize, found: Report, content: &[u8]) -> Reply
-    requires { ⌜ Found (now s) id found ⌝ }
-    ensures { λ r. ⌜ after (answerOf r) (now (s .exit)) [] ≡ effect (now (s .entry)) (call.edits (call.put id (now (content .entry)))) ⌝ }
+fn put_found(s: &mut [u8], id: usize, found: Report, content: &[u8], marks: &FlagTable) -> Reply
+    requires { ⌜ Found (now marks) (now s) id found ⌝ }
+    ensures { λ r. ⌜ after (answerOf r) (now (s .exit)) [] ≡ effect (now (marks .entry)) (now (s .entry)) (call.edits (call.put id (now (content .entry)))) ⌝ }
 {
     if !numbers::within(1, 15, id) {
         return Reply::Refused(8, 0);
@@ -55,20 +55,20 @@ fn put_found(s: &mut [u8], id: usize, found: Report, content: &[u8]) -> Reply
     if 255 < content.len() {
         return Reply::Refused(12, 0);
     }
-    if content_valid(id, content) {
+    if content_valid(id, content, marks) {
         return call_attachments::put_nibbles(s, id, found, content);
     }
     Reply::Refused(14, 0)
 }
 
 // Replaces the content of an id, or appends the attachment.
-pub fn put(s: &mut [u8], id: usize, content: &[u8]) -> Reply
-    ensures { λ r. ⌜ after (answerOf r) (now (s .exit)) [] ≡ effect (now (s .entry)) (call.edits (call.put id (now (content .entry)))) ⌝ }
+pub fn put(s: &mut [u8], id: usize, content: &[u8], marks: &FlagTable) -> Reply
+    ensures { λ r. ⌜ after (answerOf r) (now (s .exit)) [] ≡ effect (now (marks .entry)) (now (s .entry)) (call.edits (call.put id (now (content .entry)))) ⌝ }
 {
-    let i = report::inspect(s, id);
+    let i = report::inspect(s, id, *marks);
     match i {
         Inspected::Refused(n, p) => Reply::Refused(n, p),
-        Inspected::Fine(found) => put_found(s, id, found, content),
+        Inspected::Fine(found) => put_found(s, id, found, content, marks),
     }
 }
 
@@ -76,7 +76,7 @@ pub fn put(s: &mut [u8], id: usize, content: &[u8]) -> Reply
 
 // Puts the first n of these nibbles as ship text.
 fn put_front(s: &mut [u8], found: Report, ns: &[u8], n: usize) -> Reply
-    requires { ⌜ Found (now s) 4 found × (n ≤ length (now ns)) × FineAt (attachment 4 (take n (now ns))) ⌝ }
+    requires { ⌜ (n ≤ length (now ns)) × Puttable (now s) 4 found (take n (now ns)) ⌝ }
     ensures { λ r. ⌜ after (answerOf r) (now (s .exit)) [] ≡ putting (now (s .entry)) 4 (take n (now (ns .entry))) ⌝ }
 {
     call_attachments::put_nibbles(s, 4, found, &ns[0..n])
@@ -84,7 +84,7 @@ fn put_front(s: &mut [u8], found: Report, ns: &[u8], n: usize) -> Reply
 
 // The same, of an array.
 fn put_written(s: &mut [u8], found: Report, ns: &[u8; 255], n: usize) -> Reply
-    requires { ⌜ Found (now s) 4 found × (n ≤ length (now ns)) × FineAt (attachment 4 (take n (now ns))) ⌝ }
+    requires { ⌜ (n ≤ length (now ns)) × Puttable (now s) 4 found (take n (now ns)) ⌝ }
     ensures { λ r. ⌜ after (answerOf r) (now (s .exit)) [] ≡ putting (now (s .entry)) 4 (take n (now (ns .entry))) ⌝ }
 {
     put_front(s, found, ns, n)
@@ -92,8 +92,8 @@ fn put_written(s: &mut [u8], found: Report, ns: &[u8; 255], n: usize) -> Reply
 
 // Puts the ship text to a report that was inspected.
 fn put_text_found(s: &mut [u8], found: Report, text: &[u8]) -> Reply
-    requires { ⌜ Found (now s) 4 found ⌝ }
-    ensures { λ r. ⌜ after (answerOf r) (now (s .exit)) [] ≡ effect (now (s .entry)) (call.edits (call.putText (now (text .entry)))) ⌝ }
+    requires { ⌜ FoundBySome (now s) 4 found ⌝ }
+    ensures { λ r. ⌜ Leaves (now (s .entry)) (call.edits (call.putText (now (text .entry)))) (after (answerOf r) (now (s .exit)) []) ⌝ }
 {
     let mut ns = [0u8; 255];
     let w = text_writer::write(text, &mut ns);
@@ -109,10 +109,10 @@ fn put_text_found(s: &mut [u8], found: Report, text: &[u8]) -> Reply
 }
 
 // Puts the ship text.
-pub fn put_text(s: &mut [u8], text: &[u8]) -> Reply
-    ensures { λ r. ⌜ after (answerOf r) (now (s .exit)) [] ≡ effect (now (s .entry)) (call.edits (call.putText (now (text .entry)))) ⌝ }
+pub fn put_text(s: &mut [u8], text: &[u8], marks: &FlagTable) -> Reply
+    ensures { λ r. ⌜ after (answerOf r) (now (s .exit)) [] ≡ effect (now (marks .entry)) (now (s .entry)) (call.edits (call.putText (now (text .entry)))) ⌝ }
 {
-    let i = report::inspect(s, 4);
+    let i = report::inspect(s, 4, *marks);
     match i {
         Inspected::Refused(n, p) => Reply::Refused(n, p),
         Inspected::Fine(found) => put_text_found(s, found, text),

@@ -19,7 +19,7 @@ lay-attachment-requires c κs =
     let pre = c .before .before .before .before .before .before .before .pre in
     let slice-known = c .before .before .before .before .before .before .slice-known in
     let k = put-small (λ j. slice-known .given j .fits) (pre .0) in
-    (omega (arith, lay-room (λ j. slice-known .given j .fits) (pre .0) (pre .1), c .before .before .before .resize .ensures .1), omega arith, pre .0 .fine)
+    (omega (arith, lay-room (λ j. slice-known .given j .fits) (pre .0) (pre .1), c .before .before .before .resize .ensures .1), omega arith, (pre .0 .marks, pre .0 .fine))
 
 set-count-requires : tie.Need-set-count-requires
 set-count-requires c κs =
@@ -28,7 +28,7 @@ set-count-requires c κs =
     let slice-known = c .before .before .before .before .before .before .before .before .before .before .slice-known in (
       omega (
         arith,
-        within (args .s .now) _ (λ j. slice-known .given j .fits) (pre .0 .edit .judged) .0,
+        within _ (args .s .now) _ (λ j. slice-known .given j .fits) (pre .0 .edit .judged) .0,
         c .before .before .before .before .before .before .before .resize .ensures .1,
         c .before .before .before .lay-attachment .ensures .1,
       ),

@@ -10,12 +10,12 @@ use Rattle.call_attachments.proofs.put_nibbles.Tie as tie
 add-put-at : tie.Need-add-put-at
 add-put-at c =
     let pre = c .before .before .before .before .pre in
-    omega (arith, append-edit (λ j. c .before .before .before .slice-known .given j .fits) (pre .0) (pre .1) (c .before .if1 .taken) .edit .count-lt)
+    omega (arith, append-edit _ (λ j. c .before .before .before .slice-known .given j .fits) (pre .found) (pre .fine) (c .before .if1 .taken) .edit .count-lt)
 
 put-at-requires : tie.Need-put-at-requires
 put-at-requires c κs =
     let pre = c .before .before .before .before .pre in
-    append-edit (λ j. c .before .before .before .slice-known .given j .fits) (pre .0) (pre .1) (c .before .if1 .taken)
+    append-edit _ (λ j. c .before .before .before .slice-known .given j .fits) (pre .found) (pre .fine) (c .before .if1 .taken)
 
 same-length : tie.Need-same-length
 same-length c = search needs
@@ -24,12 +24,12 @@ returns : tie.Need-returns
 returns c = search needs
 
 add-put-at-2 : tie.Need-add-put-at-2
-add-put-at-2 c = omega (arith, reach (λ j. c .before .before .before .slice-known .given j .fits) (c .before .before .before .before .pre .0) (c .before .if1 .left) .1)
+add-put-at-2 c = omega (arith, reach _ (λ j. c .before .before .before .slice-known .given j .fits) (c .before .before .before .before .pre .found) (c .before .if1 .left) .1)
 
 put-at-requires-2 : tie.Need-put-at-requires-2
 put-at-requires-2 c κs =
     let pre = c .before .before .before .before .pre in
-    replace-edit (λ j. c .before .before .before .slice-known .given j .fits) (pre .0) (pre .1) (c .before .if1 .left)
+    replace-edit _ (λ j. c .before .before .before .slice-known .given j .fits) (pre .found) (pre .fine) (c .before .if1 .left)
 
 same-length-2 : tie.Need-same-length-2
 same-length-2 c = search needs

@@ -16,20 +16,20 @@ enum-known-i-2 : tie.Need-enum-known-i-2
 enum-known-i-2 c = search needs
 
 remove-found-requires : tie.Need-remove-found-requires
-remove-found-requires c κs = inspect-found _ _ _ (c .before .before .before .before .inspect .ensures) _ (c .before .before .i2 .given .1)
+remove-found-requires c κs = (_, inspect-found _ _ _ _ (c .before .before .before .before .inspect .ensures) _ (c .before .before .i2 .given .1))
 
 same-length : tie.Need-same-length
 same-length c = search needs
 
 returns : tie.Need-returns
 unfolding outputsOf
-returns c = inspect-refused _ _ _ (c .before .before .before .inspect .ensures) _ _ (edits (remove (c .before .before .before .before .before .before .args .id))) (c .before .i .given .1)
+returns c = inspect-refused _ _ _ _ (c .before .before .before .inspect .ensures) _ _ (edits (remove (c .before .before .before .before .before .before .before .args .id))) (c .before .i .given .1)
 
 same-length-2 : tie.Need-same-length-2
 same-length-2 c = search needs
 
 returns-2 : tie.Need-returns-2
-returns-2 c = search needs
+returns-2 c = c .before .before .remove-found .ensures _ (inspect-found _ _ _ _ (c .before .before .before .before .before .before .before .inspect .ensures) _ (c .before .before .before .before .before .i2 .given .1) .judged)
 
 pub remove-spec : {M : Type 1} → statement M
 remove-spec =

@@ -20,7 +20,7 @@ returns c =
     let args = c .before .before .before .before .args in
     let g = c .before .before .before .shared-slice-known .given in
     let f = c .before .before .before .before .pre in
-    id-refused (λ j. g j .fits) f (fetches (fetch (args .id) (args .out .now))) _ refl _ (c .before .within .ensures) (c .if1 .taken)
+    id-refused _ (λ j. g j .fits) f (fetches (fetch (args .id) (args .out .now))) _ refl _ (c .before .within .ensures) (c .if1 .taken)
 
 returns-2 : tie.Need-returns-2
 unfolding callChecks outputsOf
@@ -29,7 +29,7 @@ returns-2 c =
     let g = c .before .before .before .before .shared-slice-known .given in
     let known = number-passes 1 15 (args .id) _ (c .before .before .within .ensures) (c .before .if1 .left) in
     let f = c .before .before .before .before .before .pre in
-    missing (λ j. g j .fits) f (fetches (fetch (args .id) (args .out .now))) (idCheck (args .id) ∷ []) refl (no-check (idCheck (args .id)) [] known first-nil) (c .if2 .taken)
+    missing _ (λ j. g j .fits) f (fetches (fetch (args .id) (args .out .now))) (idCheck (args .id) ∷ []) refl (no-check (idCheck (args .id)) [] known first-nil) (c .if2 .taken)
 
 returns-3 : tie.Need-returns-3
 returns-3 c =
@@ -37,19 +37,19 @@ returns-3 c =
     let g = c .before .before .before .before .before .shared-slice-known .given in
     let known = number-passes 1 15 (args .id) _ (c .before .before .before .within .ensures) (c .before .before .if1 .left) in
     let f = c .before .before .before .before .before .before .pre in
-    output-short (λ j. g j .fits) f (c .before .if2 .left) known _ (c .if3 .taken)
+    output-short _ (λ j. g j .fits) f (c .before .if2 .left) known _ (c .if3 .taken)
 
 add-fetch : tie.Need-add-fetch
 add-fetch c =
     let g = c .before .before .before .before .before .shared-slice-known .given in
     let f = c .before .before .before .before .before .before .pre in
-    omega (arith, reach (λ j. g j .fits) f (c .before .if2 .left) .1)
+    omega (arith, reach _ (λ j. g j .fits) f (c .before .if2 .left) .1)
 
 fetch-requires : tie.Need-fetch-requires
 fetch-requires c κs =
     let g = c .before .before .before .before .before .before .shared-slice-known .given in
     let f = c .before .before .before .before .before .before .before .pre in
-    let k = reach (λ j. g j .fits) f (c .before .before .if2 .left) in (k .0, omega (arith, k .1), c .before .if3 .left)
+    let k = reach _ (λ j. g j .fits) f (c .before .before .if2 .left) in (k .0, omega (arith, k .1), c .before .if3 .left)
 
 same-length : tie.Need-same-length
 same-length c = search needs
@@ -60,7 +60,7 @@ returns-4 c =
     let g = c .before .before .before .before .before .before .before .before .before .shared-slice-known .given in
     let known = number-passes 1 15 (args .id) _ (c .before .before .before .before .before .before .before .within .ensures) (c .before .before .before .before .before .before .if1 .left) in
     let f = c .before .before .before .before .before .before .before .before .before .before .pre in
-    content-fetched (λ j. g j .fits) f (c .before .before .before .before .before .if2 .left) known _ _ (c .before .before .before .before .if3 .left) (c .before .before .fetch .ensures)
+    content-fetched _ (λ j. g j .fits) f (c .before .before .before .before .before .if2 .left) known _ _ (c .before .before .before .before .if3 .left) (c .before .before .fetch .ensures)
 
 pub fetch-found-spec : {M : Type 1} → statement M
 fetch-found-spec =

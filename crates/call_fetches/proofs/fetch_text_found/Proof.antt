@@ -16,21 +16,21 @@ use Rattle.call_fetches.proofs.fetch_text_found.Tie as tie
 returns : tie.Need-returns
 unfolding callChecks outputsOf
 returns c =
-    missing (λ j. c .before .before .shared-slice-known .given j .fits) (c .before .before .before .pre) (fetches (fetchText (c .before .before .before .args .out .now))) [] refl
+    missing _ (λ j. c .before .before .shared-slice-known .given j .fits) (c .before .before .before .pre) (fetches (fetchText (c .before .before .before .args .out .now))) [] refl
     first-nil (c .if1 .taken)
 
 add-fits : tie.Need-add-fits
-add-fits c = omega (arith, reach (λ j. c .before .before .shared-slice-known .given j .fits) (c .before .before .before .pre) (c .if1 .left) .1)
+add-fits c = omega (arith, reach _ (λ j. c .before .before .shared-slice-known .given j .fits) (c .before .before .before .pre) (c .if1 .left) .1)
 
 fits-requires : tie.Need-fits-requires
 fits-requires c κs =
     let pre = c .before .before .before .pre in
     let shared-slice-known = c .before .before .shared-slice-known in
-    let k = reach (λ j. shared-slice-known .given j .fits) pre (c .if1 .left) in (
+    let k = reach _ (λ j. shared-slice-known .given j .fits) pre (c .if1 .left) in (
       omega (arith, k .0, length-nibbles (c .before .before .before .args .s .now)),
       omega (arith, k .1),
       omega (arith, k .1),
-      body-valid (λ j. shared-slice-known .given j .fits) pre (c .if1 .left),
+      body-valid _ (λ j. shared-slice-known .given j .fits) pre (c .if1 .left),
     )
 
 read-requires : tie.Need-read-requires
@@ -39,12 +39,12 @@ read-requires c κs =
     let pre = c .before .before .before .before .before .before .pre in
     let shared-slice-known = c .before .before .before .before .before .shared-slice-known in
     let if1 = c .before .before .before .if1 in
-    let k = reach (λ j. shared-slice-known .given j .fits) pre (if1 .left) in (
+    let k = reach _ (λ j. shared-slice-known .given j .fits) pre (if1 .left) in (
       omega (arith, k .0, length-nibbles (args .s .now)),
       omega (arith, k .1),
       omega (arith, k .1),
       leb-true _ _ (sym (c .before .before .fits2 .ensures) ∙ c .before .if2 .taken),
-      body-valid (λ j. shared-slice-known .given j .fits) pre (if1 .left),
+      body-valid _ (λ j. shared-slice-known .given j .fits) pre (if1 .left),
     )
 
 same-length : tie.Need-same-length
@@ -58,13 +58,13 @@ returns-2 c =
     let fits2 = c .before .before .before .before .before .fits2 in
     let if2 = c .before .before .before .before .if2 in
     let read = c .before .before .read in
-    text-fetched (λ j. shared-slice-known .given j .fits) pre (if1 .left) _ _ (fits2 .ensures) _ _ (if2 .taken) ((read .ensures .0, read .ensures .1))
+    text-fetched _ (λ j. shared-slice-known .given j .fits) pre (if1 .left) _ _ (fits2 .ensures) _ _ (if2 .taken) ((read .ensures .0, read .ensures .1))
 
 returns-3 : tie.Need-returns-3
 returns-3 c =
     let pre = c .before .before .before .before .before .pre in
     let shared-slice-known = c .before .before .before .before .shared-slice-known in
-    text-short (λ j. shared-slice-known .given j .fits) pre (c .before .before .if1 .left) _ _ (c .before .fits2 .ensures) (c .if2 .left)
+    text-short _ (λ j. shared-slice-known .given j .fits) pre (c .before .before .if1 .left) _ _ (c .before .fits2 .ensures) (c .if2 .left)
 
 pub fetch-text-found-spec : {M : Type 1} → statement M
 fetch-text-found-spec =

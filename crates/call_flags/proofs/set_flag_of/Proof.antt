@@ -60,7 +60,7 @@ add-store-flag c =
 cast-store-flag : tie.Need-cast-store-flag
 cast-store-flag c =
     let args = c .before .before .before .before .before .before .before .before .args in
-    let h = in-ten _ (args .j) (args .v) _ (c .before .before .before .in-range .ensures) (c .before .before .if2 .left) in search needs
+    let h = in-ten (now (args .marks)) (args .j) (args .v) _ (c .before .before .before .in-range .ensures) (c .before .before .if2 .left) in search needs
 
 store-flag-requires : tie.Need-store-flag-requires
 store-flag-requires c κs =
@@ -72,7 +72,7 @@ store-flag-requires c κs =
     let w = body-within _ _ (λ i. slice-known .given i .fits) _ pre (c .before .if3 .left) .0 in
     let l = body-within _ _ (λ i. slice-known .given i .fits) _ pre (c .before .if3 .left) .1 in
     let h = between-in 1 14 (args .j) _ (within .ensures) (if1 .left) in
-    let u = in-ten _ (args .j) (args .v) _ (c .before .before .before .in-range .ensures) (c .before .before .if2 .left) in
+    let u = in-ten (now (args .marks)) (args .j) (args .v) _ (c .before .before .before .in-range .ensures) (c .before .before .if2 .left) in
     (omega arith, omega arith, h .0, h .1, omega arith)
 
 same-length : tie.Need-same-length
