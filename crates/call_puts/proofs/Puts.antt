@@ -12,6 +12,7 @@ use lib.Dec.{ltb, leb}
 use borrow.Author.Tests.{ltb-true, ltb-false, leb-true, leb-false, not-false}
 use Rattle.format.specs.Bits.{Bytes}
 use Rattle.format.specs.Order.{Check, first, between}
+use Rattle.format.specs.Flags.{FlagTable}
 use Rattle.format.specs.Nibbles.{attachment}
 use Rattle.format.specs.ShipText.{writeText}
 use Rattle.format.specs.Observation.{size}
@@ -36,51 +37,51 @@ use Rattle.call_attachments.specs.Edit.{putting}
 length-passes : (ns : List ℕ) (more : List Check) → 1 ≤ length ns → length ns ≤ 255 → first more ≡ none → first (lengthCheck ns ∷ more) ≡ none
 length-passes ns more filled short rest = no-check (lengthCheck ns) more (ap not (range-fine 1 255 (length ns) filled short)) rest
 
-content-passes : (i : ℕ) (ns : List ℕ) → allNibbles ns && bodyValid i ns ≡ true → first (contentCheck i ns ∷ []) ≡ none
-content-passes i ns valid = no-check (contentCheck i ns) [] (ap not valid) first-nil
+content-passes : (marks : FlagTable) (i : ℕ) (ns : List ℕ) → allNibbles ns && bodyValid marks i ns ≡ true → first (contentCheck marks i ns ∷ []) ≡ none
+content-passes marks i ns valid = no-check (contentCheck marks i ns) [] (ap not valid) first-nil
 
-module _ {b : List ℕ} {j : ℕ} {r : Report} (bs : Bytes b) (f : Found b j r) where
+module _ (marks : FlagTable) {b : List ℕ} {j : ℕ} {r : Report} (bs : Bytes b) (f : Found marks b j r) where
   -- a call that puts, when only 13 is left
   putting-effect : (e : Editing) (i : ℕ) (ns : List ℕ) → made (observationOf b) e ≡ withContent (observationOf b) i ns → gives (observationOf b) (edits e) ≡ []
-      → first (callChecks (observationOf b) (edits e)) ≡ none → putting b i ns ≡ effect b (edits e)
+      → first (callChecks marks (observationOf b) (edits e)) ≡ none → putting b i ns ≡ effect marks b (edits e)
   putting-effect e i ns is g passed =
       let s = observationOf b in
       let t = withContent s i ns in
       test-case (ltb (length b) (size t))
-      (λ q. rw q (edit-room b s bs (f .judged) e passed (rw is (ltb-true (length b) (size t) q))))
+      (λ q. rw q (edit-room marks b s bs (f .judged) e passed (rw is (ltb-true (length b) (size t) q))))
       (λ q. rw q
       (ap (λ (y : List Given). after (Answer.accepted y) (layout b (size s) t) []) (sym g)
-      ∙ edit-done b s bs (f .judged) e (layout b (size s) t) passed (rw is (ltb-false (length b) (size t) q)) (ap (layout b (size s)) (sym is))))
+      ∙ edit-done marks b s bs (f .judged) e (layout b (size s) t) passed (rw is (ltb-false (length b) (size t) q)) (ap (layout b (size s)) (sym is))))
 
   module _ (ns : List ℕ) (known : not (between 1 15 j) ≡ false) where
-    pub put-short : length ns < 1 → after (refusal 12 0) b [] ≡ effect b (edits (put j ns))
+    pub put-short : length ns < 1 → after (refusal 12 0) b [] ≡ effect marks b (edits (put j ns))
     unfolding callChecks outputsOf
     put-short h =
-        call-refuses b (observationOf b) (edits (put j ns)) bs (f .judged) (idCheck j ∷ []) (lengthCheck ns) (contentCheck j ns ∷ []) refl
+        call-refuses marks b (observationOf b) (edits (put j ns)) bs (f .judged) (idCheck j ∷ []) (lengthCheck ns) (contentCheck marks j ns ∷ []) refl
         (no-check (idCheck j) _ known first-nil) (range-low 1 255 (length ns) h)
 
-    pub put-long : 255 < length ns → after (refusal 12 0) b [] ≡ effect b (edits (put j ns))
+    pub put-long : 255 < length ns → after (refusal 12 0) b [] ≡ effect marks b (edits (put j ns))
     unfolding callChecks outputsOf
     put-long h =
-        call-refuses b (observationOf b) (edits (put j ns)) bs (f .judged) (idCheck j ∷ []) (lengthCheck ns) (contentCheck j ns ∷ []) refl
+        call-refuses marks b (observationOf b) (edits (put j ns)) bs (f .judged) (idCheck j ∷ []) (lengthCheck ns) (contentCheck marks j ns ∷ []) refl
         (no-check (idCheck j) _ known first-nil) (range-high 1 255 (length ns) h)
 
     module _ (filled : 1 ≤ length ns) (short : length ns ≤ 255) where
-      pub put-invalid : allNibbles ns && bodyValid j ns ≡ false → after (refusal 14 0) b [] ≡ effect b (edits (put j ns))
+      pub put-invalid : allNibbles ns && bodyValid marks j ns ≡ false → after (refusal 14 0) b [] ≡ effect marks b (edits (put j ns))
       unfolding callChecks outputsOf
       put-invalid h =
-          call-refuses b (observationOf b) (edits (put j ns)) bs (f .judged) (idCheck j ∷ lengthCheck ns ∷ []) (contentCheck j ns) [] refl
+          call-refuses marks b (observationOf b) (edits (put j ns)) bs (f .judged) (idCheck j ∷ lengthCheck ns ∷ []) (contentCheck marks j ns) [] refl
           (no-check (idCheck j) _ known (length-passes ns [] filled short first-nil)) (ap not h)
 
-      module _ (valid : allNibbles ns && bodyValid j ns ≡ true) where
-        pub put-fineAt : FineAt (attachment j ns)
-        put-fineAt = put-checked j ns (not-false (between 1 15 j) known) (range-fine 1 255 (length ns) filled short) valid
+      module _ (valid : allNibbles ns && bodyValid marks j ns ≡ true) where
+        pub put-fineAt : FineAt marks (attachment j ns)
+        put-fineAt = put-checked marks j ns (not-false (between 1 15 j) known) (range-fine 1 255 (length ns) filled short) valid
 
-        pub put-effect : putting b j ns ≡ effect b (edits (put j ns))
+        pub put-effect : putting b j ns ≡ effect marks b (edits (put j ns))
         unfolding callChecks gives made
         put-effect =
             putting-effect (put j ns) j ns refl refl
-            (no-check (idCheck j) _ known (length-passes ns _ filled short (content-passes j ns valid)))
+            (no-check (idCheck j) _ known (length-passes ns _ filled short (content-passes marks j ns valid)))
 
 -- ---- put text
 
@@ -92,12 +93,12 @@ long-by : (t : Bool) (m : ℕ) → Written.TooLong ≡ cond t (Written.Fits m) W
 long-by true m e = let z : _≡_ {A = ℕ} 0 1 = cc in absurd (omega arith)
 long-by false m e = refl
 
-module _ {b : List ℕ} {r : Report} {t before ns : List ℕ} {w : Written} (bs : Bytes b) (f : Found b 4 r) (bt : Bytes t) (wrote : Writes t before ns w) where
-  pub text-long : w ≡ Written.TooLong → after (refusal 12 0) b [] ≡ effect b (edits (putText t))
+module _ (marks : FlagTable) {b : List ℕ} {r : Report} {t before ns : List ℕ} {w : Written} (bs : Bytes b) (f : Found marks b 4 r) (bt : Bytes t) (wrote : Writes t before ns w) where
+  pub text-long : w ≡ Written.TooLong → after (refusal 12 0) b [] ≡ effect marks b (edits (putText t))
   unfolding callChecks outputsOf writtenOf
   text-long e =
       let h = leb-false (length (writeText t)) 255 (long-by _ _ (sym e ∙ wrote .answer)) in
-      call-refuses b (observationOf b) (edits (putText t)) bs (f .judged) [] (lengthCheck (writeText t)) (contentCheck 4 (writeText t) ∷ []) refl
+      call-refuses marks b (observationOf b) (edits (putText t)) bs (f .judged) [] (lengthCheck (writeText t)) (contentCheck marks 4 (writeText t) ∷ []) refl
       first-nil (range-high 1 255 (length (writeText t)) h)
 
   module _ {n : ℕ} (e : w ≡ Written.Fits n) where
@@ -107,10 +108,10 @@ module _ {b : List ℕ} {r : Report} {t before ns : List ℕ} {w : Written} (bs 
         let q = written-by (leb (length (writeText t)) 255) (length (writeText t)) n (sym e ∙ wrote .answer) in
         (leb-true (length (writeText t)) 255 (q .0), q .1)
 
-    pub text-empty : n < 1 → after (refusal 12 0) b [] ≡ effect b (edits (putText t))
+    pub text-empty : n < 1 → after (refusal 12 0) b [] ≡ effect marks b (edits (putText t))
     unfolding callChecks outputsOf
     text-empty h =
-        call-refuses b (observationOf b) (edits (putText t)) bs (f .judged) [] (lengthCheck (writeText t)) (contentCheck 4 (writeText t) ∷ []) refl
+        call-refuses marks b (observationOf b) (edits (putText t)) bs (f .judged) [] (lengthCheck (writeText t)) (contentCheck marks 4 (writeText t) ∷ []) refl
         first-nil (range-low 1 255 (length (writeText t)) (omega (arith, fits .1)))
 
     -- the text's nibbles stand at the front of what was written
@@ -122,17 +123,17 @@ module _ {b : List ℕ} {r : Report} {t before ns : List ℕ} {w : Written} (bs 
         omega (arith, fits .1, ap length (wrote .nibbles (fits .0)), length-append (writeText t) (drop (length (writeText t)) before))
 
     module _ (filled : 1 ≤ n) where
-      valid : allNibbles (writeText t) && bodyValid 4 (writeText t) ≡ true
+      valid : allNibbles (writeText t) && bodyValid marks 4 (writeText t) ≡ true
       unfolding bodyValid
       valid = rw (text-all-nibbles t bt) (text-valid t bt)
 
-      pub text-fineAt : FineAt (attachment 4 (take n ns))
+      pub text-fineAt : FineAt marks (attachment 4 (take n ns))
       text-fineAt =
-          rw is-text (put-checked 4 (writeText t) refl (range-fine 1 255 (length (writeText t)) (omega (arith, fits .1)) (fits .0)) valid)
+          rw is-text (put-checked marks 4 (writeText t) refl (range-fine 1 255 (length (writeText t)) (omega (arith, fits .1)) (fits .0)) valid)
 
-      pub text-effect : putting b 4 (take n ns) ≡ effect b (edits (putText t))
+      pub text-effect : putting b 4 (take n ns) ≡ effect marks b (edits (putText t))
       unfolding callChecks gives made
       text-effect =
           ap (putting b 4) is-text
-          ∙ putting-effect bs f (putText t) 4 (writeText t) refl refl
-          (length-passes (writeText t) _ (omega (arith, fits .1)) (fits .0) (content-passes 4 (writeText t) valid))
+          ∙ putting-effect marks bs f (putText t) 4 (writeText t) refl refl
+          (length-passes (writeText t) _ (omega (arith, fits .1)) (fits .0) (content-passes marks 4 (writeText t) valid))

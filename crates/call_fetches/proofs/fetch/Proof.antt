@@ -16,19 +16,19 @@ enum-known-i-2 : tie.Need-enum-known-i-2
 enum-known-i-2 c = search needs
 
 fetch-found-requires : tie.Need-fetch-found-requires
-fetch-found-requires c κs = inspect-found _ _ _ _ (c .before .before .before .before .inspect .ensures) _ (c .before .before .i2 .given .1)
+fetch-found-requires c κs = (_, inspect-found _ _ _ _ (c .before .before .before .before .inspect .ensures) _ (c .before .before .i2 .given .1))
 
 returns : tie.Need-returns
 unfolding outputsOf
 returns c =
-    let args = c .before .before .before .before .before .before .args in
+    let args = c .before .before .before .before .before .before .before .args in
     inspect-refused _ _ _ _ (c .before .before .before .inspect .ensures) _ _ (fetches (fetch (args .id) (args .out .now))) (c .before .i .given .1)
 
 same-length : tie.Need-same-length
 same-length c = search needs
 
 returns-2 : tie.Need-returns-2
-returns-2 c = search needs
+returns-2 c = c .before .before .fetch-found .ensures _ (inspect-found _ _ _ _ (c .before .before .before .before .before .before .before .inspect .ensures) _ (c .before .before .before .before .before .i2 .given .1) .judged)
 
 pub fetch-spec : {M : Type 1} → statement M
 fetch-spec =

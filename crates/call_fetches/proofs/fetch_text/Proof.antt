@@ -16,17 +16,17 @@ enum-known-i-2 : tie.Need-enum-known-i-2
 enum-known-i-2 c = search needs
 
 fetch-text-found-requires : tie.Need-fetch-text-found-requires
-fetch-text-found-requires c κs = inspect-found _ _ _ _ (c .before .before .before .before .inspect .ensures) _ (c .before .before .i2 .given .1)
+fetch-text-found-requires c κs = (_, inspect-found _ _ _ _ (c .before .before .before .before .inspect .ensures) _ (c .before .before .i2 .given .1))
 
 returns : tie.Need-returns
 unfolding outputsOf
-returns c = inspect-refused _ _ _ _ (c .before .before .before .inspect .ensures) _ _ (fetches (fetchText (c .before .before .before .before .before .before .args .out .now))) (c .before .i .given .1)
+returns c = inspect-refused _ _ _ _ (c .before .before .before .inspect .ensures) _ _ (fetches (fetchText (c .before .before .before .before .before .before .before .args .out .now))) (c .before .i .given .1)
 
 same-length : tie.Need-same-length
 same-length c = search needs
 
 returns-2 : tie.Need-returns-2
-returns-2 c = search needs
+returns-2 c = c .before .before .fetch-text-found .ensures _ (inspect-found _ _ _ _ (c .before .before .before .before .before .before .before .inspect .ensures) _ (c .before .before .before .before .before .i2 .given .1) .judged)
 
 pub fetch-text-spec : {M : Type 1} → statement M
 fetch-text-spec =

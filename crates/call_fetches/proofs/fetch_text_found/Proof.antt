@@ -5,7 +5,7 @@ use mathlib.Core.List.{[]}
 use Rattle.format.specs.Calls.{fetches, fetchText, outputsOf, callChecks}
 use Rattle.laws.proofs.Order.{first-nil}
 use Rattle.laws.proofs.Nibbles.{length-nibbles}
-use Rattle.report.proofs.Found.{reach, missing}
+use Rattle.report.proofs.Found.{found-by, reach, missing}
 use Rattle.call_fetches.proofs.Fetches.{body-valid, text-short, text-fetched}
 use native.Mathlib.Omega.{arith}
 use borrow.Author.Tests.{leb-true}
@@ -15,16 +15,16 @@ use Rattle.call_fetches.proofs.fetch_text_found.Tie as tie
 
 returns : tie.Need-returns
 unfolding callChecks outputsOf
-returns c =
-    missing _ (λ j. c .before .before .shared-slice-known .given j .fits) (c .before .before .before .pre) (fetches (fetchText (c .before .before .before .args .out .now))) [] refl
+returns c marks a =
+    missing _ (λ j. c .before .before .shared-slice-known .given j .fits) (found-by (c .before .before .before .pre .1) a) (fetches (fetchText (c .before .before .before .args .out .now))) [] refl
     first-nil (c .if1 .taken)
 
 add-fits : tie.Need-add-fits
-add-fits c = omega (arith, reach _ (λ j. c .before .before .shared-slice-known .given j .fits) (c .before .before .before .pre) (c .if1 .left) .1)
+add-fits c = omega (arith, reach _ (λ j. c .before .before .shared-slice-known .given j .fits) (c .before .before .before .pre .1) (c .if1 .left) .1)
 
 fits-requires : tie.Need-fits-requires
 fits-requires c κs =
-    let pre = c .before .before .before .pre in
+    let pre = c .before .before .before .pre .1 in
     let shared-slice-known = c .before .before .shared-slice-known in
     let k = reach _ (λ j. shared-slice-known .given j .fits) pre (c .if1 .left) in (
       omega (arith, k .0, length-nibbles (c .before .before .before .args .s .now)),
@@ -36,7 +36,7 @@ fits-requires c κs =
 read-requires : tie.Need-read-requires
 read-requires c κs =
     let args = c .before .before .before .before .before .before .args in
-    let pre = c .before .before .before .before .before .before .pre in
+    let pre = c .before .before .before .before .before .before .pre .1 in
     let shared-slice-known = c .before .before .before .before .before .shared-slice-known in
     let if1 = c .before .before .before .if1 in
     let k = reach _ (λ j. shared-slice-known .given j .fits) pre (if1 .left) in (
@@ -51,8 +51,8 @@ same-length : tie.Need-same-length
 same-length c = search needs
 
 returns-2 : tie.Need-returns-2
-returns-2 c =
-    let pre = c .before .before .before .before .before .before .before .before .before .pre in
+returns-2 c marks a =
+    let pre = found-by (c .before .before .before .before .before .before .before .before .before .pre .1) a in
     let shared-slice-known = c .before .before .before .before .before .before .before .before .shared-slice-known in
     let if1 = c .before .before .before .before .before .before .if1 in
     let fits2 = c .before .before .before .before .before .fits2 in
@@ -61,8 +61,8 @@ returns-2 c =
     text-fetched _ (λ j. shared-slice-known .given j .fits) pre (if1 .left) _ _ (fits2 .ensures) _ _ (if2 .taken) ((read .ensures .0, read .ensures .1))
 
 returns-3 : tie.Need-returns-3
-returns-3 c =
-    let pre = c .before .before .before .before .before .pre in
+returns-3 c marks a =
+    let pre = found-by (c .before .before .before .before .before .pre .1) a in
     let shared-slice-known = c .before .before .before .before .shared-slice-known in
     text-short _ (λ j. shared-slice-known .given j .fits) pre (c .before .before .if1 .left) _ _ (c .before .fits2 .ensures) (c .if2 .left)
 

@@ -16,7 +16,7 @@ enum-known-i-2 : tie.Need-enum-known-i-2
 enum-known-i-2 c = search needs
 
 put-found-requires : tie.Need-put-found-requires
-put-found-requires c κs = inspect-found _ _ _ (c .before .before .before .before .inspect .ensures) _ (c .before .before .i2 .given .1)
+put-found-requires c κs = inspect-found _ _ _ _ (c .before .before .before .before .inspect .ensures) _ (c .before .before .i2 .given .1)
 
 same-length : tie.Need-same-length
 same-length c = search needs
@@ -24,8 +24,8 @@ same-length c = search needs
 returns : tie.Need-returns
 unfolding outputsOf
 returns c =
-    let args = c .before .before .before .before .before .before .before .args in
-    inspect-refused _ _ _ (c .before .before .before .inspect .ensures) _ _ (edits (put (args .id) (args .content .now))) (c .before .i .given .1)
+    let args = c .before .before .before .before .before .before .before .before .args in
+    inspect-refused _ _ _ _ (c .before .before .before .inspect .ensures) _ _ (edits (put (args .id) (args .content .now))) (c .before .i .given .1)
 
 same-length-2 : tie.Need-same-length-2
 same-length-2 c = search needs

@@ -18,7 +18,7 @@ returns c =
     let args = c .before .before .before .before .args in
     let g = c .before .before .before .slice-known .given in
     let f = c .before .before .before .before .pre in
-    id-refused (λ j. g j .fits) f (edits (put (args .id) (args .content .now))) _ refl _ (c .before .within .ensures) (c .if1 .taken)
+    id-refused _ (λ j. g j .fits) f (edits (put (args .id) (args .content .now))) _ refl _ (c .before .within .ensures) (c .if1 .taken)
 
 returns-2 : tie.Need-returns-2
 returns-2 c =
@@ -26,7 +26,7 @@ returns-2 c =
     let g = c .before .before .before .before .slice-known .given in
     let known = number-passes 1 15 (args .id) _ (c .before .before .within .ensures) (c .before .if1 .left) in
     let f = c .before .before .before .before .before .pre in
-    put-short (λ j. g j .fits) f _ known (c .if2 .taken)
+    put-short _ (λ j. g j .fits) f _ known (c .if2 .taken)
 
 returns-3 : tie.Need-returns-3
 returns-3 c =
@@ -34,7 +34,7 @@ returns-3 c =
     let g = c .before .before .before .before .before .slice-known .given in
     let known = number-passes 1 15 (args .id) _ (c .before .before .before .within .ensures) (c .before .before .if1 .left) in
     let f = c .before .before .before .before .before .before .pre in
-    put-long (λ j. g j .fits) f _ known (c .if3 .taken)
+    put-long _ (λ j. g j .fits) f _ known (c .if3 .taken)
 
 content-valid-requires : tie.Need-content-valid-requires
 content-valid-requires c κs = search needs
@@ -46,7 +46,7 @@ put-nibbles-requires c κs =
     let known = number-passes 1 15 (args .id) _ (c .before .before .before .before .before .before .within .ensures) (c .before .before .before .before .before .if1 .left) in
     let f = c .before .before .before .before .before .before .before .before .before .pre in
     let v = c .before .before .content-valid .ensures in
-    (f, put-fineAt (λ j. g j .fits) f _ known (c .before .before .before .before .if2 .left) (c .before .before .before .if3 .left) (sym v ∙ c .before .if4 .taken))
+    record { marks = _; found = f; fine = put-fineAt _ (λ j. g j .fits) f _ known (c .before .before .before .before .if2 .left) (c .before .before .before .if3 .left) (sym v ∙ c .before .if4 .taken) }
 
 same-length : tie.Need-same-length
 same-length c = search needs
@@ -63,7 +63,7 @@ returns-4 c =
     let if2 = c .before .before .before .before .before .before .before .if2 in
     let if3 = c .before .before .before .before .before .before .if3 in
     let if4 = c .before .before .before .before .if4 in
-    c .before .before .put-nibbles .ensures ∙ put-effect (λ j. g j .fits) f _ known (if2 .left) (if3 .left) (sym v ∙ if4 .taken)
+    c .before .before .put-nibbles .ensures ∙ put-effect _ (λ j. g j .fits) f _ known (if2 .left) (if3 .left) (sym v ∙ if4 .taken)
 
 returns-5 : tie.Need-returns-5
 returns-5 c =
@@ -72,7 +72,7 @@ returns-5 c =
     let known = number-passes 1 15 (args .id) _ (c .before .before .before .before .before .within .ensures) (c .before .before .before .before .if1 .left) in
     let f = c .before .before .before .before .before .before .before .before .pre in
     let v = c .before .content-valid .ensures in
-    put-invalid (λ j. g j .fits) f _ known (c .before .before .before .if2 .left) (c .before .before .if3 .left) (sym v ∙ c .if4 .left)
+    put-invalid _ (λ j. g j .fits) f _ known (c .before .before .before .if2 .left) (c .before .before .if3 .left) (sym v ∙ c .if4 .left)
 
 pub put-found-spec : {M : Type 1} → statement M
 put-found-spec =

@@ -3,9 +3,8 @@
 use mathlib.Core.Path.{sym, ap, subst, _∙_}
 use mathlib.Core.List.{List}
 use Prim.Native.Nat.{ℕ}
-use Rattle.format.specs.Nibbles.{attachment}
-use Rattle.laws.proofs.Attachments.{FineAt}
-use Rattle.call_attachments.specs.Edit.{putting}
+use denote.Ref.{now}
+use Rattle.call_attachments.specs.Edit.{Puttable, putting}
 use Rattle.call_puts.proofs.Contents.{front-part}
 use borrow.Author.Needs.{needs}
 use Rattle.call_puts.proofs.put_front.Statement.{statement}
@@ -24,7 +23,7 @@ put-nibbles-requires : tie.Need-put-nibbles-requires
 put-nibbles-requires c κs =
     let pre = c .before .before .before .before .pre in
     let args = c .before .before .before .before .args in
-    (pre .0, subst (λ (l : List ℕ). FineAt (attachment 4 l)) (sym (front-part (args .n) (args .ns .now))) (pre .2))
+    subst (λ (l : List ℕ). Puttable (now (args .s)) 4 (args .found) l) (sym (front-part (args .n) (args .ns .now))) (pre .1)
 
 same-length : tie.Need-same-length
 same-length c = search needs

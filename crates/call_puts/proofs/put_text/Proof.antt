@@ -16,7 +16,7 @@ enum-known-i-2 : tie.Need-enum-known-i-2
 enum-known-i-2 c = search needs
 
 put-text-found-requires : tie.Need-put-text-found-requires
-put-text-found-requires c κs = inspect-found _ _ _ (c .before .before .before .before .inspect .ensures) _ (c .before .before .i2 .given .1)
+put-text-found-requires c κs = (_, inspect-found _ _ _ _ (c .before .before .before .before .inspect .ensures) _ (c .before .before .i2 .given .1))
 
 same-length : tie.Need-same-length
 same-length c = search needs
@@ -24,14 +24,14 @@ same-length c = search needs
 returns : tie.Need-returns
 unfolding outputsOf
 returns c =
-    inspect-refused _ _ _ (c .before .before .before .inspect .ensures) _ _
-    (edits (putText (c .before .before .before .before .before .before .before .args .text .now))) (c .before .i .given .1)
+    inspect-refused _ _ _ _ (c .before .before .before .inspect .ensures) _ _
+    (edits (putText (c .before .before .before .before .before .before .before .before .args .text .now))) (c .before .i .given .1)
 
 same-length-2 : tie.Need-same-length-2
 same-length-2 c = search needs
 
 returns-2 : tie.Need-returns-2
-returns-2 c = search needs
+returns-2 c = c .before .before .put-text-found .ensures _ (inspect-found _ _ _ _ (c .before .before .before .before .before .before .before .inspect .ensures) _ (c .before .before .before .before .before .i2 .given .1) .judged)
 
 pub put-text-spec : {M : Type 1} → statement M
 put-text-spec =

@@ -2,6 +2,7 @@
 -- Assumes nothing.
 use mathlib.Core.Path.{_∙_}
 use borrow.Author.Needs.{needs}
+use Rattle.report.proofs.Found.{found-by}
 use Rattle.call_puts.proofs.Puts.{text-long, text-empty, text-within, text-fineAt, text-effect}
 use Rattle.call_puts.proofs.put_text_found.Statement.{statement}
 use Rattle.call_puts.proofs.put_text_found.Tie as tie
@@ -16,38 +17,37 @@ enum-known-w : tie.Need-enum-known-w
 enum-known-w c = search needs
 
 returns : tie.Need-returns
-returns c =
-    text-empty (λ j. c .before .before .before .before .before .before .before .slice-known .given j .fits)
-    (c .before .before .before .before .before .before .before .before .pre) (λ j. c .before .before .before .before .before .before .shared-slice-known .given j .fits)
+returns c marks a =
+    text-empty _ (λ j. c .before .before .before .before .before .before .before .slice-known .given j .fits)
+    (found-by (c .before .before .before .before .before .before .before .before .pre .1) a) (λ j. c .before .before .before .before .before .before .shared-slice-known .given j .fits)
     (c .before .before .before .before .write .ensures) (c .before .before .w .given .1) (c .if1 .taken)
 
 put-written-requires : tie.Need-put-written-requires
 put-written-requires c κs =
-    let pre = c .before .before .before .before .before .before .before .before .before .before .pre in
+    let pre = c .before .before .before .before .before .before .before .before .before .before .pre .1 in
     let slice-known = c .before .before .before .before .before .before .before .before .before .slice-known in
     let shared-slice-known = c .before .before .before .before .before .before .before .before .shared-slice-known in
     let write = c .before .before .before .before .before .before .write in
     let w = c .before .before .before .before .w in (
-      pre,
-      text-within (λ j. slice-known .given j .fits) pre (λ j. shared-slice-known .given j .fits) (write .ensures) (w .given .1),
-      text-fineAt (λ j. slice-known .given j .fits) pre (λ j. shared-slice-known .given j .fits) (write .ensures) (w .given .1) (c .before .before .if1 .left),
+      text-within _ (λ j. slice-known .given j .fits) pre (λ j. shared-slice-known .given j .fits) (write .ensures) (w .given .1),
+      record { marks = _; found = pre; fine = text-fineAt _ (λ j. slice-known .given j .fits) pre (λ j. shared-slice-known .given j .fits) (write .ensures) (w .given .1) (c .before .before .if1 .left) },
     )
 
 returns-2 : tie.Need-returns-2
-returns-2 c =
-    text-long (λ j. c .before .before .before .before .before .slice-known .given j .fits) (c .before .before .before .before .before .before .pre)
+returns-2 c marks a =
+    text-long _ (λ j. c .before .before .before .before .before .slice-known .given j .fits) (found-by (c .before .before .before .before .before .before .pre .1) a)
     (λ j. c .before .before .before .before .shared-slice-known .given j .fits) (c .before .before .write .ensures) (c .enum-told .given .1)
 
 same-length : tie.Need-same-length
 same-length c = search needs
 
 returns-3 : tie.Need-returns-3
-returns-3 c =
-    let pre = c .before .before .before .before .before .before .before .before .before .before .before .before .before .pre in
+returns-3 c marks a =
+    let pre = found-by (c .before .before .before .before .before .before .before .before .before .before .before .before .before .pre .1) a in
     let slice-known = c .before .before .before .before .before .before .before .before .before .before .before .before .slice-known in
     let shared-slice-known = c .before .before .before .before .before .before .before .before .before .before .before .shared-slice-known in
     c .before .before .put-written .ensures
-    ∙ text-effect (λ j. slice-known .given j .fits) pre (λ j. shared-slice-known .given j .fits)
+    ∙ text-effect _ (λ j. slice-known .given j .fits) pre (λ j. shared-slice-known .given j .fits)
     (c .before .before .before .before .before .before .before .before .before .write .ensures) (c .before .before .before .before .before .before .before .w .given .1)
     (c .before .before .before .before .before .if1 .left)
 
