@@ -13,6 +13,7 @@ use lib.IntN.{ℤ}
 use borrow.Author.Tests.{lt-ltb, le-ltb, eq-eqb, ne-eqb, eqb-true, eqb-false}
 use Rattle.format.specs.Order.{Refusal, check, first}
 use Rattle.format.specs.Field.{table}
+use Rattle.format.specs.Flags.{FlagTable}
 use Rattle.format.specs.Nibbles.{nibbles, odd, tailNibbles, attachmentsOf}
 use Rattle.format.specs.Observation.{Observation, checksum, cardNumbers, packing, size}
 use Rattle.format.specs.Report.{numbersOf, attachmentChecks, tailOf}
@@ -45,10 +46,10 @@ said : (o : Option Refusal) (count : ℕ) → Said o count (countedBy o count)
 said none count = (refl, refl)
 said (some r) count = refl
 
-pub says : (ns : List ℕ) (w v : Counted) → w ≡ tailCounted ns → w ≡ v → Said (first (attachmentChecks (countIn ns) 1 [] ns)) (countIn ns) v
+pub says : (marks : FlagTable) (ns : List ℕ) (w v : Counted) → w ≡ tailCounted marks ns → w ≡ v → Said (first (attachmentChecks marks (countIn ns) 1 [] ns)) (countIn ns) v
 unfolding tailCounted
-says ns w v is e =
-    let o = first (attachmentChecks (countIn ns) 1 [] ns) in
+says marks ns w v is e =
+    let o = first (attachmentChecks marks (countIn ns) 1 [] ns) in
     subst (Said o (countIn ns)) (sym is ∙ e) (said o (countIn ns))
 
 -- ---- the presence word
@@ -97,56 +98,56 @@ laid-behind x ns n m en em h = go (odd n) refl
 
 -- ---- the outcomes
 
-module _ (values : List ℤ) (word rptin : ℕ) (ns out : List ℕ) where
-  refused : (n p : ℕ) → first (packOrder (length out) values word rptin ns) ≡ some (record { number = n; place = p })
-      → record { answer = refusal n p; out = out } ≡ pack values word rptin ns out
-  refused n p e = pack-outcome values word rptin ns out (some (record { number = n; place = p })) e
+module _ (marks : FlagTable) (values : List ℤ) (word rptin : ℕ) (ns out : List ℕ) where
+  refused : (n p : ℕ) → first (packOrder marks (length out) values word rptin ns) ≡ some (record { number = n; place = p })
+      → record { answer = refusal n p; out = out } ≡ pack marks values word rptin ns out
+  refused n p e = pack-outcome marks values word rptin ns out (some (record { number = n; place = p })) e
 
-  pub short-values : length values < 46 → record { answer = refusal 13 0; out = out } ≡ pack values word rptin ns out
+  pub short-values : length values < 46 → record { answer = refusal 13 0; out = out } ≡ pack marks values word rptin ns out
   unfolding packOrder
   short-values h = refused 13 0 (first-fits _ _ (lt-ltb (length values) 46 h))
 
   module _ (long : 46 ≤ length values) where
-    pub word-refused : bitOutside word ≡ true → record { answer = refusal 8 0; out = out } ≡ pack values word rptin ns out
+    pub word-refused : bitOutside word ≡ true → record { answer = refusal 8 0; out = out } ≡ pack marks values word rptin ns out
     unfolding packOrder
     word-refused e = refused 8 0 (first-skip _ _ (le-ltb (length values) 46 long) ∙ first-fits _ _ e)
 
     pub field-refused : (n k : ℕ) → bitOutside word ≡ false → first (packChecks 1 table word values) ≡ some (record { number = n; place = k })
-        → record { answer = refusal n k; out = out } ≡ pack values word rptin ns out
+        → record { answer = refusal n k; out = out } ≡ pack marks values word rptin ns out
     unfolding packOrder
     field-refused n k i e = refused n k (first-skip _ _ (le-ltb (length values) 46 long) ∙ first-skip _ _ i ∙ first-append-some _ _ (record { number = n; place = k }) e)
 
   module _ (p : FieldsPass values word) where
     behind-fields : (o : Option Refusal)
-        → first (check (not (allNibbles ns)) 14 0 ∷ (attachmentChecks (countIn ns) 1 [] ns ++ (check (ltb (length out) (size (packObservation values word rptin ns))) 13 0 ∷ []))) ≡ o
-        → first (packOrder (length out) values word rptin ns) ≡ o
+        → first (check (not (allNibbles ns)) 14 0 ∷ (attachmentChecks marks (countIn ns) 1 [] ns ++ (check (ltb (length out) (size (packObservation values word rptin ns))) 13 0 ∷ []))) ≡ o
+        → first (packOrder marks (length out) values word rptin ns) ≡ o
     unfolding packOrder
     behind-fields o e = first-skip _ _ (le-ltb (length values) 46 (p .long)) ∙ first-skip _ _ (p .inside) ∙ first-append-skip _ _ (p .fields) ∙ e
 
-    pub bytes-refused : false ≡ allNibbles ns → record { answer = refusal 14 0; out = out } ≡ pack values word rptin ns out
+    pub bytes-refused : false ≡ allNibbles ns → record { answer = refusal 14 0; out = out } ≡ pack marks values word rptin ns out
     bytes-refused e = refused 14 0 (behind-fields _ (first-fits _ _ (ap not (sym e))))
 
-    pub tail-refused : (n k : ℕ) → allNibbles ns ≡ true → first (attachmentChecks (countIn ns) 1 [] ns) ≡ some (record { number = n; place = k })
-        → record { answer = refusal n k; out = out } ≡ pack values word rptin ns out
+    pub tail-refused : (n k : ℕ) → allNibbles ns ≡ true → first (attachmentChecks marks (countIn ns) 1 [] ns) ≡ some (record { number = n; place = k })
+        → record { answer = refusal n k; out = out } ≡ pack marks values word rptin ns out
     tail-refused n k a e = refused n k (behind-fields _ (first-skip _ _ (ap not a) ∙ first-append-some _ _ (record { number = n; place = k }) e))
 
-  module _ (p : TailPasses values word ns) where
-    checked : walks.Walked (countIn ns) [] ns
-    checked = checks-fine (countIn ns) 1 [] ns (all-nibbles ns (p .nibbles)) (p .attachments)
+  module _ (p : TailPasses marks values word ns) where
+    checked : walks.Walked marks (countIn ns) [] ns
+    checked = checks-fine marks (countIn ns) 1 [] ns (all-nibbles ns (p .nibbles)) (p .attachments)
 
     tail-is : tailNibbles (packObservation values word rptin ns .attachments) ≡ ns
     unfolding packObservation
-    tail-is = sym (count-all ns (all-nibbles ns (p .nibbles)) (p .attachments))
+    tail-is = sym (count-all marks ns (all-nibbles ns (p .nibbles)) (p .attachments))
 
     pub few : (countIn ns < 16) × (length ns ≤ 3631)
     few =
-        let l : length ns ≡ length (tailNibbles (attachmentsOf (countIn ns) ns)) = ap length (count-all ns (all-nibbles ns (p .nibbles)) (p .attachments)) in
-        (omega (arith, fine-count (checked .fine), checked .count), omega (arith, fine-size (checked .fine), l))
+        let l : length ns ≡ length (tailNibbles (attachmentsOf (countIn ns) ns)) = ap length (count-all marks ns (all-nibbles ns (p .nibbles)) (p .attachments)) in
+        (omega (arith, fine-count marks (checked .fine), checked .count), omega (arith, fine-size marks (checked .fine), l))
 
     size-of : size (packObservation values word rptin ns) ≡ (75 + length ns) / 2 + (75 + length ns) % 2
     size-of = omega (arith, size-is (packObservation values word rptin ns), ap length tail-is)
 
-    pub short-out : length out < (75 + length ns) / 2 + (75 + length ns) % 2 → record { answer = refusal 13 0; out = out } ≡ pack values word rptin ns out
+    pub short-out : length out < (75 + length ns) / 2 + (75 + length ns) % 2 → record { answer = refusal 13 0; out = out } ≡ pack marks values word rptin ns out
     short-out h =
         refused 13 0
         (behind-fields (p .passed) _
@@ -157,7 +158,7 @@ module _ (values : List ℤ) (word rptin : ℕ) (ns out : List ℕ) where
         → nibbles o1 ≡ paste (nibbles out) 75 ns (length ns) → length o1 ≡ length out
         → nibbles o2 ≡ cond (odd (75 + length ns)) (set (nibbles o1) (75 + length ns) 0) (nibbles o1) → length o2 ≡ length o1
         → Carded o2 o3 (rptin ∷ (codesGiven values word ++ (checksum (codesGiven values word) ∷ count ∷ [])))
-        → record { answer = Answer.accepted (packGives ((75 + length ns) / 2 + (75 + length ns) % 2)); out = o3 } ≡ pack values word rptin ns out
+        → record { answer = Answer.accepted (packGives ((75 + length ns) / 2 + (75 + length ns) % 2)); out = o3 } ≡ pack marks values word rptin ns out
     unfolding packObservation cardNumbers
     written o1 o2 o3 count room bs counts e1 l1 e2 l2 carded =
         let s : Observation = packObservation values word rptin ns in
@@ -171,7 +172,7 @@ module _ (values : List ℤ) (word rptin : ℕ) (ns out : List ℕ) where
         ∙ laid-behind (nibbles out) ns n (2 * size s) refl (omega (arith, size-of)) (omega (arith, size-of, length-nibbles out)) in
         let is : o3 ≡ over (packing s) out =
         layout-is out 0 s (rw tail-is (all-nibbles ns (p .nibbles))) o3 bs long card (rw (m, tail-is) behind) ∙ over-layout out s in
-        let none-refused = packs-none (length out) values word rptin ns (record {
+        let none-refused = packs-none marks (length out) values word rptin ns (record {
           long = p .passed .long;
           inside = p .passed .inside;
           fields = p .passed .fields;
@@ -180,4 +181,4 @@ module _ (values : List ℤ) (word rptin : ℕ) (ns out : List ℕ) where
           room = omega (arith, size-of);
         }) in
         let sizes : (75 + length ns) / 2 + (75 + length ns) % 2 ≡ size s = sym size-of in
-        (λ i. record { answer = Answer.accepted (packGives (sizes i)); out = is i }) ∙ pack-outcome values word rptin ns out none none-refused
+        (λ i. record { answer = Answer.accepted (packGives (sizes i)); out = is i }) ∙ pack-outcome marks values word rptin ns out none none-refused

@@ -8,9 +8,10 @@ use lib.ListN.{length}
 use lib.IntN.{ℤ}
 use Rattle.format.specs.Order.{Refusal, first}
 use Rattle.format.specs.Field.{table}
+use Rattle.format.specs.Flags.{FlagTable}
 use Rattle.format.specs.Report.{attachmentChecks}
 use Rattle.format.specs.Calls.{allNibbles}
-use Rattle.format.specs.Whole.{bitOutside, packChecks, countIn}
+use Rattle.format.specs.Whole.{bitOutside, packChecks, countIn, Wrote, pack}
 use Rattle.pack.specs.declared.Checked.{Checked}
 use Rattle.pack.specs.declared.Checked.the-variants.{Refused, Passed}
 
@@ -29,7 +30,14 @@ pub record FieldsPass (values : List ℤ) (word : ℕ) : Type 0 where
   pub fields : first (packChecks 1 table word values) ≡ none
 
 -- the tail has passed too
-pub record TailPasses (values : List ℤ) (word : ℕ) (ns : List ℕ) : Type 0 where
+pub record TailPasses (marks : FlagTable) (values : List ℤ) (word : ℕ) (ns : List ℕ) : Type 0 where
   pub passed : FieldsPass values word
   pub nibbles : allNibbles ns ≡ true
-  pub attachments : first (attachmentChecks (countIn ns) 1 [] ns) ≡ none
+  pub attachments : first (attachmentChecks marks (countIn ns) 1 [] ns) ≡ none
+
+abbrev pub TailPassesBySome : List ℤ → ℕ → List ℕ → Type 0
+TailPassesBySome values word ns = (marks : FlagTable) × TailPasses marks values word ns
+
+-- what packing leaves, under every table by which the tail has passed
+abbrev pub Packs : List ℤ → ℕ → ℕ → List ℕ → List ℕ → Wrote → Type 0
+Packs values word rptin ns out w = (marks : FlagTable) → TailPasses marks values word ns → w ≡ pack marks values word rptin ns out

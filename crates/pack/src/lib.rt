@@ -7,7 +7,8 @@ ghost use Rattle.format.specs.Nibbles.{nibbles, odd};
 ghost use Rattle.format.specs.Whole.{countIn};
 ghost use Rattle.format.specs.Whole as spec;
 ghost use Rattle.pack.specs.Answers.{packAnswer};
-ghost use Rattle.pack.specs.Steps.{fieldsChecked, FieldsPass, TailPasses};
+ghost use Rattle.pack.specs.Steps.{fieldsChecked, FieldsPass, TailPassesBySome, Packs};
+use format::FlagTable;
 use tail::Counted;
 
 pub enum Packed {
@@ -64,8 +65,8 @@ fn pad(s: &mut [u8], at: usize)
 
 // Writes the report of what has passed, if the output is long enough.
 fn write(values: &[i64], word: u64, rptin: u16, tail: &[u8], count: usize, out: &mut [u8]) -> Packed
-    requires { ⌜ TailPasses (now values) word (now tail) × (count ≡ countIn (now tail)) ⌝ }
-    ensures { λ r. ⌜ record { answer = packAnswer r; out = now (out .exit) } ≡ spec.pack (now (values .entry)) word rptin (now (tail .entry)) (now (out .entry)) ⌝ }
+    requires { ⌜ TailPassesBySome (now values) word (now tail) × (count ≡ countIn (now tail)) ⌝ }
+    ensures { λ r. ⌜ Packs (now (values .entry)) word rptin (now (tail .entry)) (now (out .entry)) (record { answer = packAnswer r; out = now (out .exit) }) ⌝ }
 {
     let n = 75 + tail.len();
     let size = n / 2 + n % 2;
@@ -79,12 +80,19 @@ fn write(values: &[i64], word: u64, rptin: u16, tail: &[u8], count: usize, out: 
 }
 
 // Checks the tail, and writes the report.
-fn pack_tail(values: &[i64], word: u64, rptin: u16, tail: &[u8], out: &mut [u8]) -> Packed
+fn pack_tail(
+    values: &[i64],
+    word: u64,
+    rptin: u16,
+    tail: &[u8],
+    out: &mut [u8],
+    marks: &FlagTable,
+) -> Packed
     requires { ⌜ FieldsPass (now values) word ⌝ }
-    ensures { λ r. ⌜ record { answer = packAnswer r; out = now (out .exit) } ≡ spec.pack (now (values .entry)) word rptin (now (tail .entry)) (now (out .entry)) ⌝ }
+    ensures { λ r. ⌜ record { answer = packAnswer r; out = now (out .exit) } ≡ spec.pack (now (marks .entry)) (now (values .entry)) word rptin (now (tail .entry)) (now (out .entry)) ⌝ }
 {
     if nibble::all_nibbles(tail) {
-        let w = tail::walk_tail(tail);
+        let w = tail::walk_tail(tail, marks);
         match w {
             Counted::Refused(n, p) => {
                 return Packed::Refused(n, p);
@@ -98,8 +106,15 @@ fn pack_tail(values: &[i64], word: u64, rptin: u16, tail: &[u8], out: &mut [u8])
 }
 
 // The report of the values whose bits are set in word, of rptin and of a tail, to the front of out.
-pub fn pack(values: &[i64], word: u64, rptin: u16, tail: &[u8], out: &mut [u8]) -> Packed
-    ensures { λ r. ⌜ record { answer = packAnswer r; out = now (out .exit) } ≡ spec.pack (now (values .entry)) word rptin (now (tail .entry)) (now (out .entry)) ⌝ }
+pub fn pack(
+    values: &[i64],
+    word: u64,
+    rptin: u16,
+    tail: &[u8],
+    out: &mut [u8],
+    marks: &FlagTable,
+) -> Packed
+    ensures { λ r. ⌜ record { answer = packAnswer r; out = now (out .exit) } ≡ spec.pack (now (marks .entry)) (now (values .entry)) word rptin (now (tail .entry)) (now (out .entry)) ⌝ }
 {
     if values.len() < 46 {
         return Packed::Refused(13, 0);
@@ -113,6 +128,6 @@ pub fn pack(values: &[i64], word: u64, rptin: u16, tail: &[u8], out: &mut [u8]) 
     let f = check_fields(values, word);
     match f {
         Checked::Refused(n, k) => Packed::Refused(n, k),
-        Checked::Passed => pack_tail(values, word, rptin, tail, out),
+        Checked::Passed => pack_tail(values, word, rptin, tail, out, marks),
     }
 }

@@ -15,6 +15,7 @@ use borrow.Author.Tests.{le-ltb, lt-ltb, ltb-false}
 use Rattle.format.specs.Bits.{Bytes}
 use Rattle.format.specs.Order.{Refusal, Check, check, first}
 use Rattle.format.specs.Field.{table}
+use Rattle.format.specs.Flags.{FlagTable}
 use Rattle.format.specs.Observation.{Observation, packing, size}
 use Rattle.format.specs.Report.{Verdict, judge, attachmentChecks}
 use Rattle.format.specs.Calls.{Given, Answer, allNibbles, over}
@@ -46,9 +47,9 @@ by-test s vs ns true e = ap (λ (o : Option Refusal). unpackedBy o s vs ns) (fir
 by-test s vs ns false e = ap (λ (o : Option Refusal). unpackedBy o s vs ns) (first-skip _ _ e ∙ first-nil)
 
 -- what unpack was given, and gave
-pub record Opened (b : List ℕ) (vs us : List ℤ) (ns ts : List ℕ) (c : Contents) : Type 0 where
+pub record Opened (marks : FlagTable) (b : List ℕ) (vs us : List ℤ) (ns ts : List ℕ) (c : Contents) : Type 0 where
   pub observation : Observation
-  pub verdict : judge b ≡ Verdict.accepted observation
+  pub verdict : judge marks b ≡ Verdict.accepted observation
   pub long : 46 ≤ length vs
   pub wide : length (tail observation) ≤ length ns
   pub values : us ≡ over (map valueOrZero (observation .values)) vs
@@ -66,10 +67,10 @@ abbrev amounts : Answer → List ℕ
 amounts (Answer.refused r) = []
 amounts (Answer.accepted gs) = map (λ (g : Given). amount (g .number)) gs
 
-module _ (b : List ℕ) (vs us : List ℤ) (ns ts : List ℕ) where
-  pub restore-refused : (n p : ℕ) (out : List ℕ) → unpacked (refusal n p) us ts ≡ unpack b vs ns → trip (refusal n p) us ts out ≡ restored b vs ns out
+module _ (marks : FlagTable) (b : List ℕ) (vs us : List ℤ) (ns ts : List ℕ) where
+  pub restore-refused : (n p : ℕ) (out : List ℕ) → unpacked (refusal n p) us ts ≡ unpack marks b vs ns → trip (refusal n p) us ts out ≡ restored marks b vs ns out
   unfolding unpack restored
-  restore-refused n p out = go (judge b)
+  restore-refused n p out = go (judge marks b)
     where
       inner : (s : Observation) (t : Bool) → tooShort s vs ns ≡ t → unpacked (refusal n p) us ts ≡ unpackedBy (first (unpackChecks s vs ns)) s vs ns
           → trip (refusal n p) us ts out ≡ restoredOn (Verdict.accepted s) b vs ns out
@@ -90,12 +91,12 @@ module _ (b : List ℕ) (vs us : List ℤ) (ns ts : List ℕ) where
       let f : amounts (Answer.accepted (contentsNumbers c)) ≡ amounts (Answer.accepted (unpackGives s)) = ap amounts e in
       ((cc), (cc), (cc))
 
-  pub opened : (c : Contents) → unpacked (Answer.accepted (contentsNumbers c)) us ts ≡ unpack b vs ns → Opened b vs us ns ts c
+  pub opened : (c : Contents) → unpacked (Answer.accepted (contentsNumbers c)) us ts ≡ unpack marks b vs ns → Opened marks b vs us ns ts c
   unfolding unpack
-  opened c = go (judge b) refl
+  opened c = go (judge marks b) refl
     where
-      inner : (s : Observation) → judge b ≡ Verdict.accepted s → (t : Bool) → tooShort s vs ns ≡ t
-          → unpacked (Answer.accepted (contentsNumbers c)) us ts ≡ unpackedBy (first (unpackChecks s vs ns)) s vs ns → Opened b vs us ns ts c
+      inner : (s : Observation) → judge marks b ≡ Verdict.accepted s → (t : Bool) → tooShort s vs ns ≡ t
+          → unpacked (Answer.accepted (contentsNumbers c)) us ts ≡ unpackedBy (first (unpackChecks s vs ns)) s vs ns → Opened marks b vs us ns ts c
       inner s j true q e = refused-accepted _ _ (sym (ap (λ (u : Unpacked). u .answer) (e ∙ by-test s vs ns true q)))
       inner s j false q e =
           let f = e ∙ by-test s vs ns false q in
@@ -113,19 +114,19 @@ module _ (b : List ℕ) (vs us : List ℤ) (ns ts : List ℕ) where
             end = n .2;
           }
 
-      go : (v : Verdict) → judge b ≡ v → unpacked (Answer.accepted (contentsNumbers c)) us ts ≡ unpackOn v vs ns → Opened b vs us ns ts c
+      go : (v : Verdict) → judge marks b ≡ v → unpacked (Answer.accepted (contentsNumbers c)) us ts ≡ unpackOn v vs ns → Opened marks b vs us ns ts c
       go (Verdict.refused r) j e = refused-accepted _ _ (sym (ap (λ (u : Unpacked). u .answer) e))
       go (Verdict.accepted s) j e = inner s j (tooShort s vs ns) refl e
 
 -- the tail that was given lies within its output
-pub opened-within : {b : List ℕ} {vs us : List ℤ} {ns ts : List ℕ} {c : Contents} → Opened b vs us ns ts c → c .nibbles ≤ length ts
-opened-within {ns = ns} o = omega (arith, o .end, ap length (o .rest), length-append (tail (o .observation)) (drop (length (tail (o .observation))) ns))
+pub opened-within : (marks : FlagTable) {b : List ℕ} {vs us : List ℤ} {ns ts : List ℕ} {c : Contents} → Opened marks b vs us ns ts c → c .nibbles ≤ length ts
+opened-within marks {ns = ns} o = omega (arith, o .end, ap length (o .rest), length-append (tail (o .observation)) (drop (length (tail (o .observation))) ns))
 
 -- pack accepts what it accepted
-pack-accepted : (values : List ℤ) (word rptin : ℕ) (ns out : List ℕ) (gs : List Given) (o : List ℕ)
-    → pack values word rptin ns out ≡ record { answer = Answer.accepted gs; out = o } → first (packOrder (length out) values word rptin ns) ≡ none
+pack-accepted : (marks : FlagTable) (values : List ℤ) (word rptin : ℕ) (ns out : List ℕ) (gs : List Given) (o : List ℕ)
+    → pack marks values word rptin ns out ≡ record { answer = Answer.accepted gs; out = o } → first (packOrder marks (length out) values word rptin ns) ≡ none
 unfolding pack
-pack-accepted values word rptin ns out gs o e = go (first (packOrder (length out) values word rptin ns)) e
+pack-accepted marks values word rptin ns out gs o e = go (first (packOrder marks (length out) values word rptin ns)) e
   where
     go : (q : Option Refusal)
         → wroteBy q (packGives (size (packObservation values word rptin ns))) (packing (packObservation values word rptin ns)) out
@@ -134,23 +135,23 @@ pack-accepted values word rptin ns out gs o e = go (first (packOrder (length out
     go none e = refl
     go (some r) e = refused-accepted _ _ (ap (λ (w : Wrote). w .answer) e)
 
-module _ (b : List ℕ) (bs : Bytes b) (vs us : List ℤ) (ns ts : List ℕ) (c : Contents) (o : Opened b vs us ns ts c) where
+module _ (marks : FlagTable) (b : List ℕ) (bs : Bytes b) (vs us : List ℤ) (ns ts : List ℕ) (c : Contents) (o : Opened marks b vs us ns ts c) where
   same-pack : (out : List ℕ)
-      → pack us (c .word) (c .rptin) (take (c .nibbles) ts) out
-      ≡ pack (unpack b vs ns .values) (presence (o .observation)) (o .observation .rptin) (take (length (tail (o .observation))) (unpack b vs ns .tail)) out
+      → pack marks us (c .word) (c .rptin) (take (c .nibbles) ts) out
+      ≡ pack marks (unpack marks b vs ns .values) (presence (o .observation)) (o .observation .rptin) (take (length (tail (o .observation))) (unpack marks b vs ns .tail)) out
   same-pack out =
-      let is = sym (unpack-accepted b (o .observation) vs ns (o .verdict) (o .long) (o .wide)) in
-      let u : us ≡ unpack b vs ns .values = o .values ∙ ap (λ (x : Unpacked). x .values) is in
-      let t : ts ≡ unpack b vs ns .tail = o .rest ∙ ap (λ (x : Unpacked). x .tail) is in
-      λ i. pack (u i) (o .word i) (o .rptin i) (take (o .end i) (t i)) out
+      let is = sym (unpack-accepted marks b (o .observation) vs ns (o .verdict) (o .long) (o .wide)) in
+      let u : us ≡ unpack marks b vs ns .values = o .values ∙ ap (λ (x : Unpacked). x .values) is in
+      let t : ts ≡ unpack marks b vs ns .tail = o .rest ∙ ap (λ (x : Unpacked). x .tail) is in
+      λ i. pack marks (u i) (o .word i) (o .rptin i) (take (o .end i) (t i)) out
 
   pack-back : (out : List ℕ) → size (o .observation) ≤ length out
-      → pack us (c .word) (c .rptin) (take (c .nibbles) ts) out
+      → pack marks us (c .word) (c .rptin) (take (c .nibbles) ts) out
       ≡ record { answer = Answer.accepted (packGives (size (o .observation))); out = over (take (size (o .observation)) b) out }
-  pack-back out h = same-pack out ∙ pack-unpacked b (o .observation) vs ns out bs (o .verdict) (o .long) (o .wide) h
+  pack-back out h = same-pack out ∙ pack-unpacked marks b (o .observation) vs ns out bs (o .verdict) (o .long) (o .wide) h
 
-  pub restore-packed : (a : Answer) (out after : List ℕ) → Holds out b → record { answer = a; out = after } ≡ pack us (c .word) (c .rptin) (take (c .nibbles) ts) out
-      → trip a us ts after ≡ restored b vs ns out
+  pub restore-packed : (a : Answer) (out after : List ℕ) → Holds marks out b → record { answer = a; out = after } ≡ pack marks us (c .word) (c .rptin) (take (c .nibbles) ts) out
+      → trip a us ts after ≡ restored marks b vs ns out
   unfolding restored
   restore-packed a out after holds e =
       let x = o .observation in
@@ -163,10 +164,10 @@ module _ (b : List ℕ) (bs : Bytes b) (vs us : List ℤ) (ns ts : List ℕ) (c 
       ∙ ap (λ (v : Verdict). restoredOn v b vs ns out) (sym (o .verdict))
 
 -- the report is refused; the output is too short for it; it holds it
-module _ (b : List ℕ) (j : Judged) (is : j ≡ judgedOf (judge b)) where
-  pub report-refused : (n p : ℕ) (vs : List ℤ) (ns out : List ℕ) → j ≡ Judged.Refused n p → trip (refusal n p) vs ns out ≡ restored b vs ns out
+module _ (marks : FlagTable) (b : List ℕ) (j : Judged) (is : j ≡ judgedOf (judge marks b)) where
+  pub report-refused : (n p : ℕ) (vs : List ℤ) (ns out : List ℕ) → j ≡ Judged.Refused n p → trip (refusal n p) vs ns out ≡ restored marks b vs ns out
   unfolding restored
-  report-refused n p vs ns out e = go (judge b) (sym e ∙ is)
+  report-refused n p vs ns out e = go (judge marks b) (sym e ∙ is)
     where
       go : (v : Verdict) → Judged.Refused n p ≡ judgedOf v → trip (refusal n p) vs ns out ≡ restoredOn v b vs ns out
       go (Verdict.refused r) q =
@@ -175,9 +176,9 @@ module _ (b : List ℕ) (j : Judged) (is : j ≡ judgedOf (judge b)) where
           ap₂ (λ (k m : ℕ). trip (refusal k m) vs ns out) x y
       go (Verdict.accepted s) q = let z : _≡_ {A = ℕ} 0 1 = cc in absurd (omega arith)
 
-  pub report-no-room : (n : ℕ) (vs : List ℤ) (ns out : List ℕ) → j ≡ Judged.Accepted n → length out < n → trip (refusal 13 0) vs ns out ≡ restored b vs ns out
+  pub report-no-room : (n : ℕ) (vs : List ℤ) (ns out : List ℕ) → j ≡ Judged.Accepted n → length out < n → trip (refusal 13 0) vs ns out ≡ restored marks b vs ns out
   unfolding restored
-  report-no-room n vs ns out e h = go (judge b) (sym e ∙ is)
+  report-no-room n vs ns out e h = go (judge marks b) (sym e ∙ is)
     where
       short : (s : Observation) → length out < size s → (t : Bool) → tooShort s vs ns ≡ t → first (restoreChecks s vs ns out) ≡ some (record { number = 13; place = 0 })
       short s l true q = first-fits _ _ q
@@ -189,7 +190,7 @@ module _ (b : List ℕ) (j : Judged) (is : j ≡ judgedOf (judge b)) where
           let x : n ≡ size s = cc in
           ap (λ (o : Option Refusal). restoredBy o s b vs ns out) (sym (short s (omega arith) (tooShort s vs ns) refl))
 
-  pub report-holds : (n : ℕ) (out : List ℕ) → j ≡ Judged.Accepted n → n ≤ length out → Holds out b
+  pub report-holds : (n : ℕ) (out : List ℕ) → j ≡ Judged.Accepted n → n ≤ length out → Holds marks out b
   report-holds n out e h s v =
       let q : Judged.Accepted n ≡ Judged.Accepted (size s) = sym e ∙ is ∙ ap judgedOf v in
       let x : n ≡ size s = cc in
@@ -197,7 +198,7 @@ module _ (b : List ℕ) (j : Judged) (is : j ≡ judgedOf (judge b)) where
 
 -- ---- unpack after pack
 
-module _ (values : List ℤ) (word rptin : ℕ) (ns out : List ℕ) (vs : List ℤ) (ts : List ℕ) where
+module _ (marks : FlagTable) (values : List ℤ) (word rptin : ℕ) (ns out : List ℕ) (vs : List ℤ) (ts : List ℕ) where
   abbrev packed : Observation
   packed = packObservation values word rptin ns
 
@@ -213,16 +214,16 @@ module _ (values : List ℤ) (word rptin : ℕ) (ns out : List ℕ) (vs : List �
   front =
       check (ltb (length values) 46) 13 0
       ∷ check (bitOutside word) 8 0
-      ∷ (packChecks 1 table word values ++ (check (not (allNibbles ns)) 14 0 ∷ attachmentChecks (countIn ns) 1 [] ns))
+      ∷ (packChecks 1 table word values ++ (check (not (allNibbles ns)) 14 0 ∷ attachmentChecks marks (countIn ns) 1 [] ns))
 
-  order-split : (n : ℕ) → packOrder n values word rptin ns ≡ front ++ (check (ltb n (size packed)) 13 0 ∷ [])
+  order-split : (n : ℕ) → packOrder marks n values word rptin ns ≡ front ++ (check (ltb n (size packed)) 13 0 ∷ [])
   unfolding packOrder
   order-split n =
       ap (λ (l : List Check). check (ltb (length values) 46) 13 0 ∷ check (bitOutside word) 8 0 ∷ l)
-      (sym (append-assoc (packChecks 1 table word values) (check (not (allNibbles ns)) 14 0 ∷ attachmentChecks (countIn ns) 1 [] ns) _))
+      (sym (append-assoc (packChecks 1 table word values) (check (not (allNibbles ns)) 14 0 ∷ attachmentChecks marks (countIn ns) 1 [] ns) _))
 
   -- the trip's first refusal is pack's on what it is lent
-  lent-order : first (recoverChecks values word rptin ns out vs ts) ≡ first (packOrder lent values word rptin ns)
+  lent-order : first (recoverChecks marks values word rptin ns out vs ts) ≡ first (packOrder marks lent values word rptin ns)
   unfolding first
   lent-order = go tooLittle refl
     where
@@ -242,13 +243,13 @@ module _ (values : List ℤ) (word rptin : ℕ) (ns out : List ℕ) (vs : List �
           ∙ either t
           ∙ sym (first-append-skip front (check (ltb 0 (size packed)) 13 0 ∷ []) q ∙ first-fits (check (ltb 0 (size packed)) 13 0) [] (lt-ltb 0 (size packed) (omega (arith, size-is packed))))
 
-      all-lent : (o : Option Refusal) → first (packOrder (length out) values word rptin ns) ≡ o
-          → first (packOrder (length out) values word rptin ns ++ (check false 13 0 ∷ [])) ≡ o
-      all-lent (some r) q = first-append-some (packOrder (length out) values word rptin ns) (check false 13 0 ∷ []) r q
-      all-lent none q = first-append-skip (packOrder (length out) values word rptin ns) (check false 13 0 ∷ []) q ∙ first-skip (check false 13 0) [] refl ∙ first-nil
+      all-lent : (o : Option Refusal) → first (packOrder marks (length out) values word rptin ns) ≡ o
+          → first (packOrder marks (length out) values word rptin ns ++ (check false 13 0 ∷ [])) ≡ o
+      all-lent (some r) q = first-append-some (packOrder marks (length out) values word rptin ns) (check false 13 0 ∷ []) r q
+      all-lent none q = first-append-skip (packOrder marks (length out) values word rptin ns) (check false 13 0 ∷ []) q ∙ first-skip (check false 13 0) [] refl ∙ first-nil
 
       go : (t : Bool) → tooLittle ≡ t
-          → first (packOrder (length out) values word rptin ns ++ (check t 13 0 ∷ [])) ≡ first (packOrder (cond t 0 (length out)) values word rptin ns)
+          → first (packOrder marks (length out) values word rptin ns ++ (check t 13 0 ∷ [])) ≡ first (packOrder marks (cond t 0 (length out)) values word rptin ns)
       go true q =
           ap (λ (l : List Check). first (l ++ (check true 13 0 ∷ []))) (order-split (length out))
           ∙ ap first (append-assoc front (check (ltb (length out) (size packed)) 13 0 ∷ []) (check true 13 0 ∷ []))
@@ -260,54 +261,54 @@ module _ (values : List ℤ) (word rptin : ℕ) (ns out : List ℕ) (vs : List �
     pub lent-within : n ≤ length out
     lent-within = rw is (cond-case (λ (m : ℕ). m ≤ length out) tooLittle 0 (length out) (λ e. omega arith) (λ e. omega arith))
 
-    lent-first : first (packOrder (length (take n out)) values word rptin ns) ≡ first (recoverChecks values word rptin ns out vs ts)
+    lent-first : first (packOrder marks (length (take n out)) values word rptin ns) ≡ first (recoverChecks marks values word rptin ns out vs ts)
     lent-first =
-        ap (λ (m : ℕ). first (packOrder m values word rptin ns)) (length-take-le n out lent-within ∙ is) ∙ sym lent-order
+        ap (λ (m : ℕ). first (packOrder marks m values word rptin ns)) (length-take-le n out lent-within ∙ is) ∙ sym lent-order
 
-    pub recover-refused : (number place : ℕ) (o : List ℕ) → record { answer = refusal number place; out = o } ≡ pack values word rptin ns (take n out)
-        → trip (refusal number place) vs ts (o ++ drop n out) ≡ recovered values word rptin ns out vs ts
+    pub recover-refused : (number place : ℕ) (o : List ℕ) → record { answer = refusal number place; out = o } ≡ pack marks values word rptin ns (take n out)
+        → trip (refusal number place) vs ts (o ++ drop n out) ≡ recovered marks values word rptin ns out vs ts
     unfolding pack recovered
-    recover-refused number place o e = go (first (packOrder (length (take n out)) values word rptin ns)) refl e
+    recover-refused number place o e = go (first (packOrder marks (length (take n out)) values word rptin ns)) refl e
       where
-        go : (q : Option Refusal) → first (packOrder (length (take n out)) values word rptin ns) ≡ q
+        go : (q : Option Refusal) → first (packOrder marks (length (take n out)) values word rptin ns) ≡ q
             → record { answer = refusal number place; out = o } ≡ wroteBy q (packGives (size packed)) (packing packed) (take n out)
-            → trip (refusal number place) vs ts (o ++ drop n out) ≡ recoveredBy (first (recoverChecks values word rptin ns out vs ts)) values word rptin ns out vs ts
+            → trip (refusal number place) vs ts (o ++ drop n out) ≡ recoveredBy (first (recoverChecks marks values word rptin ns out vs ts)) values word rptin ns out vs ts
         go (some r) q e =
             (λ i. trip (e i .answer) vs ts (e i .out ++ drop n out))
             ∙ ap (λ (x : List ℕ). trip (Answer.refused r) vs ts x) (take-append-drop n out)
             ∙ ap (λ (x : Option Refusal). recoveredBy x values word rptin ns out vs ts) (sym q ∙ lent-first)
         go none q e = refused-accepted _ _ (ap (λ (w : Wrote). w .answer) e)
 
-    module _ (gs : List Given) (o : List ℕ) (e : record { answer = Answer.accepted gs; out = o } ≡ pack values word rptin ns (take n out)) where
+    module _ (gs : List Given) (o : List ℕ) (e : record { answer = Answer.accepted gs; out = o } ≡ pack marks values word rptin ns (take n out)) where
       -- no check fits, so that all of the output was lent
-      passed : first (recoverChecks values word rptin ns out vs ts) ≡ none
-      passed = sym lent-first ∙ pack-accepted values word rptin ns (take n out) gs o (sym e)
+      passed : first (recoverChecks marks values word rptin ns out vs ts) ≡ none
+      passed = sym lent-first ∙ pack-accepted marks values word rptin ns (take n out) gs o (sym e)
 
-      order-passed : first (packOrder (length out) values word rptin ns) ≡ none
+      order-passed : first (packOrder marks (length out) values word rptin ns) ≡ none
       order-passed = first-append-none _ _ passed .0
 
       enough : tooLittle ≡ false
-      enough = first-none _ [] (first-append-none (packOrder (length out) values word rptin ns) _ passed .1) .0
+      enough = first-none _ [] (first-append-none (packOrder marks (length out) values word rptin ns) _ passed .1) .0
 
       all : n ≡ length out
       all = is ∙ ap (λ (t : Bool). cond t 0 (length out)) enough
 
-      written : o ++ drop n out ≡ pack values word rptin ns out .out
+      written : o ++ drop n out ≡ pack marks values word rptin ns out .out
       written =
           ap₂ (λ (x y : List ℕ). x ++ y)
-          (ap (λ (w : Wrote). w .out) e ∙ ap (λ (x : List ℕ). pack values word rptin ns x .out) (take-all n out (omega (arith, all))))
+          (ap (λ (w : Wrote). w .out) e ∙ ap (λ (x : List ℕ). pack marks values word rptin ns x .out) (take-all n out (omega (arith, all))))
           (drop-of-length-le out {i = n} (omega (arith, all)))
           ∙ append-nil _
 
       pub recover-written : (r : rptin < 2 ^ 16) (a : Answer) (us : List ℤ) (qs : List ℕ)
-          → unpacked a us qs ≡ unpack (o ++ drop n out) vs ts → trip a us qs (o ++ drop n out) ≡ recovered values word rptin ns out vs ts
+          → unpacked a us qs ≡ unpack marks (o ++ drop n out) vs ts → trip a us qs (o ++ drop n out) ≡ recovered marks values word rptin ns out vs ts
       unfolding recovered
       recover-written r a us qs u =
           let h = or-false _ _ enough in
           let f =
-          u ∙ ap (λ (x : List ℕ). unpack x vs ts) written
-          ∙ unpack-after-pack values word rptin ns out r order-passed vs ts (ltb-false (length vs) 46 (h .0)) (ltb-false (length ts) (length ns) (h .1)) in
+          u ∙ ap (λ (x : List ℕ). unpack marks x vs ts) written
+          ∙ unpack-after-pack marks values word rptin ns out r order-passed vs ts (ltb-false (length vs) 46 (h .0)) (ltb-false (length ts) (length ns) (h .1)) in
           let report : o ++ drop n out ≡ over (packing packed) out =
-          written ∙ ap (λ (w : Wrote). w .out) (sym (pack-outcome values word rptin ns out none order-passed)) in
+          written ∙ ap (λ (w : Wrote). w .out) (sym (pack-outcome marks values word rptin ns out none order-passed)) in
           (λ i. trip (f i .answer) (f i .values) (f i .tail) (report i))
           ∙ ap (λ (x : Option Refusal). recoveredBy x values word rptin ns out vs ts) (sym passed)

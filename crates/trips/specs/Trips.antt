@@ -9,6 +9,7 @@ use lib.Dec.{ltb}
 use lib.IntN.{ℤ}
 use lib.Count.{ones}
 use Rattle.format.specs.Order.{Refusal, Check, check, first}
+use Rattle.format.specs.Flags.{FlagTable}
 use Rattle.format.specs.Observation.{Observation, packing, size}
 use Rattle.format.specs.Report.{Verdict, judge}
 use Rattle.format.specs.Calls.{Answer, over}
@@ -40,15 +41,15 @@ abbrev pub restoredOn : Verdict → List ℕ → List ℤ → List ℕ → List 
 restoredOn (Verdict.refused r) b vs ns out = trip (Answer.refused r) vs ns out
 restoredOn (Verdict.accepted s) b vs ns out = restoredBy (first (restoreChecks s vs ns out)) s b vs ns out
 
-unfoldable pub restored : List ℕ → List ℤ → List ℕ → List ℕ → Trip
-restored b vs ns out = restoredOn (judge b) b vs ns out
+unfoldable pub restored : FlagTable → List ℕ → List ℤ → List ℕ → List ℕ → Trip
+restored marks b vs ns out = restoredOn (judge marks b) b vs ns out
 
 -- ---- unpack after pack
 
 -- those of pack, then unpack's 13
-abbrev pub recoverChecks : List ℤ → ℕ → ℕ → List ℕ → List ℕ → List ℤ → List ℕ → List Check
-recoverChecks values word rptin ns out vs ts =
-    packOrder (length out) values word rptin ns ++ (check (ltb (length vs) 46 || ltb (length ts) (length ns)) 13 0 ∷ [])
+abbrev pub recoverChecks : FlagTable → List ℤ → ℕ → ℕ → List ℕ → List ℕ → List ℤ → List ℕ → List Check
+recoverChecks marks values word rptin ns out vs ts =
+    packOrder marks (length out) values word rptin ns ++ (check (ltb (length vs) 46 || ltb (length ts) (length ns)) 13 0 ∷ [])
 
 -- what pack accepts comes back, the values of missing fields as 0; a refused trip changes nothing
 abbrev pub recoveredBy : Option Refusal → List ℤ → ℕ → ℕ → List ℕ → List ℕ → List ℤ → List ℕ → Trip
@@ -61,12 +62,12 @@ recoveredBy none values word rptin ns out vs ts =
     (over ns ts)
     (over (packing s) out)
 
-unfoldable pub recovered : List ℤ → ℕ → ℕ → List ℕ → List ℕ → List ℤ → List ℕ → Trip
-recovered values word rptin ns out vs ts =
-    recoveredBy (first (recoverChecks values word rptin ns out vs ts)) values word rptin ns out vs ts
+unfoldable pub recovered : FlagTable → List ℤ → ℕ → ℕ → List ℕ → List ℕ → List ℤ → List ℕ → Trip
+recovered marks values word rptin ns out vs ts =
+    recoveredBy (first (recoverChecks marks values word rptin ns out vs ts)) values word rptin ns out vs ts
 
 -- ---- for the code
 
 -- an output holds the report that b begins with
-abbrev pub Holds : List ℕ → List ℕ → Type 0
-Holds out b = (s : Observation) → judge b ≡ Verdict.accepted s → size s ≤ length out
+abbrev pub Holds : FlagTable → List ℕ → List ℕ → Type 0
+Holds marks out b = (s : Observation) → judge marks b ≡ Verdict.accepted s → size s ≤ length out

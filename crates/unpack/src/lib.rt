@@ -2,8 +2,9 @@
 ghost use mathlib.Core.Path.{_≡_};
 ghost use Rattle.format.specs.Whole.{unpacked};
 ghost use Rattle.format.specs.Whole as spec;
-ghost use Rattle.unpack.specs.Answers.{unpackAnswer};
-ghost use Rattle.report.specs.Found.{Found};
+ghost use Rattle.unpack.specs.Answers.{unpackAnswer, Unpacks};
+ghost use Rattle.report.specs.Found.{FoundBySome};
+use format::FlagTable;
 use report::Inspected;
 use report::Report;
 
@@ -26,8 +27,8 @@ pub enum Unpacked {
 
 // Gives what an accepted report holds, r being what judging it found, if the outputs are long enough.
 fn give(s: &[u8], r: Report, values: &mut [i64], tail: &mut [u8]) -> Unpacked
-    requires { ⌜ Found (now s) 0 r ⌝ }
-    ensures { λ u. ⌜ unpacked (unpackAnswer u) (now (values .exit)) (now (tail .exit)) ≡ spec.unpack (now (s .entry)) (now (values .entry)) (now (tail .entry)) ⌝ }
+    requires { ⌜ FoundBySome (now s) 0 r ⌝ }
+    ensures { λ u. ⌜ Unpacks (now (s .entry)) (now (values .entry)) (now (tail .entry)) (unpacked (unpackAnswer u) (now (values .exit)) (now (tail .exit))) ⌝ }
 {
     let n = r.end - 75;
     if values.len() < 46 {
@@ -49,10 +50,10 @@ fn give(s: &[u8], r: Report, values: &mut [i64], tail: &mut [u8]) -> Unpacked
 }
 
 // A report's values, 0 where missing, to the first 46 of values, and its tail, one nibble a byte, to the front of tail.
-pub fn unpack(s: &[u8], values: &mut [i64], tail: &mut [u8]) -> Unpacked
-    ensures { λ r. ⌜ unpacked (unpackAnswer r) (now (values .exit)) (now (tail .exit)) ≡ spec.unpack (now (s .entry)) (now (values .entry)) (now (tail .entry)) ⌝ }
+pub fn unpack(s: &[u8], values: &mut [i64], tail: &mut [u8], marks: &FlagTable) -> Unpacked
+    ensures { λ r. ⌜ unpacked (unpackAnswer r) (now (values .exit)) (now (tail .exit)) ≡ spec.unpack (now (marks .entry)) (now (s .entry)) (now (values .entry)) (now (tail .entry)) ⌝ }
 {
-    let i = report::inspect(&*s, 0);
+    let i = report::inspect(&*s, 0, *marks);
     match i {
         Inspected::Refused(n, p) => Unpacked::Refused(n, p),
         Inspected::Fine(r) => give(&*s, r, values, tail),

@@ -7,13 +7,13 @@ use Rattle.pack.proofs.pack.Statement.{statement}
 use Rattle.pack.proofs.pack.Tie as tie
 
 returns : tie.Need-returns
-returns c = short-values _ _ _ _ _ (c .if1 .taken)
+returns c = short-values _ _ _ _ _ _ (c .if1 .taken)
 
 returns-2 : tie.Need-returns-2
-returns-2 c = word-refused _ _ _ _ _ (c .before .if1 .left) (bit-low _ (c .if2 .taken))
+returns-2 c = word-refused _ _ _ _ _ _ (c .before .if1 .left) (bit-low _ (c .if2 .taken))
 
 returns-3 : tie.Need-returns-3
-returns-3 c = word-refused _ _ _ _ _ (c .before .before .if1 .left) (bit-high _ (c .before .if2 .left) (c .if3 .taken))
+returns-3 c = word-refused _ _ _ _ _ _ (c .before .before .if1 .left) (bit-high _ (c .before .if2 .left) (c .if3 .taken))
 
 check-fields-requires : tie.Need-check-fields-requires
 check-fields-requires c κs = search needs
@@ -34,7 +34,7 @@ pack-tail-requires c κs =
 
 returns-4 : tie.Need-returns-4
 returns-4 c =
-    field-refused _ _ _ _ _ (c .before .before .before .before .before .before .if1 .left) _ _
+    field-refused _ _ _ _ _ _ (c .before .before .before .before .before .before .if1 .left) _ _
     (bits-inside _ (c .before .before .before .before .before .if2 .left) (c .before .before .before .before .if3 .left))
     (says-refused _ _ _ (c .before .before .before .check-fields .ensures) _ _ (c .before .f .given .1))
 

@@ -25,7 +25,7 @@ enum-known-w c = search needs
 returns : tie.Need-returns
 returns c =
     let t = c .before .before .before .before in
-    tail-refused _ _ _ _ _ (t .before .before .before .before .pre) _ _ (nibbles t) (says _ _ _ (c .before .before .before .walk-tail .ensures) (c .before .w .given .1))
+    tail-refused _ _ _ _ _ _ (t .before .before .before .before .pre) _ _ (nibbles t) (says _ _ _ _ (c .before .before .before .walk-tail .ensures) (c .before .w .given .1))
 
 enum-known-w-2 : tie.Need-enum-known-w-2
 enum-known-w-2 c = search needs
@@ -33,17 +33,20 @@ enum-known-w-2 c = search needs
 write-requires : tie.Need-write-requires
 write-requires c κs =
     let t = c .before .before .before .before .before in
-    let s = says _ _ _ (c .before .before .before .before .walk-tail .ensures) (c .before .before .w2 .given .1) in
-    (record { passed = t .before .before .before .before .pre; nibbles = nibbles t; attachments = s .0 }, s .1)
+    let s = says _ _ _ _ (c .before .before .before .before .walk-tail .ensures) (c .before .before .w2 .given .1) in
+    ((_, record { passed = t .before .before .before .before .pre; nibbles = nibbles t; attachments = s .0 }), s .1)
 
 same-length : tie.Need-same-length
 same-length c = search needs
 
 returns-2 : tie.Need-returns-2
-returns-2 c = search needs
+returns-2 c =
+    let s = says _ _ _ _ (c .before .before .before .before .before .before .before .walk-tail .ensures) (c .before .before .before .before .before .w2 .given .1) in
+    let t = c .before .before .before .before .before .before .before .before in
+    c .before .before .write .ensures _ (record { passed = t .before .before .before .before .pre; nibbles = nibbles t; attachments = s .0 })
 
 returns-3 : tie.Need-returns-3
-returns-3 c = bytes-refused _ _ _ _ _ (c .before .before .before .before .pre) (sym (c .if1 .left) ∙ c .before .all-nibbles .ensures)
+returns-3 c = bytes-refused _ _ _ _ _ _ (c .before .before .before .before .pre) (sym (c .if1 .left) ∙ c .before .all-nibbles .ensures)
 
 pub pack-tail-spec : {M : Type 1} → statement M
 pack-tail-spec =

@@ -15,7 +15,7 @@ use Rattle.trips.proofs.recover.Tie as tie
 within : (c : tie.After-room) → c .room .result ≤ length (now (c .before .before .before .before .args .out))
 within c =
     let a = c .before .before .before .before .args in
-    lent-within (now (a .values)) (a .word) (a .rptin) (now (a .tail)) (now (a .out)) (now (a .values-out)) (now (a .tail-out)) _ (c .room .ensures)
+    lent-within (now (a .marks)) (now (a .values)) (a .word) (a .rptin) (now (a .tail)) (now (a .out)) (now (a .values-out)) (now (a .tail-out)) _ (c .room .ensures)
 
 room-requires : tie.Need-room-requires
 room-requires c κs = search needs
@@ -44,7 +44,7 @@ same-length c = search needs
 returns : tie.Need-returns
 returns c =
     let a = c .before .before .before .before .before .before .before .before .before .before .before .args in
-    recover-refused _ _ _ _ _ (now (a .values-out)) (now (a .tail-out)) _ (c .before .before .before .before .before .before .before .room .ensures) _ _ _
+    recover-refused _ _ _ _ _ _ (now (a .values-out)) (now (a .tail-out)) _ (c .before .before .before .before .before .before .before .room .ensures) _ _ _
     (rw (c .before .p .given .1) at (c .before .before .before .before .before .pack .ensures))
 
 same-length-2 : tie.Need-same-length-2
@@ -60,7 +60,7 @@ returns-2 : tie.Need-returns-2
 returns-2 c =
     let room = c .before .before .before .before .before .before .before .before .before .before .before .before .before .room in
     let pack = c .before .before .before .before .before .before .before .before .before .before .before .pack in
-    recover-written _ _ _ _ _ _ _ _ (room .ensures) _ _ (rw (c .before .before .before .before .before .before .before .enum-told .given .1) at (pack .ensures))
+    recover-written _ _ _ _ _ _ _ _ _ (room .ensures) _ _ (rw (c .before .before .before .before .before .before .before .enum-told .given .1) at (pack .ensures))
     (omega arith) _ _ _ (c .before .before .before .unpack .ensures)
 
 pub recover-spec : {M : Type 1} → statement M

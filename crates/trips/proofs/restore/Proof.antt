@@ -16,16 +16,16 @@ enum-known-j-2 : tie.Need-enum-known-j-2
 enum-known-j-2 c = search needs
 
 returns : tie.Need-returns
-returns c = report-no-room _ _ (c .before .before .before .before .judge .ensures .0) _ _ _ _ (c .before .before .j2 .given .1) (c .if1 .taken)
+returns c = report-no-room _ _ _ (c .before .before .before .before .judge .ensures .0) _ _ _ _ (c .before .before .j2 .given .1) (c .if1 .taken)
 
 restore-to-requires : tie.Need-restore-to-requires
 restore-to-requires c κs =
-    let args = c .before .before .before .before .before .before .before .before .before .before .before .args in
-    report-holds _ _ (c .before .before .before .before .before .before .before .judge .ensures .0) _ (now (args .out))
+    let args = c .before .before .before .before .before .before .before .before .before .before .before .before .args in
+    report-holds _ _ _ (c .before .before .before .before .before .before .before .judge .ensures .0) _ (now (args .out))
     (c .before .before .before .before .before .j2 .given .1) (c .before .before .before .if1 .left)
 
 returns-2 : tie.Need-returns-2
-returns-2 c = report-refused _ _ (c .before .before .before .judge .ensures .0) _ _ _ _ _ (c .before .j .given .1)
+returns-2 c = report-refused _ _ _ (c .before .before .before .judge .ensures .0) _ _ _ _ _ (c .before .j .given .1)
 
 same-length : tie.Need-same-length
 same-length c = search needs

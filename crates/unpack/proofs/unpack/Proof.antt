@@ -16,10 +16,10 @@ enum-known-i-2 : tie.Need-enum-known-i-2
 enum-known-i-2 c = search needs
 
 give-requires : tie.Need-give-requires
-give-requires c κs = inspect-found _ _ _ (c .before .before .before .before .before .inspect .ensures) _ (c .before .before .before .i2 .given .1)
+give-requires c κs = (_, inspect-found _ _ _ _ (c .before .before .before .before .before .inspect .ensures) _ (c .before .before .before .i2 .given .1))
 
 returns : tie.Need-returns
-returns c = unpack-refused _ _ _ _ _ _ (c .before .before .before .inspect .ensures) (c .before .i .given .1)
+returns c = unpack-refused _ _ _ _ _ _ _ (c .before .before .before .inspect .ensures) (c .before .i .given .1)
 
 same-length : tie.Need-same-length
 same-length c = search needs
@@ -28,7 +28,7 @@ same-length-2 : tie.Need-same-length-2
 same-length-2 c = search needs
 
 returns-2 : tie.Need-returns-2
-returns-2 c = search needs
+returns-2 c = c .before .before .before .give .ensures _ (inspect-found _ _ _ _ (c .before .before .before .before .before .before .before .before .before .inspect .ensures) _ (c .before .before .before .before .before .before .before .i2 .given .1) .judged)
 
 pub unpack-spec : {M : Type 1} → statement M
 unpack-spec =
