@@ -1,4 +1,4 @@
-// A replay: a script of calls performed on one buffer, and the log of their answers.
+// A replay: a script of calls performed on one buffer under one table of permitted flags, and the log of their answers.
 ghost use mathlib.Core.Path.{_≡_};
 ghost use Prim.Native.Nat.{_≤_};
 ghost use lib.ListN.{length};
@@ -6,6 +6,7 @@ ghost use Rattle.format.specs.Calls.{over};
 ghost use Rattle.format.specs.Reply.{answerOf};
 ghost use Rattle.script.specs.Script.{headOf, turn, Performs};
 ghost use Rattle.replay.specs.Counts.{leaves, nothing, one, Begun};
+use format::FlagTable;
 use format::Reply;
 use format::Scaled;
 
@@ -42,36 +43,36 @@ fn answered(r: Reply, taken: usize, written: usize, log: &mut [u8]) -> Performed
 // ---- an entry of each longer kind
 
 // Sets a field.
-fn set_field(b: &mut [u8], k: usize, s: &[u8], log: &mut [u8]) -> Performed
+fn set_field(b: &mut [u8], k: usize, s: &[u8], log: &mut [u8], marks: &FlagTable) -> Performed
     requires { ⌜ Begun 2 k (now s) (now log) ⌝ }
-    ensures { λ r. ⌜ leaves (now (b .exit)) (now (log .exit)) r ≡ turn (now (b .entry)) (now (s .entry)) (now (log .entry)) ⌝ }
+    ensures { λ r. ⌜ leaves (now (b .exit)) (now (log .exit)) r ≡ turn (now (marks .entry)) (now (b .entry)) (now (s .entry)) (now (log .entry)) ⌝ }
 {
     if s.len() < 17 {
         return idle();
     }
     let n = script::number_at(s, 9);
     let v = numbers::signed_of(n);
-    let r = call_fields::set_field(b, k, Scaled(v));
+    let r = call_fields::set_field(b, k, Scaled(v), marks);
     answered(r, 17, 37, log)
 }
 
 // Sets a flag.
-fn set_flag(b: &mut [u8], k: usize, s: &[u8], log: &mut [u8]) -> Performed
+fn set_flag(b: &mut [u8], k: usize, s: &[u8], log: &mut [u8], marks: &FlagTable) -> Performed
     requires { ⌜ Begun 5 k (now s) (now log) ⌝ }
-    ensures { λ r. ⌜ leaves (now (b .exit)) (now (log .exit)) r ≡ turn (now (b .entry)) (now (s .entry)) (now (log .entry)) ⌝ }
+    ensures { λ r. ⌜ leaves (now (b .exit)) (now (log .exit)) r ≡ turn (now (marks .entry)) (now (b .entry)) (now (s .entry)) (now (log .entry)) ⌝ }
 {
     if s.len() < 17 {
         return idle();
     }
     let v = script::number_at(s, 9) as usize;
-    let r = call_flags::set_flag(b, k, v);
+    let r = call_flags::set_flag(b, k, v, marks);
     answered(r, 17, 37, log)
 }
 
 // Puts an attachment.
-fn put(b: &mut [u8], k: usize, s: &[u8], log: &mut [u8]) -> Performed
+fn put(b: &mut [u8], k: usize, s: &[u8], log: &mut [u8], marks: &FlagTable) -> Performed
     requires { ⌜ Begun 7 k (now s) (now log) ⌝ }
-    ensures { λ r. ⌜ leaves (now (b .exit)) (now (log .exit)) r ≡ turn (now (b .entry)) (now (s .entry)) (now (log .entry)) ⌝ }
+    ensures { λ r. ⌜ leaves (now (b .exit)) (now (log .exit)) r ≡ turn (now (marks .entry)) (now (b .entry)) (now (s .entry)) (now (log .entry)) ⌝ }
 {
     if s.len() < 17 {
         return idle();
@@ -81,27 +82,27 @@ fn put(b: &mut [u8], k: usize, s: &[u8], log: &mut [u8]) -> Performed
         return idle();
     }
     let e = 17 + n;
-    let r = call_puts::put(b, k, &s[17..e]);
+    let r = call_puts::put(b, k, &s[17..e], marks);
     answered(r, e, 37, log)
 }
 
 // Puts a ship text.
-fn put_text(b: &mut [u8], n: usize, s: &[u8], log: &mut [u8]) -> Performed
+fn put_text(b: &mut [u8], n: usize, s: &[u8], log: &mut [u8], marks: &FlagTable) -> Performed
     requires { ⌜ Begun 10 n (now s) (now log) ⌝ }
-    ensures { λ r. ⌜ leaves (now (b .exit)) (now (log .exit)) r ≡ turn (now (b .entry)) (now (s .entry)) (now (log .entry)) ⌝ }
+    ensures { λ r. ⌜ leaves (now (b .exit)) (now (log .exit)) r ≡ turn (now (marks .entry)) (now (b .entry)) (now (s .entry)) (now (log .entry)) ⌝ }
 {
     if s.len() - 9 < n {
         return idle();
     }
     let e = 9 + n;
-    let r = call_puts::put_text(b, &s[9..e]);
+    let r = call_puts::put_text(b, &s[9..e], marks);
     answered(r, e, 37, log)
 }
 
 // Fetches an attachment to a copy of the output in the script.
-fn fetch(b: &[u8], k: usize, s: &[u8], log: &mut [u8]) -> Performed
+fn fetch(b: &[u8], k: usize, s: &[u8], log: &mut [u8], marks: &FlagTable) -> Performed
     requires { ⌜ Begun 8 k (now s) (now log) ⌝ }
-    ensures { λ r. ⌜ leaves (now (b .entry)) (now (log .exit)) r ≡ turn (now (b .entry)) (now (s .entry)) (now (log .entry)) ⌝ }
+    ensures { λ r. ⌜ leaves (now (b .entry)) (now (log .exit)) r ≡ turn (now (marks .entry)) (now (b .entry)) (now (s .entry)) (now (log .entry)) ⌝ }
 {
     if s.len() < 17 {
         return idle();
@@ -116,14 +117,14 @@ fn fetch(b: &[u8], k: usize, s: &[u8], log: &mut [u8]) -> Performed
     let e = 17 + n;
     let to = 37 + n;
     script::copy(&s[17..e], &mut log[37..to]);
-    let r = call_fetches::fetch(b, k, &mut log[37..to]);
+    let r = call_fetches::fetch(b, k, &mut log[37..to], marks);
     answered(r, e, to, log)
 }
 
 // Fetches the ship text to a copy of the output in the script.
-fn fetch_text(b: &[u8], n: usize, s: &[u8], log: &mut [u8]) -> Performed
+fn fetch_text(b: &[u8], n: usize, s: &[u8], log: &mut [u8], marks: &FlagTable) -> Performed
     requires { ⌜ Begun 11 n (now s) (now log) ⌝ }
-    ensures { λ r. ⌜ leaves (now (b .entry)) (now (log .exit)) r ≡ turn (now (b .entry)) (now (s .entry)) (now (log .entry)) ⌝ }
+    ensures { λ r. ⌜ leaves (now (b .entry)) (now (log .exit)) r ≡ turn (now (marks .entry)) (now (b .entry)) (now (s .entry)) (now (log .entry)) ⌝ }
 {
     if s.len() - 9 < n {
         return idle();
@@ -134,15 +135,15 @@ fn fetch_text(b: &[u8], n: usize, s: &[u8], log: &mut [u8]) -> Performed
     let e = 9 + n;
     let to = 37 + n;
     script::copy(&s[9..e], &mut log[37..to]);
-    let r = call_fetches::fetch_text(b, &mut log[37..to]);
+    let r = call_fetches::fetch_text(b, &mut log[37..to], marks);
     answered(r, e, to, log)
 }
 
 // ---- a script
 
 // Performs the entry at the head of a script, if it is whole and its record fits the log.
-fn perform(b: &mut [u8], s: &[u8], log: &mut [u8]) -> Performed
-    ensures { λ r. ⌜ leaves (now (b .exit)) (now (log .exit)) r ≡ turn (now (b .entry)) (now (s .entry)) (now (log .entry)) ⌝ }
+fn perform(b: &mut [u8], s: &[u8], log: &mut [u8], marks: &FlagTable) -> Performed
+    ensures { λ r. ⌜ leaves (now (b .exit)) (now (log .exit)) r ≡ turn (now (marks .entry)) (now (b .entry)) (now (s .entry)) (now (log .entry)) ⌝ }
 {
     if s.len() < 9 {
         return idle();
@@ -153,31 +154,31 @@ fn perform(b: &mut [u8], s: &[u8], log: &mut [u8]) -> Performed
     let k = script::number_at(s, 1) as usize;
     let kind = s[0];
     match kind {
-        1 => answered(call_fields::read_field(b, k), 9, 37, log),
-        2 => set_field(b, k, s, log),
-        3 => answered(call_fields::clear_field(b, k), 9, 37, log),
-        4 => answered(call_flags::read_flag(b, k), 9, 37, log),
-        5 => set_flag(b, k, s, log),
-        6 => answered(call_flags::clear_flag(b, k), 9, 37, log),
-        7 => put(b, k, s, log),
-        8 => fetch(b, k, s, log),
-        9 => answered(call_attachments::remove(b, k), 9, 37, log),
-        10 => put_text(b, k, s, log),
-        11 => fetch_text(b, k, s, log),
+        1 => answered(call_fields::read_field(b, k, marks), 9, 37, log),
+        2 => set_field(b, k, s, log, marks),
+        3 => answered(call_fields::clear_field(b, k, marks), 9, 37, log),
+        4 => answered(call_flags::read_flag(b, k, marks), 9, 37, log),
+        5 => set_flag(b, k, s, log, marks),
+        6 => answered(call_flags::clear_flag(b, k, marks), 9, 37, log),
+        7 => put(b, k, s, log, marks),
+        8 => fetch(b, k, s, log, marks),
+        9 => answered(call_attachments::remove(b, k, marks), 9, 37, log),
+        10 => put_text(b, k, s, log, marks),
+        11 => fetch_text(b, k, s, log, marks),
         _ => idle(),
     }
 }
 
 // Performs the entries of a script in their order, each on the buffer as the one before left it, and writes their records to
 // the log.
-pub fn replay(b: &mut [u8], script: &[u8], log: &mut [u8]) -> Performed
-    ensures { λ r. ⌜ Performs (leaves (now (b .exit)) (now (log .exit)) r) (now (b .entry)) (now (script .entry)) (now (log .entry)) ⌝ }
+pub fn replay(b: &mut [u8], script: &[u8], log: &mut [u8], marks: &FlagTable) -> Performed
+    ensures { λ r. ⌜ Performs (now (marks .entry)) (leaves (now (b .exit)) (now (log .exit)) r) (now (b .entry)) (now (script .entry)) (now (log .entry)) ⌝ }
 {
     let mut calls = 0;
     let mut at = 0;
     let mut to = 0;
     loop {
-        let r = perform(b, &script[at..], &mut log[to..]);
+        let r = perform(b, &script[at..], &mut log[to..], marks);
         if r.taken == 0 {
             return Performed {
                 calls,

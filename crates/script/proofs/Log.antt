@@ -14,6 +14,7 @@ use lib.IntN.{ℤ}
 use borrow.Author.Tests.{ltb-false, lt-ltb, le-ltb, ne-eqb}
 use Rattle.format.specs.Bits.{Bytes}
 use Rattle.format.specs.Order.{Refusal, first}
+use Rattle.format.specs.Flags.{FlagTable}
 use Rattle.format.specs.Observation.{Observation, size}
 use Rattle.format.specs.Report.{Verdict, judge}
 use Rattle.format.specs.Calls.{Call, reads, edits, fetches, readField, readFlag, fetch, fetchText, edited, shorter, overfull, overEach, outputsOf, writes, roomCheck, callChecks, checks}
@@ -73,24 +74,24 @@ alike-joined (x ∷ xs) [] h = absurd h
 alike-joined (x ∷ xs) (y ∷ ys) h = simp (length-append, h .0, alike-joined xs ys (h .1))
 
 -- no call changes the lengths of its outputs
-step-outs : (n : ℕ) (s : Observation) (c : Call) → Alike (step n s c .outs) (outputsOf c)
+step-outs : (marks : FlagTable) (n : ℕ) (s : Observation) (c : Call) → Alike (step marks n s c .outs) (outputsOf c)
 unfolding step
-step-outs n s c = go (first (checks n s c)) refl
+step-outs marks n s c = go (first (checks marks n s c)) refl
   where
-    go : (o : Option Refusal) → first (checks n s c) ≡ o → Alike (steppedBy o s c .outs) (outputsOf c)
+    go : (o : Option Refusal) → first (checks marks n s c) ≡ o → Alike (steppedBy o s c .outs) (outputsOf c)
     go (some r) q = alike-same (outputsOf c)
     go none q =
-        let f = first-append-none (callChecks s c) (roomCheck n s c ∷ []) (unfold checks in q) in
+        let f = first-append-none (callChecks marks s c) (roomCheck n s c ∷ []) (unfold checks in q) in
         let room = or-false (shorter n (edited s c)) (overfull (writes s c) (outputsOf c)) (first-none (roomCheck n s c) [] (f .1) .0) in
         alike-over (writes s c) (outputsOf c) (room .1)
 
-pub effect-outs : (b : List ℕ) (c : Call) → Alike (effect b c .outs) (outputsOf c)
+pub effect-outs : (marks : FlagTable) (b : List ℕ) (c : Call) → Alike (effect marks b c .outs) (outputsOf c)
 unfolding effect
-effect-outs b c = go (judge b)
+effect-outs marks b c = go (judge marks b)
   where
-    go : (v : Verdict) → Alike (effectOn v b c .outs) (outputsOf c)
+    go : (v : Verdict) → Alike (effectOn marks v b c .outs) (outputsOf c)
     go (Verdict.refused r) = alike-same (outputsOf c)
-    go (Verdict.accepted s) = step-outs (length b) s c
+    go (Verdict.accepted s) = step-outs marks (length b) s c
 
 -- ---- an answer read back
 
@@ -199,9 +200,9 @@ gives-few s (edits e) = omega arith
 gives-few s (fetches (fetch i out)) = omega arith
 gives-few s (fetches (fetchText out)) = omega arith
 
-step-few : (n : ℕ) (s : Observation) (c : Call) → Few (step n s c .answer)
+step-few : (marks : FlagTable) (n : ℕ) (s : Observation) (c : Call) → Few (step marks n s c .answer)
 unfolding step
-step-few n s c = go (first (checks n s c))
+step-few marks n s c = go (first (checks marks n s c))
   where
     go : (o : Option Refusal) → Few (steppedBy o s c .answer)
     go (some r) = tt
@@ -211,17 +212,17 @@ refusals-held : (r : Refusal) (cs : List Call) → Each Held cs (refusals r cs)
 refusals-held r [] = tt
 refusals-held r (c ∷ cs) = ((tt, alike-same (outputsOf c)), refusals-held r cs)
 
-claim-held : (b : List ℕ) (cs : List Call) → Each Held cs (claim b cs .answers)
+claim-held : (marks : FlagTable) (b : List ℕ) (cs : List Call) → Each Held cs (claim marks b cs .answers)
 unfolding claim run
-claim-held b cs = go (judge b)
+claim-held marks b cs = go (judge marks b)
   where
-    go : (v : Verdict) → Each Held cs (claimOn v b cs .answers)
+    go : (v : Verdict) → Each Held cs (claimOn marks v b cs .answers)
     go (Verdict.refused r) = refusals-held r cs
     go (Verdict.accepted s) =
-        each-answer (stepping (length b)) (λ (m : Standing). Unit {0}) Held
-        (λ m c k. ((step-few (length b) (m .observation) c, step-outs (length b) (m .observation) c), tt))
+        each-answer (stepping marks (length b)) (λ (m : Standing). Unit {0}) Held
+        (λ m c k. ((step-few marks (length b) (m .observation) c, step-outs marks (length b) (m .observation) c), tt))
         cs (standing s (size s)) tt
 
 -- THE LOG TELLS THE ANSWERS that are claimed of a list
-pub claim-told : (b : List ℕ) (cs : List Call) (log : List ℕ) → Bytes b → answersIn cs (over (records (claim b cs .answers)) log) ≡ claim b cs .answers
-claim-told b cs log h = answers-back cs (claim b cs .answers) _ (claim-held b cs) (claim-fits b cs h)
+pub claim-told : (marks : FlagTable) (b : List ℕ) (cs : List Call) (log : List ℕ) → Bytes b → answersIn cs (over (records (claim marks b cs .answers)) log) ≡ claim marks b cs .answers
+claim-told marks b cs log h = answers-back cs (claim marks b cs .answers) _ (claim-held marks b cs) (claim-fits marks b cs h)

@@ -8,6 +8,7 @@ use mathlib.Core.Option.{Option, none, some}
 use lib.ListN.{length, getD, take, drop, length-append, length-drop, List·getD-eq-default}
 use lib.Seq.{drop-drop, drop-at, take-at, length-take-le, take-all, drop-length}
 use lib.IntN.{ℤ}
+use Rattle.format.specs.Flags.{FlagTable}
 use Rattle.format.specs.Calls.{Call, outputsOf, Quantity, given, Answer, accepted, over}
 use Rattle.format.specs.Buffer.{zeros, After, after, effect}
 use Rattle.format.specs.Reply.{refusal, answerOf}
@@ -39,34 +40,34 @@ next-cramped room s h = go (nextIn room s) refl
     go (some e) q = let n = next-some room s e q in absurd (omega (arith, n .fits))
 
 -- an entry of kind k that says e: cut off; without room; performed
-module _ (b s log : List ℕ) (k : ℕ) (e : Entry) (kind : getD s 0 0 ≡ k) (says : getD (kinds s) k none ≡ some e) where
-  pub turn-cut : length s < e .taken → idle b log ≡ turn b s log
-  turn-cut h = turn-idle b s log (next-none (length log) s (entry-cut s k e kind says h))
+module _ (marks : FlagTable) (b s log : List ℕ) (k : ℕ) (e : Entry) (kind : getD s 0 0 ≡ k) (says : getD (kinds s) k none ≡ some e) where
+  pub turn-cut : length s < e .taken → idle b log ≡ turn marks b s log
+  turn-cut h = turn-idle marks b s log (next-none (length log) s (entry-cut s k e kind says h))
 
-  pub turn-full : e .taken ≤ length s → length log < recordSize (e .call) → idle b log ≡ turn b s log
-  turn-full h g = turn-idle b s log (next-full (length log) s e (entry-whole s k e kind says h) g)
+  pub turn-full : e .taken ≤ length s → length log < recordSize (e .call) → idle b log ≡ turn marks b s log
+  turn-full h g = turn-idle marks b s log (next-full (length log) s e (entry-whole s k e kind says h) g)
 
   turn-made : e .taken ≤ length s → recordSize (e .call) ≤ length log → (a : Answer) (b′ : List ℕ) (outs : List (List ℕ)) (log′ : List ℕ)
-      → after a b′ outs ≡ effect b (e .call)
+      → after a b′ outs ≡ effect marks b (e .call)
       → log′ ≡ over (headOf a ++ joined outs) log
-      → record { buffer = b′; log = log′; calls = 1; taken = e .taken; written = recordSize (e .call) } ≡ turn b s log
-  turn-made h g a b′ outs log′ f w = turn-done b s log e a b′ outs log′ (next-in (length log) s e (entry-whole s k e kind says h) g) f w
+      → record { buffer = b′; log = log′; calls = 1; taken = e .taken; written = recordSize (e .call) } ≡ turn marks b s log
+  turn-made h g a b′ outs log′ f w = turn-done marks b s log e a b′ outs log′ (next-in (length log) s e (entry-whole s k e kind says h) g) f w
 
 -- an entry with no output, its call made as c′ and its bytes counted as t′
-pub turn-plain : (b s log : List ℕ) (k : ℕ) (c c′ : Call) (t t′ : ℕ) (a : Answer) (b′ log′ : List ℕ) → getD s 0 0 ≡ k → getD (kinds s) k none ≡ some (entry c t)
+pub turn-plain : (marks : FlagTable) (b s log : List ℕ) (k : ℕ) (c c′ : Call) (t t′ : ℕ) (a : Answer) (b′ log′ : List ℕ) → getD s 0 0 ≡ k → getD (kinds s) k none ≡ some (entry c t)
     → outputsOf c ≡ []
-    → after a b′ [] ≡ effect b c′
+    → after a b′ [] ≡ effect marks b c′
     → log′ ≡ over (headOf a) log
     → c′ ≡ c
     → t′ ≡ t
     → t ≤ length s
     → 37 ≤ length log
-    → record { buffer = b′; log = log′; calls = 1; taken = t′; written = 37 } ≡ turn b s log
+    → record { buffer = b′; log = log′; calls = 1; taken = t′; written = 37 } ≡ turn marks b s log
 unfolding joined
-turn-plain b s log k c c′ t t′ a b′ log′ kind says no-output f w made took whole room =
+turn-plain marks b s log k c c′ t t′ a b′ log′ kind says no-output f w made took whole room =
     let z : recordSize c ≡ 37 = unfold recordSize in ap (λ (d : List (List ℕ)). 37 + length (joined d)) no-output in
     rw (took, ← z)
-    (turn-made b s log k (entry c t) kind says whole (omega arith) a b′ [] log′ (f ∙ ap (effect b) made) (rw (append-nil (headOf a)) w))
+    (turn-made marks b s log k (entry c t) kind says whole (omega arith) a b′ [] log′ (f ∙ ap (effect marks b) made) (rw (append-nil (headOf a)) w))
 
 -- an answer over the first 37 bytes: a refusal; nothing given; one number
 
@@ -154,7 +155,7 @@ pub counted-length : (s : List ℕ) (i n : ℕ) → n ≡ numberAt s i → i + 8
 counted-length s i n e h = rw (← e) (length-take-le n (drop (i + 8) s) (omega (arith, length-drop (i + 8) s)))
 
 -- an output of the n bytes at i stands as ys, at the log's place 37, to the call made as f′
-module _ (b s log : List ℕ) (k i n : ℕ) (f f′ : List ℕ → Call) (kind : getD s 0 0 ≡ k) (says : getD (kinds s) k none ≡ some (entry (f (bytesAt s i)) (i + 8 + numberAt s i)))
+module _ (marks : FlagTable) (b s log : List ℕ) (k i n : ℕ) (f f′ : List ℕ → Call) (kind : getD s 0 0 ≡ k) (says : getD (kinds s) k none ≡ some (entry (f (bytesAt s i)) (i + 8 + numberAt s i)))
     (output-of : (d : List ℕ) → outputsOf (f d) ≡ d ∷ []) (num : n ≡ numberAt s i) (whole : i + 8 + n ≤ length s) where
   size : recordSize (f (bytesAt s i)) ≡ 37 + n
   unfolding recordSize joined
@@ -163,42 +164,42 @@ module _ (b s log : List ℕ) (k i n : ℕ) (f f′ : List ℕ → Call) (kind :
       ∙ ap (λ (d : List ℕ). 37 + length d) (append-nil (bytesAt s i))
       ∙ ap (λ (m : ℕ). 37 + m) (counted-length s i n num whole)
 
-  pub output-full : length log < 37 + n → idle b log ≡ turn b s log
-  output-full h = turn-full b s log k (entry (f (bytesAt s i)) (i + 8 + numberAt s i)) kind says (omega arith) (rw size h)
+  pub output-full : length log < 37 + n → idle b log ≡ turn marks b s log
+  output-full h = turn-full marks b s log k (entry (f (bytesAt s i)) (i + 8 + numberAt s i)) kind says (omega arith) (rw size h)
 
   pub turn-output : (ys out log′ : List ℕ) (a : Answer) → 37 + n ≤ length log → f′ ≡ f
       → ys ≡ take (i + 8 + n - (i + 8)) (drop (i + 8) s)
       → (let log₂ = take 37 log ++ (ys ++ drop (37 + n - 37) (drop 37 log)) in
-      after a b (out ∷ []) ≡ effect b (f′ (take (37 + n - 37) (drop 37 log₂)))
+      after a b (out ∷ []) ≡ effect marks b (f′ (take (37 + n - 37) (drop 37 log₂)))
       → log′ ≡ over (headOf a) (take 37 log₂ ++ (out ++ drop (37 + n - 37) (drop 37 log₂)))
-      → record { buffer = b; log = log′; calls = 1; taken = i + 8 + n; written = 37 + n } ≡ turn b s log)
+      → record { buffer = b; log = log′; calls = 1; taken = i + 8 + n; written = 37 + n } ≡ turn marks b s log)
   unfolding joined
   turn-output ys out log′ a room made copied g w =
       let m : 37 + n - 37 ≡ n = omega arith in
       let counted : ys ≡ bytesAt s i = copied ∙ part-counted s i n num in
       let as-many : length ys ≡ n = ap length counted ∙ counted-length s i n num whole in
-      let is : after a b (out ∷ []) ≡ effect b (f (bytesAt s i)) =
-      g ∙ ap₂ (λ (h : List ℕ → Call) (d : List ℕ). effect b (h d)) made (output-part log ys ys n (37 + n - 37) room m as-many ∙ counted) in
+      let is : after a b (out ∷ []) ≡ effect marks b (f (bytesAt s i)) =
+      g ∙ ap₂ (λ (h : List ℕ → Call) (d : List ℕ). effect marks b (h d)) made (output-part log ys ys n (37 + n - 37) room m as-many ∙ counted) in
       let alike : Alike (out ∷ []) (bytesAt s i ∷ []) =
       subst (λ (x : List (List ℕ)). Alike (out ∷ []) x) (output-of (bytesAt s i))
-      (subst (λ (x : After). Alike (x .outs) (outputsOf (f (bytesAt s i)))) (sym is) (effect-outs b (f (bytesAt s i)))) in
+      (subst (λ (x : After). Alike (x .outs) (outputsOf (f (bytesAt s i)))) (sym is) (effect-outs marks b (f (bytesAt s i)))) in
       let out-many : length out ≡ n = alike .0 ∙ counted-length s i n num whole in
       rw (← size, num)
-      (turn-made b s log k (entry (f (bytesAt s i)) (i + 8 + numberAt s i)) kind says (omega arith) (rw size room) a b (out ∷ []) log′ is
+      (turn-made marks b s log k (entry (f (bytesAt s i)) (i + 8 + numberAt s i)) kind says (omega arith) (rw size room) a b (out ∷ []) log′ is
       (rw (append-nil out) (w ∙ output-log log ys out n (37 + n - 37) room m as-many a out-many)))
 
 -- ---- the loop
 
-module _ (b₀ script log₀ b log : List ℕ) (n at to : ℕ) (k : Going b₀ script log₀ b log n at to) (t : Replayed)
-    (h : t ≡ turn b (take (length script - at) (drop at script)) (take (length log - to) (drop to log))) where
-  turns : t ≡ turn b (drop at script) (drop to log)
-  turns = h ∙ ap₂ (turn b) (part-whole script at) (part-whole log to)
+module _ (marks : FlagTable) (b₀ script log₀ b log : List ℕ) (n at to : ℕ) (k : Going marks b₀ script log₀ b log n at to) (t : Replayed)
+    (h : t ≡ turn marks b (take (length script - at) (drop at script)) (take (length log - to) (drop to log))) where
+  turns : t ≡ turn marks b (drop at script) (drop to log)
+  turns = h ∙ ap₂ (turn marks b) (part-whole script at) (part-whole log to)
 
-  pub kept-parts : Going b₀ script log₀ (t .buffer) (take to log ++ (t .log ++ drop (length log - to) (drop to log))) (n + t .calls) (at + t .taken) (to + t .written)
-  kept-parts = rw (put-whole log (t .log) to) (kept-turn b₀ script log₀ b log n at to k t turns)
+  pub kept-parts : Going marks b₀ script log₀ (t .buffer) (take to log ++ (t .log ++ drop (length log - to) (drop to log))) (n + t .calls) (at + t .taken) (to + t .written)
+  kept-parts = rw (put-whole log (t .log) to) (kept-turn marks b₀ script log₀ b log n at to k t turns)
 
   pub parts-end : t .taken ≡ 0 → Bytes b₀
-      → Performs (record { buffer = t .buffer; log = take to log ++ (t .log ++ drop (length log - to) (drop to log)); calls = n; taken = at; written = to }) b₀ script log₀
+      → Performs marks (record { buffer = t .buffer; log = take to log ++ (t .log ++ drop (length log - to) (drop to log)); calls = n; taken = at; written = to }) b₀ script log₀
   parts-end z bytes =
       rw (put-whole log (t .log) to)
-      (performs _ b₀ script log₀ (kept-end b₀ script log₀ b log n at to k t turns z) bytes)
+      (performs marks _ b₀ script log₀ (kept-end marks b₀ script log₀ b log n at to k t turns z) bytes)

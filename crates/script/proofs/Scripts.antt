@@ -13,6 +13,7 @@ use lib.Dec.{leb}
 use lib.IntN.{ℤ}
 use borrow.Author.Tests.{le-leb, lt-leb, leb-true}
 use Rattle.format.specs.Bits.{Bytes}
+use Rattle.format.specs.Flags.{FlagTable}
 use Rattle.format.specs.Calls.{Call, reads, edits, fetches, readField, setField, clearField, readFlag, setFlag, clearFlag, put, fetch, remove, putText, fetchText, outputsOf, Answer, over}
 use Rattle.format.specs.Machine.{Course, course}
 use Rattle.format.specs.Buffer.{after, Shown, shown, effect, calls, claim}
@@ -322,35 +323,35 @@ script-bytes [] f = λ i. omega arith
 script-bytes (c ∷ cs) f = append-below 256 (scriptEntry c) (scriptOf cs) (entry-bytes c (f .0)) (script-bytes cs (f .1))
 
 -- a call's answer and outputs
-abbrev pub shownOf : List ℕ → Call → Shown
-shownOf b c = shown (effect b c .answer) (effect b c .outs)
+abbrev pub shownOf : FlagTable → List ℕ → Call → Shown
+shownOf marks b c = shown (effect marks b c .answer) (effect marks b c .outs)
 
-pub record-size : (b : List ℕ) (c : Call) → length (recordOf (shownOf b c)) ≡ recordSize c
+pub record-size : (marks : FlagTable) (b : List ℕ) (c : Call) → length (recordOf (shownOf marks b c)) ≡ recordSize c
 unfolding recordSize
-record-size b c = record-length (shownOf b c) ∙ ap (λ (n : ℕ). 37 + n) (alike-joined (effect b c .outs) (outputsOf c) (effect-outs b c))
+record-size marks b c = record-length (shownOf marks b c) ∙ ap (λ (n : ℕ). 37 + n) (alike-joined (effect marks b c .outs) (outputsOf c) (effect-outs marks b c))
 
 -- ---- a replay
 
 -- what the calls of a script leave, each on the buffer as the one before left it
-unfoldable pub finish : List ℕ → List ℕ → List ℕ → Replayed
-finish b script log =
+unfoldable pub finish : FlagTable → List ℕ → List ℕ → List ℕ → Replayed
+finish marks b script log =
     let cs = listOf (length script) (length log) script in
-    logged cs (calls b cs) log
+    logged cs (calls marks b cs) log
 
 -- it is what is claimed, of the script's list and of every list that has this script
-pub performs : (r : Replayed) (b script log : List ℕ) → r ≡ finish b script log → Bytes b → Performs r b script log
+pub performs : (marks : FlagTable) (r : Replayed) (b script log : List ℕ) → r ≡ finish marks b script log → Bytes b → Performs marks r b script log
 unfolding finish
-performs r b script log h bytes =
+performs marks r b script log h bytes =
     record {
       of-script = claimed (listOf (length script) (length log) script) h;
-      of-list = λ cs f e g. claimed cs (h ∙ ap (λ (l : List Call). logged l (calls b l) log) (of cs f e g));
+      of-list = λ cs f e g. claimed cs (h ∙ ap (λ (l : List Call). logged l (calls marks b l) log) (of cs f e g));
       in-bytes = script-bytes;
     }
   where
-    claimed : (cs : List Call) → r ≡ logged cs (calls b cs) log → Claimed r b log cs
+    claimed : (cs : List Call) → r ≡ logged cs (calls marks b cs) log → Claimed marks r b log cs
     claimed cs q =
-        let is : r ≡ logged cs (claim b cs) log = q ∙ ap (λ (x : Course (List ℕ) Shown). logged cs x log) (whole-list b cs bytes) in
-        record { left = is; told = ap (λ (x : Replayed). answersIn cs (x .log)) is ∙ claim-told b cs log bytes }
+        let is : r ≡ logged cs (claim marks b cs) log = q ∙ ap (λ (x : Course (List ℕ) Shown). logged cs x log) (whole-list marks b cs bytes) in
+        record { left = is; told = ap (λ (x : Replayed). answersIn cs (x .log)) is ∙ claim-told marks b cs log bytes }
 
     of : (cs : List Call) → AllFit cs → scriptOf cs ≡ script → logSize cs ≤ length log → listOf (length script) (length log) script ≡ cs
     of cs f e g = rw (← e) (script-alone cs (length log) f g)
@@ -361,89 +362,89 @@ behind front n at r =
     record { buffer = r .buffer; log = front ++ r .log; calls = n + r .calls; taken = at + r .taken; written = length front + r .written }
 
 -- no entry is next
-pub finish-end : (b script log : List ℕ) → nextIn (length log) script ≡ none
-    → finish b script log ≡ idle b log
+pub finish-end : (marks : FlagTable) (b script log : List ℕ) → nextIn (length log) script ≡ none
+    → finish marks b script log ≡ idle b log
 unfolding finish calls course records scriptOf
-finish-end b script log q = rw (list-nil (length script) (length log) script q)
+finish-end marks b script log q = rw (list-nil (length script) (length log) script q)
 
 -- one is: a list's first call, its record, and what the rest leaves
-logged-cons : (b : List ℕ) (c : Call) (cs : List Call) (log : List ℕ)
-    → (let a = recordOf (shownOf b c) in
-    logged (c ∷ cs) (calls b (c ∷ cs)) log ≡ behind a 1 (length (scriptEntry c)) (logged cs (calls (effect b c .buffer) cs) (drop (length a) log)))
+logged-cons : (marks : FlagTable) (b : List ℕ) (c : Call) (cs : List Call) (log : List ℕ)
+    → (let a = recordOf (shownOf marks b c) in
+    logged (c ∷ cs) (calls marks b (c ∷ cs)) log ≡ behind a 1 (length (scriptEntry c)) (logged cs (calls marks (effect marks b c .buffer) cs) (drop (length a) log)))
 unfolding calls course records scriptOf
-logged-cons b c cs log =
-    let a = recordOf (shownOf b c) in
-    let r = records (calls (effect b c .buffer) cs .answers) in
+logged-cons marks b c cs log =
+    let a = recordOf (shownOf marks b c) in
+    let r = records (calls marks (effect marks b c .buffer) cs .answers) in
     let n : suc (length cs) ≡ 1 + length cs = omega arith in
     rw (append-assoc a r (drop (length (a ++ r)) log), length-append a r, length-append (scriptEntry c) (scriptOf cs), drop-drop (length r) (length a) log, n)
 
-pub finish-next : (b script log : List ℕ) (e : Entry) → nextIn (length log) script ≡ some e
-    → (let a = recordOf (shownOf b (e .call)) in
-    finish b script log ≡ behind a 1 (e .taken) (finish (effect b (e .call) .buffer) (drop (e .taken) script) (drop (length a) log)))
+pub finish-next : (marks : FlagTable) (b script log : List ℕ) (e : Entry) → nextIn (length log) script ≡ some e
+    → (let a = recordOf (shownOf marks b (e .call)) in
+    finish marks b script log ≡ behind a 1 (e .taken) (finish marks (effect marks b (e .call) .buffer) (drop (e .taken) script) (drop (length a) log)))
 unfolding finish
-finish-next b script log e q =
-    let a = recordOf (shownOf b (e .call)) in
+finish-next marks b script log e q =
+    let a = recordOf (shownOf marks b (e .call)) in
     let left : length log - recordSize (e .call) ≡ length (drop (length a) log) =
-    ap (λ (n : ℕ). length log - n) (sym (record-size b (e .call))) ∙ sym (length-drop (length a) log) in
+    ap (λ (n : ℕ). length log - n) (sym (record-size marks b (e .call))) ∙ sym (length-drop (length a) log) in
     rw (list-cons (length log) script e q, left, ← next-some (length log) script e q .as-written)
-    (logged-cons b (e .call) _ log)
+    (logged-cons marks b (e .call) _ log)
 
 -- ---- its turn, at each return
 
-module _ (b script log : List ℕ) where
-  pub turn-idle : nextIn (length log) script ≡ none → idle b log ≡ turn b script log
+module _ (marks : FlagTable) (b script log : List ℕ) where
+  pub turn-idle : nextIn (length log) script ≡ none → idle b log ≡ turn marks b script log
   unfolding turn
   turn-idle q = rw (q, turn)
 
-  turn-next : (e : Entry) → nextIn (length log) script ≡ some e → turn b script log ≡ performed b e log
+  turn-next : (e : Entry) → nextIn (length log) script ≡ some e → turn marks b script log ≡ performed marks b e log
   unfolding turn
   turn-next e q = rw (q, turn)
 
   pub turn-done : (e : Entry) (a : Answer) (b′ : List ℕ) (outs : List (List ℕ)) (log′ : List ℕ) → nextIn (length log) script ≡ some e
-      → after a b′ outs ≡ effect b (e .call)
+      → after a b′ outs ≡ effect marks b (e .call)
       → log′ ≡ over (headOf a ++ joined outs) log
-      → record { buffer = b′; log = log′; calls = 1; taken = e .taken; written = recordSize (e .call) } ≡ turn b script log
+      → record { buffer = b′; log = log′; calls = 1; taken = e .taken; written = recordSize (e .call) } ≡ turn marks b script log
   unfolding recordOf
   turn-done e a b′ outs log′ q f w = rw (turn-next e q, ← f, w)
 
 -- its sizes, and what it leaves to do
-pub record Turned (b script log : List ℕ) (t : Replayed) : Type 0 where
+pub record Turned (marks : FlagTable) (b script log : List ℕ) (t : Replayed) : Type 0 where
   pub within : t .taken ≤ length script
   pub room : t .written ≤ length log
   pub counted : t .calls ≤ t .taken
   pub log-length : length (t .log) ≡ length log
-  pub left : finish b script log
-      ≡ behind (take (t .written) (t .log)) (t .calls) (t .taken) (finish (t .buffer) (drop (t .taken) script) (drop (t .written) (t .log)))
-  pub ended : t .taken ≡ 0 → finish b script log ≡ idle (t .buffer) (t .log)
+  pub left : finish marks b script log
+      ≡ behind (take (t .written) (t .log)) (t .calls) (t .taken) (finish marks (t .buffer) (drop (t .taken) script) (drop (t .written) (t .log)))
+  pub ended : t .taken ≡ 0 → finish marks b script log ≡ idle (t .buffer) (t .log)
 
 behind-nothing : (r : Replayed) → r ≡ behind [] 0 0 r
 behind-nothing r = rw (zero-add (r .calls), zero-add (r .taken), zero-add (r .written))
 
-pub turned : (b script log : List ℕ) (t : Replayed) → t ≡ turn b script log → Turned b script log t
-turned b script log t h = subst (Turned b script log) (sym h) (go (nextIn (length log) script) refl)
+pub turned : (marks : FlagTable) (b script log : List ℕ) (t : Replayed) → t ≡ turn marks b script log → Turned marks b script log t
+turned marks b script log t h = subst (Turned marks b script log) (sym h) (go (nextIn (length log) script) refl)
   where
-    go : (o : Option Entry) → nextIn (length log) script ≡ o → Turned b script log (turn b script log)
+    go : (o : Option Entry) → nextIn (length log) script ≡ o → Turned marks b script log (turn marks b script log)
     go none q =
-        rw (← turn-idle b script log q)
+        rw (← turn-idle marks b script log q)
         (record {
           within = omega arith;
           room = omega arith;
           counted = omega arith;
           log-length = refl;
-          left = behind-nothing (finish b script log);
-          ended = λ z. finish-end b script log q;
+          left = behind-nothing (finish marks b script log);
+          ended = λ z. finish-end marks b script log q;
         })
     go (some e) q =
         let n = next-some (length log) script e q in
-        let a = recordOf (shownOf b (e .call)) in
-        let l = record-size b (e .call) in
-        rw (turn-next b script log e q)
+        let a = recordOf (shownOf marks b (e .call)) in
+        let l = record-size marks b (e .call) in
+        rw (turn-next marks b script log e q)
         (record {
           within = n .whole;
           room = n .fits;
           counted = omega arith;
           log-length = simp (length-append, length-drop) (omega arith);
-          left = rw (take-at a (drop (length a) log) (recordSize (e .call)) l, drop-at a (drop (length a) log) (recordSize (e .call)) l) (finish-next b script log e q);
+          left = rw (take-at a (drop (length a) log) (recordSize (e .call)) l, drop-at a (drop (length a) log) (recordSize (e .call)) l) (finish-next marks b script log e q);
           ended = λ z. absurd (omega arith);
         })
 
@@ -453,21 +454,21 @@ behind-behind : (p q : List ℕ) (m n i j : ℕ) (r : Replayed) → behind p m i
 behind-behind p q m n i j r =
     rw (length-append p q, append-assoc p q (r .log), add-assoc m n (r .calls), add-assoc i j (r .taken), add-assoc (length p) (length q) (r .written))
 
-pub record Going (b₀ script log₀ b log : List ℕ) (n at to : ℕ) : Type 0 where
+pub record Going (marks : FlagTable) (b₀ script log₀ b log : List ℕ) (n at to : ℕ) : Type 0 where
   pub within : at ≤ length script
   pub room : to ≤ length log
   pub counted : n ≤ at
   pub log-length : length log ≡ length log₀
-  pub left : finish b₀ script log₀ ≡ behind (take to log) n at (finish b (drop at script) (drop to log))
+  pub left : finish marks b₀ script log₀ ≡ behind (take to log) n at (finish marks b (drop at script) (drop to log))
 
-pub kept-start : (b script log : List ℕ) → Going b script log b log 0 0 0
-kept-start b script log =
-    record { within = omega arith; room = omega arith; counted = omega arith; log-length = refl; left = behind-nothing (finish b script log) }
+pub kept-start : (marks : FlagTable) (b script log : List ℕ) → Going marks b script log b log 0 0 0
+kept-start marks b script log =
+    record { within = omega arith; room = omega arith; counted = omega arith; log-length = refl; left = behind-nothing (finish marks b script log) }
 
-module _ (b₀ script log₀ b log : List ℕ) (n at to : ℕ) (k : Going b₀ script log₀ b log n at to) (t : Replayed) (h : t ≡ turn b (drop at script) (drop to log)) where
-  pub kept-turn : Going b₀ script log₀ (t .buffer) (take to log ++ t .log) (n + t .calls) (at + t .taken) (to + t .written)
+module _ (marks : FlagTable) (b₀ script log₀ b log : List ℕ) (n at to : ℕ) (k : Going marks b₀ script log₀ b log n at to) (t : Replayed) (h : t ≡ turn marks b (drop at script) (drop to log)) where
+  pub kept-turn : Going marks b₀ script log₀ (t .buffer) (take to log ++ t .log) (n + t .calls) (at + t .taken) (to + t .written)
   kept-turn =
-      let u = turned b (drop at script) (drop to log) t h in
+      let u = turned marks b (drop at script) (drop to log) t h in
       let s = length-drop at script in
       let d = length-drop to log in
       let f : length (take to log) ≡ to = length-take-le to log (k .room) in
@@ -488,8 +489,8 @@ module _ (b₀ script log₀ b log : List ℕ) (n at to : ℕ) (k : Going b₀ s
             ∙ behind-behind (take to log) (take (t .written) (t .log)) n (t .calls) at (t .taken) _);
       }
 
-  pub kept-end : t .taken ≡ 0 → record { buffer = t .buffer; log = take to log ++ t .log; calls = n; taken = at; written = to } ≡ finish b₀ script log₀
+  pub kept-end : t .taken ≡ 0 → record { buffer = t .buffer; log = take to log ++ t .log; calls = n; taken = at; written = to } ≡ finish marks b₀ script log₀
   kept-end z =
-      let u = turned b (drop at script) (drop to log) t h in
+      let u = turned marks b (drop at script) (drop to log) t h in
       let f : length (take to log) ≡ to = length-take-le to log (k .room) in
       rw (k .left, u .ended z, f, add-zero n, add-zero at, add-zero to)

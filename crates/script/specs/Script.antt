@@ -8,6 +8,7 @@ use lib.ListN.{length, getD, take, drop}
 use lib.Dec.{ltb, leb, eqb}
 use lib.Signed.{mag}
 use Rattle.numbers.specs.Words.{signed, unsigned}
+use Rattle.format.specs.Flags.{FlagTable}
 use Rattle.format.specs.Calls.{Call, reads, edits, fetches, readField, setField, clearField, readFlag, setFlag, clearFlag, put, fetch, remove, putText, fetchText, outputsOf}
 use Rattle.format.specs.Calls.{Given, given, Answer, refused, accepted, over}
 use Rattle.format.specs.Machine.{Course}
@@ -218,15 +219,15 @@ logged cs r log =
     }
 
 -- THE CLAIM about running code: r is what is claimed of the list cs, and the log tells the answers and the outputs
-pub record Claimed (r : Replayed) (b log : List ℕ) (cs : List Call) : Type 0 where
-  pub left : r ≡ logged cs (claim b cs) log
-  pub told : answersIn cs (r .log) ≡ claim b cs .answers
+pub record Claimed (marks : FlagTable) (r : Replayed) (b log : List ℕ) (cs : List Call) : Type 0 where
+  pub left : r ≡ logged cs (claim marks b cs) log
+  pub told : answersIn cs (r .log) ≡ claim marks b cs .answers
 
 -- demand 3 of a script that was performed. It holds of the list that the script is read as. It holds of every list that has this
 -- script, if the code's types hold its arguments and the log has room for its records
-pub record Performs (r : Replayed) (b script log : List ℕ) : Type 0 where
-  pub of-script : Claimed r b log (listOf (length script) (length log) script)
-  pub of-list : (cs : List Call) → AllFit cs → scriptOf cs ≡ script → logSize cs ≤ length log → Claimed r b log cs
+pub record Performs (marks : FlagTable) (r : Replayed) (b script log : List ℕ) : Type 0 where
+  pub of-script : Claimed marks r b log (listOf (length script) (length log) script)
+  pub of-list : (cs : List Call) → AllFit cs → scriptOf cs ≡ script → logSize cs ≤ length log → Claimed marks r b log cs
   -- such a list's script is bytes
   pub in-bytes : (cs : List Call) → AllFit cs → Bytes (scriptOf cs)
 
@@ -237,9 +238,9 @@ abbrev pub idle : List ℕ → List ℕ → Replayed
 idle b log = record { buffer = b; log = log; calls = 0; taken = 0; written = 0 }
 
 -- an entry is performed, and its record written at the log's front
-abbrev pub performed : List ℕ → Entry → List ℕ → Replayed
-performed b e log =
-    let a = effect b (e .call) in
+abbrev pub performed : FlagTable → List ℕ → Entry → List ℕ → Replayed
+performed marks b e log =
+    let a = effect marks b (e .call) in
     record {
       buffer = a .buffer;
       log = over (recordOf (shown (a .answer) (a .outs))) log;
@@ -249,5 +250,5 @@ performed b e log =
     }
 
 -- a replay's turn
-unfoldable pub turn : List ℕ → List ℕ → List ℕ → Replayed
-turn b script log = elim (nextIn (length log) script) [ none ↦ idle b log | some e ↦ performed b e log ]
+unfoldable pub turn : FlagTable → List ℕ → List ℕ → List ℕ → Replayed
+turn marks b script log = elim (nextIn (length log) script) [ none ↦ idle b log | some e ↦ performed marks b e log ]

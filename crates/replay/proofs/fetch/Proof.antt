@@ -20,7 +20,7 @@ returns : tie.Need-returns
 unfolding kinds
 returns c =
     ap (leaves _ _) (c .idle .ensures)
-    ∙ turn-cut _ (c .before .before .before .before .before .args .s .now) _ 8 _
+    ∙ turn-cut _ _ (c .before .before .before .before .before .args .s .now) _ 8 _
     (c .before .before .before .before .before .pre .of-kind) refl (omega (arith, c .before .if1 .taken))
 
 number-at-requires : tie.Need-number-at-requires
@@ -36,7 +36,7 @@ returns-2 : tie.Need-returns-2
 unfolding kinds
 returns-2 c =
     ap (leaves _ _) (c .idle2 .ensures)
-    ∙ turn-cut _ (c .before .before .before .before .before .before .before .args .s .now) _ 8 _ (c .before .before .before .before .before .before .before .pre .of-kind)
+    ∙ turn-cut _ _ (c .before .before .before .before .before .before .before .args .s .now) _ 8 _ (c .before .before .before .before .before .before .before .pre .of-kind)
     refl (omega (arith, c .before .if2 .taken, c .before .before .number-at .ensures))
 
 sub-if3 : tie.Need-sub-if3
@@ -51,7 +51,7 @@ returns-3 c =
     let args = c .before .before .before .before .before .before .before .before .args in
     let pre = c .before .before .before .before .before .before .before .before .pre in
     ap (leaves _ _) (c .idle3 .ensures)
-    ∙ output-full _ (args .s .now) _ 8 9 _ (λ (d : List ℕ). call.fetches (call.fetch (numberAt (args .s .now) 1) d))
+    ∙ output-full _ _ (args .s .now) _ 8 9 _ (λ (d : List ℕ). call.fetches (call.fetch (numberAt (args .s .now) 1) d))
     (λ (d : List ℕ). call.fetches (call.fetch (numberAt (args .s .now) 1) d)) (pre .of-kind) refl (λ d. refl) (c .before .before .before .number-at .ensures)
     (omega (arith, c .before .before .if2 .left, c .before .before .before .number-at .ensures, c .before .before .before .before .if1 .left))
     (omega (arith, c .before .if3 .taken, pre .room))
@@ -112,7 +112,7 @@ returns-4 c =
     let if3 = c .before .before .before .before .before .before .before .before .before .before .before .before .before .if3 in
     let copy = c .before .before .before .before .before .before .before .before .before .before .copy in
     ap (leaves _ _) (c .before .before .answered .ensures .1)
-    ∙ turn-output _ (args .s .now) (args .log .now) 8 9 _ (λ (d : List ℕ). call.fetches (call.fetch (numberAt (args .s .now) 1) d))
+    ∙ turn-output _ _ (args .s .now) (args .log .now) 8 9 _ (λ (d : List ℕ). call.fetches (call.fetch (numberAt (args .s .now) 1) d))
     (λ (d : List ℕ). call.fetches (call.fetch (args .k) d)) (pre .of-kind) refl (λ d. refl) (number-at .ensures) (omega (arith, if2 .left, number-at .ensures, if1 .left))
     _ _ _ _ (omega (arith, if3 .left, pre .room)) (ap {B = List ℕ → Call} (λ (x : ℕ) (d : List ℕ). call.fetches (call.fetch x d)) (pre .number)) (copy .ensures)
     (c .before .before .before .before .before .before .fetch .ensures) (c .before .before .answered .ensures .0)

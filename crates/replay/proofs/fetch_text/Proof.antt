@@ -23,7 +23,7 @@ returns : tie.Need-returns
 unfolding kinds
 returns c =
     let pre = c .before .before .before .before .before .pre in
-    ap (leaves _ _) (c .idle .ensures) ∙ turn-cut _ (c .before .before .before .before .before .args .s .now) _ 11 _ (pre .of-kind) refl (omega (arith, c .before .if1 .taken, pre .number, pre .nine))
+    ap (leaves _ _) (c .idle .ensures) ∙ turn-cut _ _ (c .before .before .before .before .before .args .s .now) _ 11 _ (pre .of-kind) refl (omega (arith, c .before .if1 .taken, pre .number, pre .nine))
 
 sub-if2 : tie.Need-sub-if2
 sub-if2 c = search needs
@@ -36,7 +36,7 @@ unfolding kinds outputsOf
 returns-2 c =
     let pre = c .before .before .before .before .before .before .pre in
     ap (leaves _ _) (c .idle2 .ensures)
-    ∙ output-full _ (c .before .before .before .before .before .before .args .s .now) _ 11 1 _ ((λ (d : List ℕ). call.fetches (call.fetchText d)))
+    ∙ output-full _ _ (c .before .before .before .before .before .before .args .s .now) _ 11 1 _ ((λ (d : List ℕ). call.fetches (call.fetchText d)))
     ((λ (d : List ℕ). call.fetches (call.fetchText d))) (pre .of-kind) refl (λ d. refl) (pre .number)
     (omega (arith, c .before .before .if1 .left, pre .number, pre .nine)) (omega (arith, c .before .if2 .taken, pre .room))
 
@@ -94,7 +94,7 @@ returns-3 c =
     let if2 = c .before .before .before .before .before .before .before .before .before .before .before .before .before .if2 in
     let copy = c .before .before .before .before .before .before .before .before .before .before .copy in
     ap (leaves _ _) (c .before .before .answered .ensures .1)
-    ∙ turn-output _ (args .s .now) (args .log .now) 11 1 _ ((λ (d : List ℕ). call.fetches (call.fetchText d))) ((λ (d : List ℕ). call.fetches (call.fetchText d)))
+    ∙ turn-output _ _ (args .s .now) (args .log .now) 11 1 _ ((λ (d : List ℕ). call.fetches (call.fetchText d))) ((λ (d : List ℕ). call.fetches (call.fetchText d)))
     (pre .of-kind) refl (λ d. refl) (pre .number) (omega (arith, if1 .left, pre .number, pre .nine)) _ _ _ _ (omega (arith, if2 .left, pre .room)) (refl) (copy .ensures)
     (c .before .before .before .before .before .before .fetch-text .ensures) (c .before .before .answered .ensures .0)
 

@@ -18,7 +18,7 @@ idle-requires c κs = search needs
 returns : tie.Need-returns
 returns c =
     let args = c .before .before .before .before .before .args in
-    ap (leaves _ _) (c .idle .ensures) ∙ turn-idle _ (args .s .now) _ (next-short _ (args .s .now) (c .before .if1 .taken))
+    ap (leaves _ _) (c .idle .ensures) ∙ turn-idle _ _ (args .s .now) _ (next-short _ (args .s .now) (c .before .if1 .taken))
 
 idle-requires-2 : tie.Need-idle-requires-2
 idle-requires-2 c κs = search needs
@@ -26,7 +26,7 @@ idle-requires-2 c κs = search needs
 returns-2 : tie.Need-returns-2
 returns-2 c =
     let args = c .before .before .before .before .before .before .args in
-    ap (leaves _ _) (c .idle2 .ensures) ∙ turn-idle _ (args .s .now) _ (next-cramped _ (args .s .now) (c .before .if2 .taken))
+    ap (leaves _ _) (c .idle2 .ensures) ∙ turn-idle _ _ (args .s .now) _ (next-cramped _ (args .s .now) (c .before .if2 .taken))
 
 number-at-requires : tie.Need-number-at-requires
 number-at-requires c κs = search needs
@@ -97,7 +97,7 @@ returns-3 c =
     let args = c .before .before .before .before .before .before .before .before .before .before .before .before .before .before .args in
     let if1 = c .before .before .before .before .before .before .before .before .before .before .if1 in
     ap (leaves _ _) (c .before .before .answered .ensures .1)
-    ∙ turn-plain _ (args .s .now) _ 1 _ _ _ _ _ _ _ (c .before .before .before .before .before .before .match .keys1) refl refl
+    ∙ turn-plain _ _ (args .s .now) _ 1 _ _ _ _ _ _ _ (c .before .before .before .before .before .before .match .keys1) refl refl
     (c .before .before .before .before .read-field .ensures) (c .before .before .answered .ensures .0)
     (ap (λ (x : ℕ). call.reads (call.readField x)) (c .before .before .before .before .before .before .before .before .number-at .ensures)) (refl) (if1 .left)
     (c .before .before .before .before .before .before .before .before .before .if2 .left)
@@ -125,7 +125,7 @@ returns-5 c =
     let if2 = c .before .before .before .before .before .before .before .before .before .before .before .if2 in
     let number-at = c .before .before .before .before .before .before .before .before .before .before .number-at in
     ap (leaves _ _) (c .before .before .answered2 .ensures .1)
-    ∙ turn-plain _ (args .s .now) _ 3 _ _ _ _ _ _ _ (c .before .before .before .before .before .before .before .before .match .keys3) refl refl
+    ∙ turn-plain _ _ (args .s .now) _ 3 _ _ _ _ _ _ _ (c .before .before .before .before .before .before .before .before .match .keys3) refl refl
     (c .before .before .before .before .before .before .clear-field .ensures) (c .before .before .answered2 .ensures .0)
     (ap (λ (x : ℕ). call.edits (call.clearField x)) (number-at .ensures)) (refl) (if1 .left) (if2 .left)
 
@@ -141,7 +141,7 @@ returns-6 c =
     let args = c .before .before .before .before .before .before .before .before .before .before .before .before .before .before .args in
     let if1 = c .before .before .before .before .before .before .before .before .before .before .if1 in
     ap (leaves _ _) (c .before .before .answered3 .ensures .1)
-    ∙ turn-plain _ (args .s .now) _ 4 _ _ _ _ _ _ _ (c .before .before .before .before .before .before .match .keys4) refl refl
+    ∙ turn-plain _ _ (args .s .now) _ 4 _ _ _ _ _ _ _ (c .before .before .before .before .before .before .match .keys4) refl refl
     (c .before .before .before .before .read-flag .ensures) (c .before .before .answered3 .ensures .0)
     (ap (λ (x : ℕ). call.reads (call.readFlag x)) (c .before .before .before .before .before .before .before .before .number-at .ensures)) (refl) (if1 .left)
     (c .before .before .before .before .before .before .before .before .before .if2 .left)
@@ -169,7 +169,7 @@ returns-8 c =
     let if2 = c .before .before .before .before .before .before .before .before .before .before .before .if2 in
     let number-at = c .before .before .before .before .before .before .before .before .before .before .number-at in
     ap (leaves _ _) (c .before .before .answered4 .ensures .1)
-    ∙ turn-plain _ (args .s .now) _ 6 _ _ _ _ _ _ _ (c .before .before .before .before .before .before .before .before .match .keys6) refl refl
+    ∙ turn-plain _ _ (args .s .now) _ 6 _ _ _ _ _ _ _ (c .before .before .before .before .before .before .before .before .match .keys6) refl refl
     (c .before .before .before .before .before .before .clear-flag .ensures) (c .before .before .answered4 .ensures .0)
     (ap (λ (x : ℕ). call.edits (call.clearFlag x)) (number-at .ensures)) (refl) (if1 .left) (if2 .left)
 
@@ -205,7 +205,7 @@ returns-11 c =
     let if2 = c .before .before .before .before .before .before .before .before .before .before .before .if2 in
     let number-at = c .before .before .before .before .before .before .before .before .before .before .number-at in
     ap (leaves _ _) (c .before .before .answered5 .ensures .1)
-    ∙ turn-plain _ (args .s .now) _ 9 _ _ _ _ _ _ _ (c .before .before .before .before .before .before .before .before .match .keys9) refl refl
+    ∙ turn-plain _ _ (args .s .now) _ 9 _ _ _ _ _ _ _ (c .before .before .before .before .before .before .before .before .match .keys9) refl refl
     (c .before .before .before .before .before .before .remove .ensures) (c .before .before .answered5 .ensures .0)
     (ap (λ (x : ℕ). call.edits (call.remove x)) (number-at .ensures)) (refl) (if1 .left) (if2 .left)
 
@@ -230,7 +230,7 @@ returns-13 c = search needs
 returns-14 : tie.Need-returns-14
 returns-14 c =
     let args = c .before .before .before .before .before .before .before .before .before .args in
-    ap (leaves _ _) (c .idle3 .ensures) ∙ turn-idle _ (args .s .now) _ (next-none _ (args .s .now) (entry-rest (args .s .now) (c .before .match .rest)))
+    ap (leaves _ _) (c .idle3 .ensures) ∙ turn-idle _ _ (args .s .now) _ (next-none _ (args .s .now) (entry-rest (args .s .now) (c .before .match .rest)))
 
 pub perform-spec : {M : Type 1} → statement M
 perform-spec =

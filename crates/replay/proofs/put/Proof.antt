@@ -20,7 +20,7 @@ returns : tie.Need-returns
 unfolding kinds
 returns c =
     ap (leaves _ _) (c .idle .ensures)
-    ∙ turn-cut _ (c .before .before .before .before .before .args .s .now) _ 7 _
+    ∙ turn-cut _ _ (c .before .before .before .before .before .args .s .now) _ 7 _
     (c .before .before .before .before .before .pre .of-kind) refl (omega (arith, c .before .if1 .taken))
 
 number-at-requires : tie.Need-number-at-requires
@@ -36,7 +36,7 @@ returns-2 : tie.Need-returns-2
 unfolding kinds
 returns-2 c =
     ap (leaves _ _) (c .idle2 .ensures)
-    ∙ turn-cut _ (c .before .before .before .before .before .before .before .args .s .now) _ 7 _ (c .before .before .before .before .before .before .before .pre .of-kind)
+    ∙ turn-cut _ _ (c .before .before .before .before .before .before .before .args .s .now) _ 7 _ (c .before .before .before .before .before .before .before .pre .of-kind)
     refl (omega (arith, c .before .if2 .taken, c .before .before .number-at .ensures))
 
 add-e : tie.Need-add-e
@@ -71,7 +71,7 @@ returns-3 c =
     let if1 = c .before .before .before .before .before .before .before .before .before .before .before .if1 in
     let number-at = c .before .before .before .before .before .before .before .before .before .before .number-at in
     ap (leaves _ _) (c .before .before .answered .ensures .1)
-    ∙ turn-plain _ (args .s .now) _ 7 _ _ _ _ _ _ _ (pre .of-kind) refl refl (c .before .before .before .before .before .before .put .ensures)
+    ∙ turn-plain _ _ (args .s .now) _ 7 _ _ _ _ _ _ _ (pre .of-kind) refl refl (c .before .before .before .before .before .before .put .ensures)
     (c .before .before .answered .ensures .0)
     (ap₂ (λ (x : ℕ) (d : List ℕ). call.edits (call.put x d)) (pre .number) (part-counted (args .s .now) 9 _ (number-at .ensures)))
     (ap (λ (n : ℕ). 17 + n) (number-at .ensures))

@@ -23,7 +23,7 @@ returns : tie.Need-returns
 unfolding kinds
 returns c =
     let pre = c .before .before .before .before .before .pre in
-    ap (leaves _ _) (c .idle .ensures) ∙ turn-cut _ (c .before .before .before .before .before .args .s .now) _ 10 _ (pre .of-kind) refl (omega (arith, c .before .if1 .taken, pre .number, pre .nine))
+    ap (leaves _ _) (c .idle .ensures) ∙ turn-cut _ _ (c .before .before .before .before .before .args .s .now) _ 10 _ (pre .of-kind) refl (omega (arith, c .before .if1 .taken, pre .number, pre .nine))
 
 add-e : tie.Need-add-e
 add-e c = search needs
@@ -55,7 +55,7 @@ returns-2 c =
     let args = c .before .before .before .before .before .before .before .before .before .before .before .before .before .args in
     let pre = c .before .before .before .before .before .before .before .before .before .before .before .before .before .pre in
     ap (leaves _ _) (c .before .before .answered .ensures .1)
-    ∙ turn-plain _ (args .s .now) _ 10 _ _ _ _ _ _ _ (pre .of-kind) refl refl
+    ∙ turn-plain _ _ (args .s .now) _ 10 _ _ _ _ _ _ _ (pre .of-kind) refl refl
     (c .before .before .before .before .before .before .put-text .ensures) (c .before .before .answered .ensures .0)
     (ap (λ (d : List ℕ). call.edits (call.putText d)) (part-counted (args .s .now) 1 _ (pre .number))) (ap (λ (n : ℕ). 9 + n) (pre .number))
     (omega (arith, c .before .before .before .before .before .before .before .before .before .if1 .left, pre .number, pre .nine)) (pre .room)

@@ -22,7 +22,7 @@ returns : tie.Need-returns
 unfolding kinds
 returns c =
     ap (leaves _ _) (c .idle .ensures)
-    ∙ turn-cut _ (c .before .before .before .before .before .args .s .now) _ 2 _ (c .before .before .before .before .before .pre .of-kind) refl (c .before .if1 .taken)
+    ∙ turn-cut _ _ (c .before .before .before .before .before .args .s .now) _ 2 _ (c .before .before .before .before .before .pre .of-kind) refl (c .before .if1 .taken)
 
 number-at-requires : tie.Need-number-at-requires
 number-at-requires c κs = search needs
@@ -50,7 +50,7 @@ returns-2 c =
     let if1 = c .before .before .before .before .before .before .before .before .before .before .if1 in
     let signed-of = c .before .before .before .before .before .before .before .before .signed-of in
     ap (leaves _ _) (c .before .before .answered .ensures .1)
-    ∙ turn-plain _ (args .s .now) _ 2 _ _ _ _ _ _ _ (pre .of-kind) refl refl (c .before .before .before .before .before .before .set-field .ensures)
+    ∙ turn-plain _ _ (args .s .now) _ 2 _ _ _ _ _ _ _ (pre .of-kind) refl refl (c .before .before .before .before .before .before .set-field .ensures)
     (c .before .before .answered .ensures .0)
     (ap₂ (λ (x : ℕ) (z : ℤ). call.edits (call.setField x (record { 0 = z }))) (pre .number)
     (toZ-ofZ w64 (signed-of .result) (search needs) ∙ signed-of .ensures

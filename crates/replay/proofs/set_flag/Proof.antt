@@ -18,7 +18,7 @@ returns : tie.Need-returns
 unfolding kinds
 returns c =
     ap (leaves _ _) (c .idle .ensures)
-    ∙ turn-cut _ (c .before .before .before .before .before .args .s .now) _ 5 _ (c .before .before .before .before .before .pre .of-kind) refl (c .before .if1 .taken)
+    ∙ turn-cut _ _ (c .before .before .before .before .before .args .s .now) _ 5 _ (c .before .before .before .before .before .pre .of-kind) refl (c .before .if1 .taken)
 
 number-at-requires : tie.Need-number-at-requires
 number-at-requires c κs = search needs
@@ -41,7 +41,7 @@ returns-2 c =
     let args = c .before .before .before .before .before .before .before .before .before .before .before .before .before .args in
     let pre = c .before .before .before .before .before .before .before .before .before .before .before .before .before .pre in
     ap (leaves _ _) (c .before .before .answered .ensures .1)
-    ∙ turn-plain _ (args .s .now) _ 5 _ _ _ _ _ _ _ (pre .of-kind) refl refl (c .before .before .before .before .before .before .set-flag .ensures)
+    ∙ turn-plain _ _ (args .s .now) _ 5 _ _ _ _ _ _ _ (pre .of-kind) refl refl (c .before .before .before .before .before .before .set-flag .ensures)
     (c .before .before .answered .ensures .0)
     (ap₂ (λ (x y : ℕ). call.edits (call.setFlag x y)) (pre .number) (c .before .before .before .before .before .before .before .before .number-at .ensures)) (refl)
     (c .before .before .before .before .before .before .before .before .before .if1 .left) (pre .room)
