@@ -13,6 +13,7 @@ use lib.Dec.{T, ltb, ltb→lt}
 use lib.IntN.{ℤ, pos, negsuc, natAbs, subℕ, _+ℤ_}
 use Rattle.laws.proofs.Attachments.{attachments-length}
 use Rattle.format.specs.Field.{Field, table, fieldAt, scaledOf, codedOf, entryOf, codes, entries}
+use Rattle.format.specs.Flags.{FlagTable, allYes}
 use Rattle.format.specs.Nibbles.{attachmentsOf}
 use Rattle.format.specs.Observation.{checksum}
 use Rattle.format.specs.Report.{checksumOf, codesOf, countOf, tailOf, observationOf, judge}
@@ -111,27 +112,27 @@ lines-short k (cons {f} {e} {fs} {es} g gs) t h =
 
 -- ---- what is listed, by outcome
 
-module _ (b : List ℕ) (x : Inspected) (is : x ≡ inspected b 0) where
-  pub refused-lists : (n p : ℕ) → x ≡ Inspected.Refused n p → listingOf (judge b) ≡ refusalLine n p
+module _ (marks : FlagTable) (b : List ℕ) (x : Inspected) (is : x ≡ inspected marks b 0) where
+  pub refused-lists : (n p : ℕ) → x ≡ Inspected.Refused n p → listingOf (judge marks b) ≡ refusalLine n p
   unfolding refusalLine
-  refused-lists n p e = ap listingOf (judge-refused b 0 n p x is e)
+  refused-lists n p e = ap listingOf (judge-refused marks b 0 n p x is e)
 
   module _ (r : Report) (e : x ≡ Inspected.Fine r) where
     codes-table : length (codesOf b) ≡ length table
     codes-table = codes-length b ∙ sym table-length
 
     pub fine-long : 38 ≤ length b
-    fine-long = passes b (observationOf b) (judge-fine b 0 r x is e .0) .0 .long
+    fine-long = passes marks b (observationOf b) (judge-fine marks b 0 r x is e .0) .0 .long
 
     module _ (n : ℕ) (stored : n ≡ checksumOf b) where
       -- the checksum that an accepted report stores is that of its fields
       sum-is : n ≡ checksum (codesOf b)
-      sum-is = stored ∙ passes b (observationOf b) (judge-fine b 0 r x is e .0) .0 .sum
+      sum-is = stored ∙ passes marks b (observationOf b) (judge-fine marks b 0 r x is e .0) .0 .sum
 
-      pub fine-lists : listingOf (judge b) ≡ valueLines b 0 ++ letteredLines n (r .count)
+      pub fine-lists : listingOf (judge marks b) ≡ valueLines b 0 ++ letteredLines n (r .count)
       unfolding valueLines letteredLines observationOf
       fine-lists =
-          let f = judge-fine b 0 r x is e in
+          let f = judge-fine marks b 0 r x is e in
           let sum : checksum (codes table (entries table (codesOf b))) ≡ n = ap checksum (codes-entries table (codesOf b) codes-table) ∙ sym sum-is in
           let count : length (attachmentsOf (countOf b) (tailOf b)) ≡ r .count = attachments-length (countOf b) (tailOf b) ∙ sym (ap (λ (y : Report). y .count) (f .1)) in
           ap listingOf (f .0)
@@ -144,7 +145,7 @@ module _ (b : List ℕ) (x : Inspected) (is : x ≡ inspected b 0) where
       pub fine-short : r .count < 2 ^ 64 → length (valueLines b 0 ++ letteredLines n (r .count)) ≤ 512
       unfolding valueLines letteredLines
       fine-short g =
-          let p = passes b (observationOf b) (judge-fine b 0 r x is e .0) .0 in
+          let p = passes marks b (observationOf b) (judge-fine marks b 0 r x is e .0) .0 in
           let fields = lines-short 1 (checks-fair 1 table (codesOf b) codes-table (p .fields) .0) table-small (omega (arith, entries-length b)) in
           omega (
             arith,
@@ -170,9 +171,9 @@ refused-short n p h g =
       decimal-short 19 p (omega arith),
     )
 
-pub listing-short : (s : List ℕ) → length s ≤ 1856 → listingOf (judge s) ≡ listing s
+pub listing-short : (s : List ℕ) → length s ≤ 1856 → listingOf (judge allYes s) ≡ listing s
 unfolding listing
-listing-short s h = ap (λ (l : List ℕ). listingOf (judge l)) (sym (take-all 1856 s h))
+listing-short s h = ap (λ (l : List ℕ). listingOf (judge allYes l)) (sym (take-all 1856 s h))
 
 -- an output that begins with what was listed has as many bytes
 module _ (s last rest : List ℕ) (r : ℕ) (e : r ≡ length (listing s)) (f : last ≡ listing s ++ rest) where

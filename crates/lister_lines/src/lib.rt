@@ -5,6 +5,7 @@ ghost use Prim.Native.Nat.{_+_, _≤_, _<_};
 ghost use lib.ListN.{length};
 ghost use Rattle.format.specs.Field.{fieldAt, entryOf};
 ghost use Rattle.format.specs.Calls.{over};
+ghost use Rattle.format.specs.Flags.{allYes};
 ghost use Rattle.format.specs.Report.{judge};
 ghost use Rattle.format.specs.Lister.{decimal, signedDecimal, line, fieldLine, listingOf, listing};
 ghost use Rattle.lister_lines.specs.Lines.{Room, Puts, valueLines, letteredLines, refusalLine};
@@ -107,11 +108,12 @@ fn put_refusal(out: &mut [u8], number: u64, place: u64) -> usize
     put_number(out, e, place, 10)
 }
 
+// The lines of a report, of which no flag is forbidden.
 fn list_all(s: &[u8], out: &mut [u8]) -> usize
     requires { ⌜ length (now out) ≡ 512 ⌝ }
-    ensures { λ r. ⌜ (r ≡ length (listingOf (judge (now (s .entry))))) × (now (out .exit) ≡ over (listingOf (judge (now (s .entry)))) (now (out .entry))) ⌝ }
+    ensures { λ r. ⌜ (r ≡ length (listingOf (judge allYes (now (s .entry))))) × (now (out .exit) ≡ over (listingOf (judge allYes (now (s .entry)))) (now (out .entry))) ⌝ }
 {
-    let i = report::inspect(s, 0);
+    let i = report::inspect(s, 0, flag_table::all_yes());
     match i {
         Inspected::Refused(n, p) => put_refusal(out, n as u64, p as u64),
         Inspected::Fine(r) => put_observation(s, out, card::checksum(s), r.count as u64),

@@ -14,6 +14,7 @@ use mir.ValLaws.{toZ-ofZ, toZ-pos}
 use Rattle.numbers.specs.Words.{unsigned}
 use Rattle.format.specs.Bits.{Bytes}
 use Rattle.format.specs.Order.{Refusal, first}
+use Rattle.format.specs.Flags.{FlagTable}
 use Rattle.format.specs.Observation.{Observation}
 use Rattle.format.specs.Report.{Verdict, judge}
 use Rattle.format.specs.Calls as call
@@ -44,30 +45,30 @@ count-given label n r f h = h ∙ ap (single label) (toZ-pos w64 n (omega arith)
 
 -- ---- the numbers fit
 
-pub call-fits : (a : call.Answer) (b d : List ℕ) (o : List (List ℕ)) (c : Call) → after a d o ≡ effect b c → Bytes b → AnswerFits a
-call-fits a b d o c e h = subst AnswerFits (sym (ap (λ (w : After). w .answer) e)) (effect-fits b c h)
+pub call-fits : (marks : FlagTable) (a : call.Answer) (b d : List ℕ) (o : List (List ℕ)) (c : Call) → after a d o ≡ effect marks b c → Bytes b → AnswerFits a
+call-fits marks a b d o c e h = subst AnswerFits (sym (ap (λ (w : After). w .answer) e)) (effect-fits marks b c h)
 
 -- the size that pack gives
 abbrev SizeFits : call.Answer → Type 0
 SizeFits (call.refused r) = Unit {0}
 SizeFits (call.accepted gs) = GivenFit gs
 
-packed-fits : (values : List ℤ) (word rptin : ℕ) (ns out : List ℕ) → rptin < 2 ^ 16 → Bytes (pack values word rptin ns out .out)
-    → SizeFits (pack values word rptin ns out .answer)
-packed-fits values word rptin ns out r h = go (first (packOrder (length out) values word rptin ns)) refl
+packed-fits : (marks : FlagTable) (values : List ℤ) (word rptin : ℕ) (ns out : List ℕ) → rptin < 2 ^ 16 → Bytes (pack marks values word rptin ns out .out)
+    → SizeFits (pack marks values word rptin ns out .answer)
+packed-fits marks values word rptin ns out r h = go (first (packOrder marks (length out) values word rptin ns)) refl
   where
     s : Observation
     s = packObservation values word rptin ns
 
-    go : (o : Option Refusal) → first (packOrder (length out) values word rptin ns) ≡ o → SizeFits (pack values word rptin ns out .answer)
+    go : (o : Option Refusal) → first (packOrder marks (length out) values word rptin ns) ≡ o → SizeFits (pack marks values word rptin ns out .answer)
     go (some x) q = unfold pack in rw q tt
-    go none q = let z = size-range s (judged _ s h (judge-pack values word rptin ns out r q) .good) in unfold pack in rw q (omega arith, tt)
+    go none q = let z = size-range marks s (judged marks _ s h (judge-pack marks values word rptin ns out r q) .good) in unfold pack in rw q (omega arith, tt)
 
-pub pack-fits : (values : List ℤ) (word rptin : ℕ) (ns out o : List ℕ) (p : Packed) (n : ℕ)
-    → record { answer = packAnswer p; out = o } ≡ pack values word rptin ns out → p ≡ Packed.Written n → rptin < 2 ^ 16 → Bytes o → n < 2 ^ 63
-pack-fits values word rptin ns out o p n e q r h =
+pub pack-fits : (marks : FlagTable) (values : List ℤ) (word rptin : ℕ) (ns out o : List ℕ) (p : Packed) (n : ℕ)
+    → record { answer = packAnswer p; out = o } ≡ pack marks values word rptin ns out → p ≡ Packed.Written n → rptin < 2 ^ 16 → Bytes o → n < 2 ^ 63
+pack-fits marks values word rptin ns out o p n e q r h =
     subst SizeFits (sym (ap (λ (w : Wrote). w .answer) e) ∙ ap packAnswer q)
-    (packed-fits values word rptin ns out r (subst Bytes (ap (λ (w : Wrote). w .out) e) h)) .0
+    (packed-fits marks values word rptin ns out r (subst Bytes (ap (λ (w : Wrote). w .out) e) h)) .0
 
 -- ---- each call
 
@@ -80,8 +81,8 @@ abbrev pub judgedAnswer : Judged → call.Answer
 judgedAnswer (Refused n p) = refusal n p
 judgedAnswer (Accepted size) = accepted (packGives size)
 
-pub judge-numbered : (b : List ℕ) (j k : Judged) (r : Answer) → j ≡ judgedOf (judge b) → j ≡ k → r ≡ numbered (judgedAnswer k) → r ≡ numbered (judging (judge b))
-judge-numbered b j k r h g e = e ∙ ap (λ (x : Judged). numbered (judgedAnswer x)) (sym g ∙ h) ∙ same (judge b)
+pub judge-numbered : (marks : FlagTable) (b : List ℕ) (j k : Judged) (r : Answer) → j ≡ judgedOf (judge marks b) → j ≡ k → r ≡ numbered (judgedAnswer k) → r ≡ numbered (judging (judge marks b))
+judge-numbered marks b j k r h g e = e ∙ ap (λ (x : Judged). numbered (judgedAnswer x)) (sym g ∙ h) ∙ same (judge marks b)
   where
     same : (v : Verdict) → numbered (judgedAnswer (judgedOf v)) ≡ numbered (judging v)
     same (Verdict.refused r) = refl

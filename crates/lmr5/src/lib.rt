@@ -10,12 +10,17 @@ ghost use Rattle.format.specs.Calls as call;
 ghost use Rattle.format.specs.Buffer.{effect};
 ghost use Rattle.format.specs.Whole as spec;
 ghost use Rattle.format.specs.Reply.{refusal, answerOf};
+ghost use Rattle.format.specs.Flags.{allYes};
 ghost use Rattle.format.specs.ShipText.{charTable};
+ghost use Rattle.format.specs.Loading.{loadAnswer, inForce};
 ghost use Rattle.laws.proofs.Bounds.{AnswerFits};
 ghost use Rattle.unpack.specs.Answers.{contentsNumbers};
 ghost use Rattle.characters.specs.Table.{ReadBack};
+ghost use Rattle.flag_table.specs.Claims.{AnyValue};
 ghost use Rattle.script.specs.Script.{Performs};
 ghost use Rattle.lmr5.specs.Numbered.{numbered, single, left, numberedAfter, judging, numberedWrote, word, opening, numberedUnpacked};
+use flag_table::Loading;
+use format::FlagTable;
 use format::Reply;
 use format::Scaled;
 use fresh::Started;
@@ -102,13 +107,34 @@ fn answer_of(r: Reply) -> Answer
     }
 }
 
+// ---- the table of permitted flags
+
+#[no_mangle]
+pub extern "C" fn lmr5_all_flags(table: &mut FlagTable)
+    ensures { λ _. ⌜ (now (table .exit) ≡ allYes) × AnyValue (now (table .exit)) ⌝ }
+{
+    *table = flag_table::all_yes();
+}
+
+#[no_mangle]
+pub extern "C" fn lmr5_load_flags(marks: &[u8], table: &mut FlagTable) -> Answer
+    ensures { λ r. ⌜ (r ≡ numbered (loadAnswer (now (marks .entry)))) × (now (table .exit) ≡ inForce (now (table .entry)) (now (marks .entry))) ⌝ }
+{
+    *table = flag_table::load(marks, *table);
+    let l = flag_table::judge(marks);
+    match l {
+        Loading::Refused(n, p) => refused(n, p),
+        Loading::Loaded => done(),
+    }
+}
+
 // ---- whole reports
 
 #[no_mangle]
-pub extern "C" fn lmr5_judge(report: &[u8]) -> Answer
-    ensures { λ r. ⌜ r ≡ numbered (judging (judge (now (report .entry)))) ⌝ }
+pub extern "C" fn lmr5_judge(report: &[u8], table: &FlagTable) -> Answer
+    ensures { λ r. ⌜ r ≡ numbered (judging (judge (now (table .entry)) (now (report .entry)))) ⌝ }
 {
-    let j = report::judge(&*report);
+    let j = report::judge(&*report, *table);
     match j {
         Judged::Refused(n, p) => refused(n, p),
         Judged::Accepted(size) => counted(8, size),
@@ -160,11 +186,12 @@ pub extern "C" fn lmr5_unpack(
     values: &mut [i64],
     tail: &mut [u8],
     contents: &mut [u64; 6],
+    table: &FlagTable,
 ) -> Answer
     ensures { λ r. ⌜ opening r (now (values .exit)) (now (tail .exit)) (now (contents .exit))
-        ≡ numberedUnpacked (spec.unpack (now (report .entry)) (now (values .entry)) (now (tail .entry))) (now (contents .entry)) ⌝ }
+        ≡ numberedUnpacked (spec.unpack (now (table .entry)) (now (report .entry)) (now (values .entry)) (now (tail .entry))) (now (contents .entry)) ⌝ }
 {
-    let u = unpack::unpack(&*report, values, tail);
+    let u = unpack::unpack(&*report, values, tail, table);
     match u {
         Unpacked::Refused(n, p) => refused(n, p),
         Unpacked::Given(c) => {
@@ -181,10 +208,11 @@ pub extern "C" fn lmr5_pack(
     rptin: u16,
     tail: &[u8],
     out: &mut [u8],
+    table: &FlagTable,
 ) -> Answer
-    ensures { λ r. ⌜ record { answer = r; out = now (out .exit) } ≡ numberedWrote (spec.pack (now (values .entry)) word rptin (now (tail .entry)) (now (out .entry))) ⌝ }
+    ensures { λ r. ⌜ record { answer = r; out = now (out .exit) } ≡ numberedWrote (spec.pack (now (table .entry)) (now (values .entry)) word rptin (now (tail .entry)) (now (out .entry))) ⌝ }
 {
-    let p = pack::pack(values, word, rptin, tail, out);
+    let p = pack::pack(values, word, rptin, tail, out, table);
     match p {
         Packed::Refused(n, k) => refused(n, k),
         Packed::Written(size) => counted(8, size),
@@ -194,82 +222,97 @@ pub extern "C" fn lmr5_pack(
 // ---- fields and flags
 
 #[no_mangle]
-pub extern "C" fn lmr5_read_field(report: &[u8], field: usize) -> Answer
-    ensures { λ r. ⌜ left r (now (report .entry)) [] ≡ numberedAfter (effect (now (report .entry)) (call.reads (call.readField field))) ⌝ }
+pub extern "C" fn lmr5_read_field(report: &[u8], field: usize, table: &FlagTable) -> Answer
+    ensures { λ r. ⌜ left r (now (report .entry)) [] ≡ numberedAfter (effect (now (table .entry)) (now (report .entry)) (call.reads (call.readField field))) ⌝ }
 {
-    answer_of(call_fields::read_field(&*report, field))
+    answer_of(call_fields::read_field(&*report, field, table))
 }
 
 #[no_mangle]
-pub extern "C" fn lmr5_set_field(report: &mut [u8], field: usize, value: i64) -> Answer
-    ensures { λ r. ⌜ left r (now (report .exit)) [] ≡ numberedAfter (effect (now (report .entry)) (call.edits (call.setField field (scaled value)))) ⌝ }
+pub extern "C" fn lmr5_set_field(
+    report: &mut [u8],
+    field: usize,
+    value: i64,
+    table: &FlagTable,
+) -> Answer
+    ensures { λ r. ⌜ left r (now (report .exit)) [] ≡ numberedAfter (effect (now (table .entry)) (now (report .entry)) (call.edits (call.setField field (scaled value)))) ⌝ }
 {
-    answer_of(call_fields::set_field(report, field, Scaled(value)))
+    answer_of(call_fields::set_field(report, field, Scaled(value), table))
 }
 
 #[no_mangle]
-pub extern "C" fn lmr5_clear_field(report: &mut [u8], field: usize) -> Answer
-    ensures { λ r. ⌜ left r (now (report .exit)) [] ≡ numberedAfter (effect (now (report .entry)) (call.edits (call.clearField field))) ⌝ }
+pub extern "C" fn lmr5_clear_field(report: &mut [u8], field: usize, table: &FlagTable) -> Answer
+    ensures { λ r. ⌜ left r (now (report .exit)) [] ≡ numberedAfter (effect (now (table .entry)) (now (report .entry)) (call.edits (call.clearField field))) ⌝ }
 {
-    answer_of(call_fields::clear_field(report, field))
+    answer_of(call_fields::clear_field(report, field, table))
 }
 
 #[no_mangle]
-pub extern "C" fn lmr5_read_flag(report: &[u8], flag: usize) -> Answer
-    ensures { λ r. ⌜ left r (now (report .entry)) [] ≡ numberedAfter (effect (now (report .entry)) (call.reads (call.readFlag flag))) ⌝ }
+pub extern "C" fn lmr5_read_flag(report: &[u8], flag: usize, table: &FlagTable) -> Answer
+    ensures { λ r. ⌜ left r (now (report .entry)) [] ≡ numberedAfter (effect (now (table .entry)) (now (report .entry)) (call.reads (call.readFlag flag))) ⌝ }
 {
-    answer_of(call_flags::read_flag(&*report, flag))
+    answer_of(call_flags::read_flag(&*report, flag, table))
 }
 
 #[no_mangle]
-pub extern "C" fn lmr5_set_flag(report: &mut [u8], flag: usize, value: usize) -> Answer
-    ensures { λ r. ⌜ left r (now (report .exit)) [] ≡ numberedAfter (effect (now (report .entry)) (call.edits (call.setFlag flag value))) ⌝ }
+pub extern "C" fn lmr5_set_flag(
+    report: &mut [u8],
+    flag: usize,
+    value: usize,
+    table: &FlagTable,
+) -> Answer
+    ensures { λ r. ⌜ left r (now (report .exit)) [] ≡ numberedAfter (effect (now (table .entry)) (now (report .entry)) (call.edits (call.setFlag flag value))) ⌝ }
 {
-    answer_of(call_flags::set_flag(report, flag, value))
+    answer_of(call_flags::set_flag(report, flag, value, table))
 }
 
 #[no_mangle]
-pub extern "C" fn lmr5_clear_flag(report: &mut [u8], flag: usize) -> Answer
-    ensures { λ r. ⌜ left r (now (report .exit)) [] ≡ numberedAfter (effect (now (report .entry)) (call.edits (call.clearFlag flag))) ⌝ }
+pub extern "C" fn lmr5_clear_flag(report: &mut [u8], flag: usize, table: &FlagTable) -> Answer
+    ensures { λ r. ⌜ left r (now (report .exit)) [] ≡ numberedAfter (effect (now (table .entry)) (now (report .entry)) (call.edits (call.clearFlag flag))) ⌝ }
 {
-    answer_of(call_flags::clear_flag(report, flag))
+    answer_of(call_flags::clear_flag(report, flag, table))
 }
 
 // ---- attachments and the ship text
 
 #[no_mangle]
-pub extern "C" fn lmr5_put(report: &mut [u8], id: usize, content: &[u8]) -> Answer
-    ensures { λ r. ⌜ left r (now (report .exit)) [] ≡ numberedAfter (effect (now (report .entry)) (call.edits (call.put id (now (content .entry))))) ⌝ }
+pub extern "C" fn lmr5_put(
+    report: &mut [u8],
+    id: usize,
+    content: &[u8],
+    table: &FlagTable,
+) -> Answer
+    ensures { λ r. ⌜ left r (now (report .exit)) [] ≡ numberedAfter (effect (now (table .entry)) (now (report .entry)) (call.edits (call.put id (now (content .entry))))) ⌝ }
 {
-    answer_of(call_puts::put(report, id, content))
+    answer_of(call_puts::put(report, id, content, table))
 }
 
 #[no_mangle]
-pub extern "C" fn lmr5_fetch(report: &[u8], id: usize, out: &mut [u8]) -> Answer
-    ensures { λ r. ⌜ left r (now (report .entry)) (now (out .exit) ∷ []) ≡ numberedAfter (effect (now (report .entry)) (call.fetches (call.fetch id (now (out .entry))))) ⌝ }
+pub extern "C" fn lmr5_fetch(report: &[u8], id: usize, out: &mut [u8], table: &FlagTable) -> Answer
+    ensures { λ r. ⌜ left r (now (report .entry)) (now (out .exit) ∷ []) ≡ numberedAfter (effect (now (table .entry)) (now (report .entry)) (call.fetches (call.fetch id (now (out .entry))))) ⌝ }
 {
-    answer_of(call_fetches::fetch(&*report, id, out))
+    answer_of(call_fetches::fetch(&*report, id, out, table))
 }
 
 #[no_mangle]
-pub extern "C" fn lmr5_drop(report: &mut [u8], id: usize) -> Answer
-    ensures { λ r. ⌜ left r (now (report .exit)) [] ≡ numberedAfter (effect (now (report .entry)) (call.edits (call.remove id))) ⌝ }
+pub extern "C" fn lmr5_drop(report: &mut [u8], id: usize, table: &FlagTable) -> Answer
+    ensures { λ r. ⌜ left r (now (report .exit)) [] ≡ numberedAfter (effect (now (table .entry)) (now (report .entry)) (call.edits (call.remove id))) ⌝ }
 {
-    answer_of(call_attachments::remove(report, id))
+    answer_of(call_attachments::remove(report, id, table))
 }
 
 #[no_mangle]
-pub extern "C" fn lmr5_put_text(report: &mut [u8], text: &[u8]) -> Answer
-    ensures { λ r. ⌜ left r (now (report .exit)) [] ≡ numberedAfter (effect (now (report .entry)) (call.edits (call.putText (now (text .entry))))) ⌝ }
+pub extern "C" fn lmr5_put_text(report: &mut [u8], text: &[u8], table: &FlagTable) -> Answer
+    ensures { λ r. ⌜ left r (now (report .exit)) [] ≡ numberedAfter (effect (now (table .entry)) (now (report .entry)) (call.edits (call.putText (now (text .entry))))) ⌝ }
 {
-    answer_of(call_puts::put_text(report, text))
+    answer_of(call_puts::put_text(report, text, table))
 }
 
 #[no_mangle]
-pub extern "C" fn lmr5_fetch_text(report: &[u8], out: &mut [u8]) -> Answer
-    ensures { λ r. ⌜ left r (now (report .entry)) (now (out .exit) ∷ []) ≡ numberedAfter (effect (now (report .entry)) (call.fetches (call.fetchText (now (out .entry))))) ⌝ }
+pub extern "C" fn lmr5_fetch_text(report: &[u8], out: &mut [u8], table: &FlagTable) -> Answer
+    ensures { λ r. ⌜ left r (now (report .entry)) (now (out .exit) ∷ []) ≡ numberedAfter (effect (now (table .entry)) (now (report .entry)) (call.fetches (call.fetchText (now (out .entry))))) ⌝ }
 {
-    answer_of(call_fetches::fetch_text(&*report, out))
+    answer_of(call_fetches::fetch_text(&*report, out, table))
 }
 
 // ---- the table of the characters
@@ -284,11 +327,16 @@ pub extern "C" fn lmr5_character_table(table: &mut [u16; 256])
 // ---- a script of calls
 
 #[no_mangle]
-pub extern "C" fn lmr5_replay(report: &mut [u8], script: &[u8], log: &mut [u8]) -> Performed
-    ensures { λ r. ⌜ Performs (record { buffer = now (report .exit); log = now (log .exit); calls = r .calls; taken = r .taken; written = r .written })
+pub extern "C" fn lmr5_replay(
+    report: &mut [u8],
+    script: &[u8],
+    log: &mut [u8],
+    table: &FlagTable,
+) -> Performed
+    ensures { λ r. ⌜ Performs (now (table .entry)) (record { buffer = now (report .exit); log = now (log .exit); calls = r .calls; taken = r .taken; written = r .written })
         (now (report .entry)) (now (script .entry)) (now (log .entry)) ⌝ }
 {
-    let p = replay::replay(report, script, log);
+    let p = replay::replay(report, script, log, table);
     Performed {
         calls: p.calls as u64,
         taken: p.taken as u64,

@@ -9,7 +9,7 @@ remove-requires : tie.Need-remove-requires
 remove-requires c κs = search needs
 
 answer-of-requires : tie.Need-answer-of-requires
-answer-of-requires c κs = call-fits _ _ _ _ _ (c .before .before .remove .ensures) (λ i. c .before .before .before .before .slice-known .given i .fits)
+answer-of-requires c κs = call-fits _ _ _ _ _ _ (c .before .before .remove .ensures) (λ i. c .before .before .before .before .slice-known .given i .fits)
 
 same-length : tie.Need-same-length
 same-length c = search needs

@@ -9,7 +9,7 @@ fetch-text-requires : tie.Need-fetch-text-requires
 fetch-text-requires c κs = search needs
 
 answer-of-requires : tie.Need-answer-of-requires
-answer-of-requires c κs = call-fits _ _ _ _ _ (c .before .before .fetch-text .ensures) (λ i. c .before .before .before .before .before .shared-slice-known .given i .fits)
+answer-of-requires c κs = call-fits _ _ _ _ _ _ (c .before .before .fetch-text .ensures) (λ i. c .before .before .before .before .before .shared-slice-known .given i .fits)
 
 same-length : tie.Need-same-length
 same-length c = search needs

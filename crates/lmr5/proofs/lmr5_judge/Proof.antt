@@ -23,11 +23,11 @@ counted-requires : tie.Need-counted-requires
 counted-requires c κs = let w = c .before .before .before .judge .ensures .1 .within _ (c .before .j2 .given .1) in omega arith
 
 returns : tie.Need-returns
-returns c = judge-numbered _ _ _ _ (c .before .before .before .before .judge .ensures .0) (c .before .before .j .given .1) (c .refused .ensures)
+returns c = judge-numbered _ _ _ _ _ (c .before .before .before .before .judge .ensures .0) (c .before .before .j .given .1) (c .refused .ensures)
 
 returns-2 : tie.Need-returns-2
 unfolding labels quantityLabel
-returns-2 c = judge-numbered _ _ _ _ (c .before .before .before .before .judge .ensures .0) (c .before .before .j2 .given .1) (c .counted .ensures)
+returns-2 c = judge-numbered _ _ _ _ _ (c .before .before .before .before .judge .ensures .0) (c .before .before .j2 .given .1) (c .counted .ensures)
 
 pub lmr5-judge-spec : {M : Type 1} → statement M
 lmr5-judge-spec =

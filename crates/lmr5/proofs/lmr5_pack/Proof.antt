@@ -24,7 +24,7 @@ enum-known-p-2 c = search needs
 
 counted-requires : tie.Need-counted-requires
 counted-requires c κs =
-    pack-fits _ _ _ _ _ _ _ _ (c .before .before .before .before .before .pack .ensures) (c .before .p2 .given .1)
+    pack-fits _ _ _ _ _ _ _ _ _ (c .before .before .before .before .before .pack .ensures) (c .before .p2 .given .1)
     (c .before .before .before .before .before .before .before .before .before .fits .rptin .fits) (λ i. c .before .before .before .slice-known2 .given i .fits)
 
 same-length : tie.Need-same-length

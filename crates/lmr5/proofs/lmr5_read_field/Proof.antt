@@ -9,7 +9,7 @@ read-field-requires : tie.Need-read-field-requires
 read-field-requires c κs = search needs
 
 answer-of-requires : tie.Need-answer-of-requires
-answer-of-requires c κs = call-fits _ _ _ _ _ (c .read-field .ensures) (λ i. c .before .shared-slice-known .given i .fits)
+answer-of-requires c κs = call-fits _ _ _ _ _ _ (c .read-field .ensures) (λ i. c .before .shared-slice-known .given i .fits)
 
 returns : tie.Need-returns
 returns c = call-numbered _ _ _ _ _ (c .before .read-field .ensures) (c .answer-of .ensures)

@@ -9,7 +9,7 @@ read-flag-requires : tie.Need-read-flag-requires
 read-flag-requires c κs = search needs
 
 answer-of-requires : tie.Need-answer-of-requires
-answer-of-requires c κs = call-fits _ _ _ _ _ (c .read-flag .ensures) (λ i. c .before .shared-slice-known .given i .fits)
+answer-of-requires c κs = call-fits _ _ _ _ _ _ (c .read-flag .ensures) (λ i. c .before .shared-slice-known .given i .fits)
 
 returns : tie.Need-returns
 returns c = call-numbered _ _ _ _ _ (c .before .read-flag .ensures) (c .answer-of .ensures)
