@@ -1,5 +1,7 @@
 // Numbers and answers of the test vectors, over standard input and output. Numbers stand highest byte first.
 ghost use Prim.Native.Nat.{_≤_};
+use flag_table::Loading;
+use format::FlagTable;
 use libc::STDIN_FILENO;
 use libc::STDOUT_FILENO;
 
@@ -89,4 +91,33 @@ pub fn put_head(tag: u8, number: u8, n: u64) {
 
 pub fn put_refused(number: u8, place: usize) {
     put_head(0, number, place as u64);
+}
+
+fn put_loading(l: Loading) {
+    match l {
+        Loading::Refused(number, place) => put_refused(number, place),
+        Loading::Loaded => put_head(1, 0, 0),
+    }
+}
+
+fn put_rows(marks: &FlagTable) {
+    let mut i = 0;
+    while i < 14 {
+        put_bytes(&marks[i]);
+        i += 1;
+    }
+}
+
+fn load_lent(lent: &mut [u8], marks: &mut FlagTable) {
+    get_bytes(lent);
+    put_loading(flag_table::judge(lent));
+    *marks = flag_table::load(lent, *marks);
+    put_rows(marks);
+}
+
+// Loads a table that stands on the input, and writes the answer and the table in force after it.
+pub fn load(marks: &mut FlagTable) {
+    let mut lent = [0u8; 200];
+    let n = get_length(200);
+    load_lent(&mut lent[..n], marks);
 }

@@ -1,4 +1,5 @@
 // Runs the calls outside the list over vectors of the independent implementation.
+use format::FlagTable;
 use format::Scaled;
 use fresh::Started;
 use pack::Packed;
@@ -7,8 +8,8 @@ use report::Judged;
 use test_io::Kind;
 use unpack::Unpacked;
 
-fn judge_in(s: &[u8]) {
-    let j = report::judge(s);
+fn judge_in(s: &[u8], marks: &FlagTable) {
+    let j = report::judge(s, *marks);
     match j {
         Judged::Refused(number, place) => test_io::put_refused(number, place),
         Judged::Accepted(size) => test_io::put_head(2, 0, size as u64),
@@ -21,9 +22,9 @@ fn list_in(s: &[u8]) {
     test_io::put_bytes(&lines[..n]);
 }
 
-fn same_second(a: &[u8], b: &mut [u8]) {
+fn same_second(a: &[u8], b: &mut [u8], marks: &FlagTable) {
     test_io::get_bytes(b);
-    let c = report::same(a, b);
+    let c = report::same(a, b, marks);
     match c {
         Compared::Refused(number, place) => test_io::put_refused(number, place),
         Compared::Same => test_io::put_head(2, 0, 1),
@@ -31,10 +32,10 @@ fn same_second(a: &[u8], b: &mut [u8]) {
     }
 }
 
-fn same_in(a: &[u8]) {
+fn same_in(a: &[u8], marks: &FlagTable) {
     let mut b = [0u8; 2000];
     let n = test_io::get_length(2000);
-    same_second(a, &mut b[..n]);
+    same_second(a, &mut b[..n], marks);
 }
 
 fn put_started(r: Started) {
@@ -105,58 +106,58 @@ fn put_lent(values: &[i64], tail: &[u8], out: &[u8]) {
     test_io::put_bytes(out);
 }
 
-fn restore_out(s: &[u8], values: &mut [i64], tail: &mut [u8], out: &mut [u8]) {
+fn restore_out(s: &[u8], values: &mut [i64], tail: &mut [u8], out: &mut [u8], marks: &FlagTable) {
     test_io::get_bytes(out);
-    put_packed(trips::restore(s, values, tail, out));
+    put_packed(trips::restore(s, values, tail, out, marks));
     put_lent(values, tail, out);
 }
 
-fn restore_tail(s: &[u8], values: &mut [i64], tail: &mut [u8]) {
+fn restore_tail(s: &[u8], values: &mut [i64], tail: &mut [u8], marks: &FlagTable) {
     let mut out = [0u8; 2000];
     let n = test_io::get_length(2000);
-    restore_out(s, values, tail, &mut out[..n]);
+    restore_out(s, values, tail, &mut out[..n], marks);
 }
 
-fn unpack_tail(s: &[u8], values: &mut [i64], tail: &mut [u8], trip: bool) {
+fn unpack_tail(s: &[u8], values: &mut [i64], tail: &mut [u8], trip: bool, marks: &FlagTable) {
     test_io::get_bytes(tail);
     if trip {
-        restore_tail(s, values, tail);
+        restore_tail(s, values, tail, marks);
         return;
     }
-    put_unpacked(unpack::unpack(s, values, tail));
+    put_unpacked(unpack::unpack(s, values, tail, marks));
     put_values(values);
     test_io::put_bytes(tail);
 }
 
-fn unpack_values(s: &[u8], values: &mut [i64], trip: bool) {
+fn unpack_values(s: &[u8], values: &mut [i64], trip: bool, marks: &FlagTable) {
     get_values(values);
     let mut tail = [0u8; 4200];
     let n = test_io::get_length(4200);
-    unpack_tail(s, values, &mut tail[..n], trip);
+    unpack_tail(s, values, &mut tail[..n], trip, marks);
 }
 
 // A report unpacked; with trip, packed again.
-fn unpack_in(s: &[u8], trip: bool) {
+fn unpack_in(s: &[u8], trip: bool, marks: &FlagTable) {
     let mut values = [0i64; 60];
     let n = test_io::get_length(60);
-    unpack_values(s, &mut values[..n], trip);
+    unpack_values(s, &mut values[..n], trip, marks);
 }
 
-fn report_in(kind: u8, s: &mut [u8]) {
+fn report_in(kind: u8, s: &mut [u8], marks: &FlagTable) {
     test_io::get_bytes(s);
     match kind {
-        1 => judge_in(s),
+        1 => judge_in(s, marks),
         2 => list_in(s),
-        6 => same_in(s),
-        _ => unpack_in(s, kind == 7),
+        6 => same_in(s, marks),
+        _ => unpack_in(s, kind == 7, marks),
     }
 }
 
 // A vector that begins with a report.
-fn report_one(kind: u8) {
+fn report_one(kind: u8, marks: &FlagTable) {
     let mut s = [0u8; 2000];
     let n = test_io::get_length(2000);
-    report_in(kind, &mut s[..n]);
+    report_in(kind, &mut s[..n], marks);
 }
 
 fn recover_tail(
@@ -167,9 +168,10 @@ fn recover_tail(
     out: &mut [u8],
     values_out: &mut [i64],
     tail_out: &mut [u8],
+    marks: &FlagTable,
 ) {
     test_io::get_bytes(tail_out);
-    put_unpacked(trips::recover(values, word, rptin, tail, out, values_out, tail_out));
+    put_unpacked(trips::recover(values, word, rptin, tail, out, values_out, tail_out, marks));
     put_lent(values_out, tail_out, out);
 }
 
@@ -180,6 +182,7 @@ fn recover_values(
     tail: &[u8],
     out: &mut [u8],
     values_out: &mut [i64],
+    marks: &FlagTable,
 ) {
     get_values(values_out);
     let mut tail_out = [0u8; 4200];
@@ -192,46 +195,69 @@ fn recover_values(
         out,
         values_out,
         &mut tail_out[..n],
+        marks,
     );
 }
 
-fn recover_out(values: &[i64], word: u64, rptin: u16, tail: &[u8], out: &mut [u8]) {
+fn recover_out(
+    values: &[i64],
+    word: u64,
+    rptin: u16,
+    tail: &[u8],
+    out: &mut [u8],
+    marks: &FlagTable,
+) {
     let mut values_out = [0i64; 60];
     let n = test_io::get_length(60);
-    recover_values(values, word, rptin, tail, out, &mut values_out[..n]);
+    recover_values(values, word, rptin, tail, out, &mut values_out[..n], marks);
 }
 
-fn pack_out(values: &[i64], word: u64, rptin: u16, tail: &[u8], out: &mut [u8], trip: bool) {
+fn pack_out(
+    values: &[i64],
+    word: u64,
+    rptin: u16,
+    tail: &[u8],
+    out: &mut [u8],
+    trip: bool,
+    marks: &FlagTable,
+) {
     test_io::get_bytes(out);
     if trip {
-        recover_out(values, word, rptin, tail, out);
+        recover_out(values, word, rptin, tail, out, marks);
         return;
     }
-    put_packed(pack::pack(values, word, rptin, tail, out));
+    put_packed(pack::pack(values, word, rptin, tail, out, marks));
     test_io::put_bytes(out);
 }
 
-fn pack_tail(values: &[i64], word: u64, rptin: u16, tail: &mut [u8], trip: bool) {
+fn pack_tail(
+    values: &[i64],
+    word: u64,
+    rptin: u16,
+    tail: &mut [u8],
+    trip: bool,
+    marks: &FlagTable,
+) {
     test_io::get_bytes(tail);
     let mut out = [0u8; 2000];
     let n = test_io::get_length(2000);
-    pack_out(values, word, rptin, tail, &mut out[..n], trip);
+    pack_out(values, word, rptin, tail, &mut out[..n], trip, marks);
 }
 
-fn pack_in(values: &mut [i64], trip: bool) {
+fn pack_in(values: &mut [i64], trip: bool, marks: &FlagTable) {
     get_values(values);
     let word = test_io::get8();
     let rptin = (test_io::get2() % 65536) as u16;
     let mut tail = [0u8; 4200];
     let n = test_io::get_length(4200);
-    pack_tail(values, word, rptin, &mut tail[..n], trip);
+    pack_tail(values, word, rptin, &mut tail[..n], trip, marks);
 }
 
 // Values packed; with trip, unpacked again.
-fn pack_one(trip: bool) {
+fn pack_one(trip: bool, marks: &FlagTable) {
     let mut values = [0i64; 60];
     let n = test_io::get_length(60);
-    pack_in(&mut values[..n], trip);
+    pack_in(&mut values[..n], trip, marks);
 }
 
 fn get_entries(table: &mut [u16]) {
@@ -259,26 +285,36 @@ fn characters_one() {
     put_entries(&table);
 }
 
-// One vector; false at the end of the input.
-fn one() -> bool {
-    let k = test_io::next();
-    let Kind::Byte(kind) = k else {
-        return false;
-    };
+// One vector under a table; false at the end of the input.
+fn one(kind: u8, marks: &FlagTable) -> bool {
     match kind {
-        1 | 2 | 4 | 6 | 7 => report_one(kind),
+        1 | 2 | 4 | 6 | 7 => report_one(kind, marks),
         3 => fresh_one(),
-        5 | 8 => pack_one(kind == 8),
+        5 | 8 => pack_one(kind == 8, marks),
         9 => characters_one(),
         _ => return false,
     }
     true
 }
 
+// A table loaded, or one vector; false at the end of the input.
+fn next(marks: &mut FlagTable) -> bool {
+    let k = test_io::next();
+    let Kind::Byte(kind) = k else {
+        return false;
+    };
+    if kind == 10 {
+        test_io::load(marks);
+        return true;
+    }
+    one(kind, marks)
+}
+
 fn main() {
+    let mut marks = flag_table::all_yes();
     let mut left: usize = 100000;
     while 0 < left {
-        if !one() {
+        if !next(&mut marks) {
             return;
         }
         left -= 1;

@@ -1,13 +1,12 @@
+-- `flag_table::all_marks` meets its contract.
+-- Assumes nothing.
 use borrow.Author.Needs.{needs}
-use native.Mathlib.Omega.{arith}
 use Prim.Native.Nat.{_-_}
 use lib.ListN.{length}
 use Rattle.format.specs.Loading.{allMarks}
 use Rattle.flag_table.proofs.Tables.{Looking, look-none, marks-more, marks-not, marks-end}
 use Rattle.flag_table.proofs.all_marks.Statement.{statement}
 use Rattle.flag_table.proofs.all_marks.Tie as tie
-use Rattle.flag_table.proofs.all_marks.Reads as reads
-use Rattle.flag_table.proofs.all_marks.Lts as lts
 
 abbrev Inv-loop : tie.InvT-loop
 Inv-loop lent i₀ i = Looking allMarks lent i
@@ -15,31 +14,24 @@ Inv-loop lent i₀ i = Looking allMarks lent i
 abbrev μ-loop : tie.MeasureT-loop
 μ-loop lent i₀ i = length lent - i
 
--- src/lib.rt:32:5
 loop-holds : tie.Need-loop-holds Inv-loop μ-loop
 loop-holds c = look-none allMarks _
 
--- src/lib.rt:33:16
 shared-slice-read-if1 : tie.Need-shared-slice-read-if1 Inv-loop μ-loop
 shared-slice-read-if1 c = search needs
 
--- src/lib.rt:34:13
 returns : tie.Need-returns Inv-loop μ-loop
 returns c = marks-not _ _ (c .before .before .loop-test .taken) (c .if1 .taken) (c .before .before .before .loop .inv)
 
--- src/lib.rt:36:9
 add-i : tie.Need-add-i Inv-loop μ-loop
 add-i c = search needs
 
--- src/lib.rt:32:5
 loop-less : tie.Need-loop-less Inv-loop μ-loop
 loop-less c = search needs
 
--- src/lib.rt:32:5
 loop-again : tie.Need-loop-again Inv-loop μ-loop
 loop-again c = marks-more _ _ (c .before .before .loop-test .taken) (c .if1 .left) (c .before .before .before .loop .inv)
 
--- src/lib.rt:28:1
 returns-2 : tie.Need-returns-2 Inv-loop μ-loop
 returns-2 c = marks-end _ _ (c .loop-test .left) (c .before .loop .inv)
 

@@ -1,13 +1,11 @@
-use borrow.Author.Needs.{needs}
+-- `flag_table::all_yes` meets its contract.
+-- Assumes nothing.
 use mathlib.Core.Path.{refl}
 use Rattle.format.specs.Flags.{allYes}
 use Rattle.flag_table.proofs.Tables.{any-value}
 use Rattle.flag_table.proofs.all_yes.Statement.{statement}
 use Rattle.flag_table.proofs.all_yes.Tie as tie
-use Rattle.flag_table.proofs.all_yes.Reads as reads
-use Rattle.flag_table.proofs.all_yes.Lts as lts
 
--- src/lib.rt:19:1
 returns : tie.Need-returns
 unfolding allYes
 returns c = (refl, any-value)

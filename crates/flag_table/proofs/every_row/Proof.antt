@@ -1,3 +1,5 @@
+-- `flag_table::every_row` meets its contract.
+-- Assumes nothing.
 use borrow.Author.Needs.{needs}
 use native.Mathlib.Omega.{arith}
 use Prim.Native.Nat.{ℕ, _+_, _-_}
@@ -9,9 +11,6 @@ use Rattle.format.specs.Loading.{someYes}
 use Rattle.flag_table.proofs.Tables.{Rowing, rowing-none, rowing-within, rowing-more, rowing-not, rowing-end}
 use Rattle.flag_table.proofs.every_row.Statement.{statement}
 use Rattle.flag_table.proofs.every_row.Tie as tie
-use Rattle.flag_table.proofs.every_row.Reads as reads
-use Rattle.flag_table.proofs.every_row.Lts as lts
-use Rattle.flag_table.proofs.some_yes.Reads as some-yes-reads
 
 abbrev Inv-loop : tie.InvT-loop
 Inv-loop lent at₀ at = Rowing lent at
@@ -27,43 +26,33 @@ row c =
     let e : at + 10 - at ≡ 10 = omega arith in
     c .some-yes .ensures ∙ ap (λ (n : ℕ). someYes (take n (drop at (now (c .before .before .before .before .before .args .lent))))) e
 
--- src/lib.rt:61:5
 loop-holds : tie.Need-loop-holds Inv-loop μ-loop
 loop-holds c = rowing-none _
 
--- src/lib.rt:62:20
 add-next : tie.Need-add-next Inv-loop μ-loop
 add-next c = search needs
 
--- src/lib.rt:63:22
 sub-some-yes : tie.Need-sub-some-yes Inv-loop μ-loop
 sub-some-yes c = search needs
 
--- src/lib.rt:63:22
 part-some-yes-start : tie.Need-part-some-yes-start Inv-loop μ-loop
 part-some-yes-start c = search needs
 
--- src/lib.rt:63:22
 part-some-yes-end : tie.Need-part-some-yes-end Inv-loop μ-loop
 part-some-yes-end c = omega (arith, rowing-within _ _ (c .before .loop .inv) (c .loop-test .taken))
 
--- src/lib.rt:63:13
 some-yes-requires : tie.Need-some-yes-requires Inv-loop μ-loop
 some-yes-requires c κs = search needs
 
--- src/lib.rt:64:13
 returns : tie.Need-returns Inv-loop μ-loop
 returns c = rowing-not _ _ (c .before .before .before .before .loop .inv) (c .before .before .before .loop-test .taken) _ (row (c .before)) (not-true _ (c .if1 .taken))
 
--- src/lib.rt:61:5
 loop-less : tie.Need-loop-less Inv-loop μ-loop
 loop-less c = omega arith
 
--- src/lib.rt:61:5
 loop-again : tie.Need-loop-again Inv-loop μ-loop
 loop-again c = rowing-more _ _ (c .before .before .before .before .loop .inv) (c .before .before .before .loop-test .taken) _ (row (c .before)) (not-false _ (c .if1 .left))
 
--- src/lib.rt:56:1
 returns-2 : tie.Need-returns-2 Inv-loop μ-loop
 returns-2 c = rowing-end _ _ (c .before .loop .inv) (c .loop-test .left)
 

@@ -1,24 +1,19 @@
+-- `flag_table::judge` meets its contract.
+-- Assumes nothing.
 use borrow.Author.Needs.{needs}
 use Rattle.flag_table.proofs.Tables.{other-length, load-refused, load-accepted, answer-by}
 use Rattle.flag_table.proofs.judge.Statement.{statement}
 use Rattle.flag_table.proofs.judge.Tie as tie
-use Rattle.flag_table.proofs.judge.Reads as reads
-use Rattle.flag_table.proofs.judge.Lts as lts
-use Rattle.flag_table.proofs.loadable.Reads as loadable-reads
 
--- src/lib.rt:131:9
 returns : tie.Need-returns
 returns c = answer-by _ _ (other-length _ (c .if1 .taken))
 
--- src/lib.rt:133:8
 loadable-requires : tie.Need-loadable-requires
 loadable-requires c κs = search needs
 
--- src/lib.rt:134:9
 returns-2 : tie.Need-returns-2
 returns-2 c = answer-by _ _ (load-accepted _ (c .before .before .if1 .left) _ (c .before .loadable .ensures) (c .if2 .taken))
 
--- src/lib.rt:127:1
 returns-3 : tie.Need-returns-3
 returns-3 c = answer-by _ _ (load-refused _ (c .before .before .if1 .left) _ (c .before .loadable .ensures) (c .if2 .left))
 

@@ -1,30 +1,23 @@
+-- `flag_table::load` meets its contract.
+-- Assumes nothing.
 use borrow.Author.Needs.{needs}
 use mathlib.Core.Path.{_∙_}
 use Rattle.flag_table.proofs.Tables.{row-by-row, other-length, load-refused, load-accepted, force-by}
 use Rattle.flag_table.proofs.load.Statement.{statement}
 use Rattle.flag_table.proofs.load.Tie as tie
-use Rattle.flag_table.proofs.load.Reads as reads
-use Rattle.flag_table.proofs.load.Lts as lts
-use Rattle.flag_table.proofs.loadable.Reads as loadable-reads
-use Rattle.flag_table.proofs.rows.Reads as rows-reads
 
--- src/lib.rt:144:9
 returns : tie.Need-returns
 returns c = (force-by _ _ _ (other-length _ (c .if1 .taken)), row-by-row _)
 
--- src/lib.rt:146:9
 rows-requires : tie.Need-rows-requires
 rows-requires c κs = search needs
 
--- src/lib.rt:147:8
 loadable-requires : tie.Need-loadable-requires
 loadable-requires c κs = search needs
 
--- src/lib.rt:148:9
 returns-2 : tie.Need-returns-2
 returns-2 c = (c .before .before .rows .ensures ∙ force-by _ (c .before .before .before .before .before .args .former) _ (load-accepted _ (c .before .before .before .if1 .left) _ (c .before .loadable .ensures) (c .if2 .taken)), row-by-row _)
 
--- src/lib.rt:140:1
 returns-3 : tie.Need-returns-3
 returns-3 c = (force-by _ _ _ (load-refused _ (c .before .before .before .if1 .left) _ (c .before .loadable .ensures) (c .if2 .left)), row-by-row _)
 

@@ -1,68 +1,52 @@
+-- `flag_table::rows` meets its contract.
+-- Assumes nothing.
 use borrow.Author.Needs.{needs}
 use Rattle.flag_table.proofs.Tables.{table-is}
 use Rattle.flag_table.proofs.rows.Statement.{statement}
 use Rattle.flag_table.proofs.rows.Tie as tie
-use Rattle.flag_table.proofs.rows.Reads as reads
-use Rattle.flag_table.proofs.rows.Lts as lts
-use Rattle.flag_table.proofs.row.Reads as row-reads
 
--- src/lib.rt:107:9
 row-requires : tie.Need-row-requires
 row-requires c κs = search needs
 
--- src/lib.rt:108:9
 row-requires-2 : tie.Need-row-requires-2
 row-requires-2 c κs = search needs
 
--- src/lib.rt:109:9
 row-requires-3 : tie.Need-row-requires-3
 row-requires-3 c κs = search needs
 
--- src/lib.rt:110:9
 row-requires-4 : tie.Need-row-requires-4
 row-requires-4 c κs = search needs
 
--- src/lib.rt:111:9
 row-requires-5 : tie.Need-row-requires-5
 row-requires-5 c κs = search needs
 
--- src/lib.rt:112:9
 row-requires-6 : tie.Need-row-requires-6
 row-requires-6 c κs = search needs
 
--- src/lib.rt:113:9
 row-requires-7 : tie.Need-row-requires-7
 row-requires-7 c κs = search needs
 
--- src/lib.rt:114:9
 row-requires-8 : tie.Need-row-requires-8
 row-requires-8 c κs = search needs
 
--- src/lib.rt:115:9
 row-requires-9 : tie.Need-row-requires-9
 row-requires-9 c κs = search needs
 
--- src/lib.rt:116:9
 row-requires-10 : tie.Need-row-requires-10
 row-requires-10 c κs = search needs
 
--- src/lib.rt:117:9
 row-requires-11 : tie.Need-row-requires-11
 row-requires-11 c κs = search needs
 
--- src/lib.rt:118:9
 row-requires-12 : tie.Need-row-requires-12
 row-requires-12 c κs = search needs
 
--- src/lib.rt:119:9
 row-requires-13 : tie.Need-row-requires-13
 row-requires-13 c κs = search needs
 
--- src/lib.rt:120:9
 row-requires-14 : tie.Need-row-requires-14
 row-requires-14 c κs = search needs
 
--- src/lib.rt:102:1
 returns : tie.Need-returns
 returns c = rw (c .before .before .before .before .before .before .before .before .before .before .before .before .before .row .ensures, c .before .before .before .before .before .before .before .before .before .before .before .before .row2 .ensures, c .before .before .before .before .before .before .before .before .before .before .before .row3 .ensures, c .before .before .before .before .before .before .before .before .before .before .row4 .ensures, c .before .before .before .before .before .before .before .before .before .row5 .ensures, c .before .before .before .before .before .before .before .before .row6 .ensures, c .before .before .before .before .before .before .before .row7 .ensures, c .before .before .before .before .before .before .row8 .ensures, c .before .before .before .before .before .row9 .ensures, c .before .before .before .before .row10 .ensures, c .before .before .before .row11 .ensures, c .before .before .row12 .ensures, c .before .row13 .ensures, c .row14 .ensures) (table-is _)
 

@@ -1,13 +1,12 @@
+-- `flag_table::some_yes` meets its contract.
+-- Assumes nothing.
 use borrow.Author.Needs.{needs}
-use native.Mathlib.Omega.{arith}
 use Prim.Native.Nat.{_-_}
 use lib.ListN.{length}
 use Rattle.format.specs.Loading.{someYes}
 use Rattle.flag_table.proofs.Tables.{Looking, look-none, yes-more, yes-found, yes-end}
 use Rattle.flag_table.proofs.some_yes.Statement.{statement}
 use Rattle.flag_table.proofs.some_yes.Tie as tie
-use Rattle.flag_table.proofs.some_yes.Reads as reads
-use Rattle.flag_table.proofs.some_yes.Lts as lts
 
 abbrev Inv-loop : tie.InvT-loop
 Inv-loop row i₀ i = Looking someYes row i
@@ -15,31 +14,24 @@ Inv-loop row i₀ i = Looking someYes row i
 abbrev μ-loop : tie.MeasureT-loop
 μ-loop row i₀ i = length row - i
 
--- src/lib.rt:46:5
 loop-holds : tie.Need-loop-holds Inv-loop μ-loop
 loop-holds c = look-none someYes _
 
--- src/lib.rt:47:12
 shared-slice-read-if1 : tie.Need-shared-slice-read-if1 Inv-loop μ-loop
 shared-slice-read-if1 c = search needs
 
--- src/lib.rt:48:13
 returns : tie.Need-returns Inv-loop μ-loop
 returns c = yes-found _ _ (c .before .before .loop-test .taken) (c .if1 .taken) (c .before .before .before .loop .inv)
 
--- src/lib.rt:50:9
 add-i : tie.Need-add-i Inv-loop μ-loop
 add-i c = search needs
 
--- src/lib.rt:46:5
 loop-less : tie.Need-loop-less Inv-loop μ-loop
 loop-less c = search needs
 
--- src/lib.rt:46:5
 loop-again : tie.Need-loop-again Inv-loop μ-loop
 loop-again c = yes-more _ _ (c .before .before .loop-test .taken) (c .if1 .left) (c .before .before .before .loop .inv)
 
--- src/lib.rt:42:1
 returns-2 : tie.Need-returns-2 Inv-loop μ-loop
 returns-2 c = yes-end _ _ (c .loop-test .left) (c .before .loop .inv)
 

@@ -1,14 +1,11 @@
+-- `flags::fit` meets its contract.
+-- Assumes nothing.
 use borrow.Author.Needs.{needs}
-use native.Mathlib.Omega.{arith}
 use denote.Ref.{now}
 use borrow.Author.Tests.{not-true, not-false}
-use Rattle.flags.proofs.Body.{Fitting, fit-none, fit-over, fit-next, fit-not, fit-all}
+use Rattle.flags.proofs.Body.{Fitting, fit-over, fit-next, fit-not, fit-all}
 use Rattle.flags.proofs.fit.Statement.{statement}
 use Rattle.flags.proofs.fit.Tie as tie
-use Rattle.flags.proofs.fit.Reads as reads
-use Rattle.flags.proofs.fit.Lts as lts
-use Rattle.flags.proofs.column.Reads as column-reads
-use Rattle.flags.proofs.stands.Reads as stands-reads
 
 abbrev Inv-loop : tie.InvT-loop
 Inv-loop flags marks left₀ n₀ left n = Fitting marks flags n left
@@ -16,55 +13,43 @@ Inv-loop flags marks left₀ n₀ left n = Fitting marks flags n left
 abbrev μ-loop : tie.MeasureT-loop
 μ-loop flags marks left₀ n₀ left n = n
 
--- src/lib.rt:117:5
 loop-holds : tie.Need-loop-holds Inv-loop μ-loop
 loop-holds c = search needs
 
--- src/lib.rt:120:13
 returns : tie.Need-returns Inv-loop μ-loop
 returns c = fit-over (now (c .before .before .before .args .marks)) _ (c .before .before .loop .n) (c .before .before .loop .left) (c .before .loop-test .taken) (c .before .before .loop .inv) (c .if1 .taken)
 
--- src/lib.rt:122:19
 sub-row : tie.Need-sub-row Inv-loop μ-loop
 sub-row c = search needs
 
--- src/lib.rt:123:13
 column-requires : tie.Need-column-requires Inv-loop μ-loop
 column-requires c κs = search needs
 
--- src/lib.rt:124:23
 mul-stands : tie.Need-mul-stands Inv-loop μ-loop
 mul-stands c = search needs
 
--- src/lib.rt:124:23
 index-1-stands : tie.Need-index-1-stands Inv-loop μ-loop
 index-1-stands c = search needs
 
--- src/lib.rt:124:23
 index-2-stands : tie.Need-index-2-stands Inv-loop μ-loop
 index-2-stands c = search needs
 
--- src/lib.rt:124:13
 stands-requires : tie.Need-stands-requires Inv-loop μ-loop
 stands-requires c κs = search needs
 
--- src/lib.rt:125:13
 returns-2 : tie.Need-returns-2 Inv-loop μ-loop
 returns-2 c =
     fit-not (now (c .before .before .before .before .before .before .before .args .marks)) _ (c .before .before .before .before .before .before .loop .n) (c .before .before .before .before .before .before .loop .left) (c .before .before .before .before .before .loop-test .taken) (c .before .before .before .before .before .before .loop .inv) (c .before .before .before .before .if1 .left) (c .before .before .before .column .result) (c .before .before .before .column .ensures)
     (c .before .stands .result) (c .before .stands .ensures) (not-true (c .before .stands .result) (c .if2 .taken))
 
--- src/lib.rt:117:5
 loop-less : tie.Need-loop-less Inv-loop μ-loop
 loop-less c = search needs
 
--- src/lib.rt:117:5
 loop-again : tie.Need-loop-again Inv-loop μ-loop
 loop-again c =
     fit-next (now (c .before .before .before .before .before .before .before .args .marks)) _ (c .before .before .before .before .before .before .loop .n) (c .before .before .before .before .before .before .loop .left) (c .before .before .before .before .before .loop-test .taken) (c .before .before .before .before .before .before .loop .inv) (c .before .before .before .before .if1 .left) (c .before .before .before .column .result) (c .before .before .before .column .ensures)
     (c .before .stands .result) (c .before .stands .ensures) (not-false (c .before .stands .result) (c .if2 .left))
 
--- src/lib.rt:112:1
 returns-3 : tie.Need-returns-3 Inv-loop μ-loop
 returns-3 c = fit-all _ _ _ _ (c .loop-test .left) (c .before .loop .inv)
 

@@ -1,3 +1,5 @@
+-- `flags::quality` meets its contract.
+-- Assumes nothing.
 use borrow.Author.Needs.{needs}
 use native.Mathlib.Omega.{arith}
 use mathlib.Core.Path.{sym, ap, _∙_}
@@ -8,24 +10,16 @@ use Rattle.nibble.proofs.View.{part-take}
 use Rattle.flags.proofs.Body.{body-flags}
 use Rattle.flags.proofs.quality.Statement.{statement}
 use Rattle.flags.proofs.quality.Tie as tie
-use Rattle.flags.proofs.quality.Reads as reads
-use Rattle.flags.proofs.quality.Lts as lts
-use Rattle.flags.proofs.code_of.Reads as code-of-reads
-use Rattle.flags.proofs.sixteen.Reads as sixteen-reads
 
--- src/lib.rt:72:9
 sixteen-requires : tie.Need-sixteen-requires
 sixteen-requires c κs = search needs
 
--- src/lib.rt:73:5
 code-of-requires : tie.Need-code-of-requires
 code-of-requires c κs = search needs
 
--- src/lib.rt:73:5
 cast-result : tie.Need-cast-result
 cast-result c = search needs
 
--- src/lib.rt:68:1
 returns : tie.Need-returns
 returns c =
     let row = part (now (c .before .before .before .args .s)) (c .before .before .before .args .c) 16 in

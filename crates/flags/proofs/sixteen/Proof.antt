@@ -1,3 +1,5 @@
+-- `flags::sixteen` meets its contract.
+-- Assumes nothing.
 use borrow.Author.Needs.{needs}
 use native.Mathlib.Omega.{arith}
 use Prim.Native.Nat.{_+_, _-_}
@@ -8,10 +10,6 @@ use Rattle.nibble.proofs.View.{part-length, part-at}
 use Rattle.flags.proofs.Body.{Reading, read-none, read-small, read-more, read-all}
 use Rattle.flags.proofs.sixteen.Statement.{statement}
 use Rattle.flags.proofs.sixteen.Tie as tie
-use Rattle.flags.proofs.sixteen.Reads as reads
-use Rattle.flags.proofs.sixteen.Lts as lts
-use Rattle.nibble.proofs.nibble_at.Reads as nibble-at-reads
-use Rattle.numbers.proofs.wide.Reads as wide-reads
 
 abbrev Inv-loop : tie.InvT-loop
 Inv-loop s at packed w₀ i₀ w i = Reading (part s (record { at = at; packed = packed }) 16) i w
@@ -19,39 +17,30 @@ Inv-loop s at packed w₀ i₀ w i = Reading (part s (record { at = at; packed =
 abbrev μ-loop : tie.MeasureT-loop
 μ-loop s at packed w₀ i₀ w i = 16 - i
 
--- src/lib.rt:24:5
 loop-holds : tie.Need-loop-holds Inv-loop μ-loop
 loop-holds c = read-none _
 
--- src/lib.rt:25:13
 mul-w : tie.Need-mul-w Inv-loop μ-loop
 mul-w c = omega (arith, read-small _ _ _ (c .loop-test .taken) (c .before .loop .inv))
 
--- src/lib.rt:25:57
 add-nibble-at : tie.Need-add-nibble-at Inv-loop μ-loop
 add-nibble-at c = search needs
 
--- src/lib.rt:25:36
 nibble-at-requires : tie.Need-nibble-at-requires Inv-loop μ-loop
 nibble-at-requires c κs = search needs
 
--- src/lib.rt:25:22
 wide-requires : tie.Need-wide-requires Inv-loop μ-loop
 wide-requires c κs = search needs
 
--- src/lib.rt:25:13
 add-w : tie.Need-add-w Inv-loop μ-loop
 add-w c = omega (arith, read-small _ _ _ (c .before .before .loop-test .taken) (c .before .before .before .loop .inv), c .wide .ensures .0, c .before .nibble-at .ensures, c .before .before .before .before .before .pre .0 (c .before .before .before .before .before .args .c .at + c .before .before .before .loop .i))
 
--- src/lib.rt:26:9
 add-i : tie.Need-add-i Inv-loop μ-loop
 add-i c = search needs
 
--- src/lib.rt:24:5
 loop-less : tie.Need-loop-less Inv-loop μ-loop
 loop-less c = search needs
 
--- src/lib.rt:24:5
 loop-again : tie.Need-loop-again Inv-loop μ-loop
 loop-again c =
     let row = part (now (c .before .before .before .before .before .args .s)) (c .before .before .before .before .before .args .c) 16 in
@@ -59,7 +48,6 @@ loop-again c =
     let e = c .wide .ensures .0 ∙ c .before .nibble-at .ensures ∙ sym (part-at (now (c .before .before .before .before .before .args .s)) (c .before .before .before .before .before .args .c) 16 (c .before .before .before .loop .i) (c .before .before .loop-test .taken)) in
     read-more row (c .before .before .before .loop .i) (c .before .before .before .loop .w) (c .wide .result) l (c .before .before .loop-test .taken) (omega (arith, c .wide .ensures .0, c .before .nibble-at .ensures, c .before .before .before .before .before .pre .0 (c .before .before .before .before .before .args .c .at + c .before .before .before .loop .i))) e (c .before .before .before .loop .inv)
 
--- src/lib.rt:16:1
 returns : tie.Need-returns Inv-loop μ-loop
 returns c = read-all (part (now (c .before .before .before .args .s)) (c .before .before .before .args .c) 16) (c .before .loop .i) (c .before .loop .w) (part-length (now (c .before .before .before .args .s)) (c .before .before .before .args .c) 16 (c .before .before .before .pre .1)) (c .loop-test .left) (c .before .loop .inv)
 

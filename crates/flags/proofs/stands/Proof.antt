@@ -1,15 +1,12 @@
-use borrow.Author.Needs.{needs}
+-- `flags::stands` meets its contract.
+-- Assumes nothing.
 use borrow.Author.Tests.{eq-eqb, ne-eqb}
 use Rattle.flags.proofs.stands.Statement.{statement}
 use Rattle.flags.proofs.stands.Tie as tie
-use Rattle.flags.proofs.stands.Reads as reads
-use Rattle.flags.proofs.stands.Lts as lts
 
--- src/lib.rt:106:9
 returns : tie.Need-returns
 returns c = rw (eq-eqb (c .before .args .mark) 1 (c .if1 .taken))
 
--- src/lib.rt:102:1
 returns-2 : tie.Need-returns-2
 returns-2 c = rw (ne-eqb (c .before .args .mark) 1 (c .if1 .left))
 
