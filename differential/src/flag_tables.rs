@@ -20,17 +20,18 @@ pub fn table(prng: &mut Prng) -> FlagTable {
             }
             FlagTable::of(&marks)
         }
-        5..7 => random_flag_table(prng),
+        5 => random_flag_table(prng),
         _ => any_table(prng),
     }
 }
 
 /// A table that no load gives: some marks are neither 0 nor 1, or rows have no yes.
 fn any_table(prng: &mut Prng) -> FlagTable {
-    let mut marks = random_flag_table(prng).marks();
-    for _ in 0..prng.pick(&[1, 2, 8, 40, 400]) {
+    let sound = random_flag_table(prng);
+    let mut marks = prng.pick(&[sound, FlagTable::all()]).marks();
+    for _ in 0..prng.pick(&[1, 2, 5, 12, 40, 400]) {
         let byte = 2 + prng.below(254) as u8;
-        marks[prng.below(MARKS)] = prng.pick(&[NO, 2, 3, 128, 129, 255, byte]);
+        marks[prng.below(MARKS)] = prng.pick(&[NO, 2, 3, 128, 129, 255, byte, byte]);
     }
     FlagTable::of(&marks)
 }

@@ -34,7 +34,7 @@ pub const STAND_IN: Library = Library {
     load_flags,
 };
 
-unsafe fn input<'a, T>(at: *const T, n: usize) -> &'a [T] {
+pub unsafe fn input<'a, T>(at: *const T, n: usize) -> &'a [T] {
     if n == 0 {
         return &[];
     }

@@ -1,5 +1,8 @@
 //! The harness finds what it is there to find. No library is needed.
 
+mod altered;
+mod flag_tables;
+
 use std::process::{Command, Output};
 
 use reference::call::Call;
