@@ -31,6 +31,7 @@ pub fn restore(
 }
 
 /// Packs to an output, unpacks from there, and gives what unpack gives.
+#[allow(clippy::too_many_arguments)]
 pub fn recover(
     values: &[i64],
     word: u64,

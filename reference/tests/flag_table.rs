@@ -361,8 +361,11 @@ fn unpack_and_restore() {
     let result = unpack(&report, &mut values[..3], &mut tail[..3], &table);
     assert_eq!(result, refused(6, 2));
     let mut output = [0xEE; 49];
-    let result = restore(&report, &mut values, &mut tail, &mut output, &table);
-    assert_eq!(result, refused(6, 2));
+    for (count, room) in [(46, 23), (45, 23), (46, 22), (0, 0)] {
+        let (values, tail) = (&mut values[..count], &mut tail[..room]);
+        let result = restore(&report, values, tail, &mut output, &table);
+        assert_eq!(result, refused(6, 2));
+    }
     assert_eq!((values, tail, output), ([-77; 46], [0xEE; 23], [0xEE; 49]));
     let report = report_with(&S);
     let result = restore(&report, &mut values, &mut tail, &mut output, &table);

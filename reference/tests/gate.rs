@@ -699,7 +699,7 @@ fn same_and_trips_are_met_on_every_side() {
     let mut equal = [0, 0];
     let mut sizes = BTreeSet::new();
     for case in &cases {
-        match run_case(&case) {
+        match run_case(case) {
             Outcome::Same(Ok(same)) => equal[usize::from(same)] += 1,
             Outcome::Restore { result, .. } => sizes.extend(result),
             Outcome::Recover { result, .. } => sizes.extend(result.map(|given| given.bytes)),
@@ -756,7 +756,7 @@ fn list_files_meet_every_refusal_and_keep_their_limits() {
     let files = gate::lists(&items);
     assert!(files.stdin.len() + files.stdout.len() < 1_880_000);
     let whole = lists.iter().filter(|list| {
-        let (_, ran) = run_list(&list);
+        let (_, ran) = run_list(list);
         ran.calls.len() == CALLS && judge(&list.buffer).is_ok()
     });
     assert!(whole.count() >= 200);

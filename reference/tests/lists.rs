@@ -114,12 +114,12 @@ fn random_lists_agree_under_tables_of_flags() {
     let mut prng = Prng::new(21);
     let mut met = Met::new();
     for _ in 0..300 {
-        let flags = random_flag_table(&mut prng);
+        let table = random_flag_table(&mut prng);
         let mut observation = random_observation(&mut prng);
         for attachment in &mut observation.attachments {
             if attachment.id == flags::ID {
                 let row = &mut attachment.nibbles[..flags::FLAGS];
-                permit_flags(&mut prng, &flags, row);
+                permit_flags(&mut prng, &table, row);
                 attachment.nibbles = flags::body_of(row);
             }
         }
@@ -131,7 +131,7 @@ fn random_lists_agree_under_tables_of_flags() {
             let (flag, value) = (1 + prng.below(14) as u64, 1 + prng.below(10) as i64);
             calls.push(Call::SetFlag { flag, value });
         }
-        compare(&start, observation, &calls, &flags, &mut met);
+        compare(&start, observation, &calls, &table, &mut met);
     }
     assert!(met[&("set flag", 9)] > 500, "{met:?}");
     assert!(met[&("put", 14)] > 100, "{met:?}");

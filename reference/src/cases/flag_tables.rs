@@ -178,7 +178,7 @@ fn accepted_loads() -> Vec<Case> {
     ] {
         cases.push(load(&table));
         for value in 0..=VALUES as u8 {
-            cases.push(judge(&vec![value; FLAGS]));
+            cases.push(judge(&[value; FLAGS]));
         }
         for flag in 1..=FLAGS {
             let calls = (1..=VALUES as u8).map(|value| set(flag, value)).collect();
