@@ -6,24 +6,26 @@ use reference::card::CARD_NIBBLES;
 use reference::cases::calls::WIDE_NUMBERS;
 use reference::cases::material::{random_body, random_text};
 use reference::cases::random::random_call;
+use reference::flag_table::FlagTable;
 use reference::observation::Observation;
 use reference::prng::Prng;
 use reference::step;
 use reference::table::field;
 use reference::text;
 
+use crate::flag_tables;
 use crate::reports::{changed_body, near_edge};
 
-/// Some calls in turn on an observation; n is the buffer's length.
-pub fn list(prng: &mut Prng, observation: &Observation, n: usize) -> Vec<Call> {
+/// Some calls in turn on an observation under a table of flags; n is the buffer's length.
+pub fn list(prng: &mut Prng, observation: &Observation, n: usize, flags: &FlagTable) -> Vec<Call> {
     let mut observation = observation.clone();
     let mut calls = Vec::new();
     for _ in 0..prng.pick(&[1, 2, 3, 5, 8, 13, 21]) {
         let call = match calls.last() {
             Some(last) if prng.one_in(3) => follow(prng, last, &observation, n),
-            _ => call(prng, &observation, n),
+            _ => call(prng, &observation, n, flags),
         };
-        observation = step::step(&observation, n, &call).0;
+        observation = step::step(&observation, n, &call, flags).0;
         calls.push(call);
     }
     calls
@@ -53,8 +55,11 @@ fn any_bytes(prng: &mut Prng, observation: &Observation, n: usize) -> Vec<u8> {
     prng.bytes(length)
 }
 
-/// A call that fits an observation or just does not.
-pub fn call(prng: &mut Prng, observation: &Observation, n: usize) -> Call {
+/// A call that fits an observation and a table of flags or just does not.
+pub fn call(prng: &mut Prng, observation: &Observation, n: usize, flags: &FlagTable) -> Call {
+    if prng.one_in(6) {
+        return flag_tables::call(prng, flags);
+    }
     let mut call = random_call(prng, observation, n);
     if let Call::PutText { text } = &mut call
         && prng.one_in(2)

@@ -1,9 +1,12 @@
 //! A trial on both sides.
 
+use reference::call::Call;
+use reference::flag_table::FlagTable;
+
 use crate::expected::{self, Outcome};
 use crate::harness::Harness;
 use crate::tally::Tally;
-use crate::trial::Trial;
+use crate::trial::{Given, Trial};
 
 /// A trial on which the two sides differ; of a list the calls up to the difference.
 #[derive(Clone, Debug)]
@@ -15,45 +18,74 @@ pub struct Difference {
 
 /// Runs a trial on both sides, counts its calls, and gives the first difference.
 pub fn compare(harness: &mut Harness, tally: &mut Tally, trial: &Trial) -> Option<Difference> {
-    let (expected, got) = match trial {
-        Trial::Whole(case) => {
-            let expected = expected::whole(case);
-            tally.add_whole(case, &expected);
-            (expected, harness.whole(case))
+    let flags = &trial.flags;
+    let (expected, got) = match &trial.given {
+        Given::Whole(case) => {
+            let expected = expected::whole(case, flags);
+            let with_all = || expected::whole(case, &FlagTable::all());
+            tally.add_whole(case, &expected, by_flags(&expected, flags, with_all));
+            (expected, harness.whole(case, flags))
         }
-        Trial::Call { buffer, call } => {
-            let expected = expected::call(call, &mut buffer.clone());
-            tally.add_call(call, &expected);
-            (expected, harness.call(call, buffer))
+        Given::AllFlags => {
+            tally.add_all_flags();
+            (expected::all_flags(), harness.all_flags(flags))
         }
-        Trial::List { .. } => return compare_list(harness, tally, trial),
-        Trial::Script {
+        Given::Call { buffer, call } => {
+            let expected = expected_call(tally, call, &mut buffer.clone(), flags);
+            (expected, harness.call(call, buffer, flags))
+        }
+        Given::List { buffer, calls } => {
+            return compare_list(harness, tally, buffer, calls, flags);
+        }
+        Given::Script {
             buffer,
             script,
             log,
         } => {
-            let expected = expected::replay(buffer, script, log);
-            tally.add_script(&expected, script);
-            (expected, harness.replay(buffer, script, log))
+            let expected = expected::replay(buffer, script, log, flags);
+            let with_all = expected::replay(buffer, script, log, &FlagTable::all());
+            let by_flags = expected.buffer("log") != with_all.buffer("log");
+            tally.add_script(&expected, script, by_flags);
+            (expected, harness.replay(buffer, script, log, flags))
         }
     };
-    let trial = || trial.clone();
-    difference(expected, got, trial)
+    difference(expected, got, || trial.clone())
 }
 
-fn compare_list(harness: &mut Harness, tally: &mut Tally, list: &Trial) -> Option<Difference> {
-    let Trial::List { buffer, calls } = list else {
-        return None;
-    };
-    let mut after = buffer.clone();
+/// What is expected of a call, which is counted; the buffer is changed as it should be.
+fn expected_call(tally: &mut Tally, call: &Call, buffer: &mut [u8], flags: &FlagTable) -> Outcome {
+    let before = buffer.to_vec();
+    let expected = expected::call(call, buffer, flags);
+    let with_all = || expected::call(call, &mut before.clone(), &FlagTable::all());
+    tally.add_call(call, &expected, by_flags(&expected, flags, with_all));
+    expected
+}
+
+/// Whether a call is refused because of the table of flags: it is answered otherwise
+/// where every flag is permitted.
+fn by_flags(expected: &Outcome, flags: &FlagTable, with_all: impl Fn() -> Outcome) -> bool {
+    let can_be = [6, 9, 14].contains(&expected.refusal()) && *flags != FlagTable::all();
+    can_be && with_all().said != expected.said
+}
+
+fn compare_list(
+    harness: &mut Harness,
+    tally: &mut Tally,
+    buffer: &[u8],
+    calls: &[Call],
+    flags: &FlagTable,
+) -> Option<Difference> {
+    let mut after = buffer.to_vec();
     let at = harness.begin(buffer);
     for (index, call) in calls.iter().enumerate() {
-        let expected = expected::call(call, &mut after);
-        tally.add_call(call, &expected);
-        let got = harness.next(call, at, buffer.len());
-        let found = difference(expected, got, || Trial::List {
-            buffer: buffer.clone(),
-            calls: calls[..=index].to_vec(),
+        let expected = expected_call(tally, call, &mut after, flags);
+        let got = harness.next(call, at, buffer.len(), flags);
+        let found = difference(expected, got, || {
+            let list = Given::List {
+                buffer: buffer.to_vec(),
+                calls: calls[..=index].to_vec(),
+            };
+            list.under(*flags)
         });
         if found.is_some() {
             return found;

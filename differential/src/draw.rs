@@ -4,27 +4,36 @@ use reference::cases::Case;
 use reference::cases::material::{Draft, random_value, values_and_word};
 use reference::cases::outside::edge_values;
 use reference::cases::random::damage_tail;
+use reference::flag_table::FlagTable;
 use reference::judge::judge;
 use reference::observation::Observation;
 use reference::prng::Prng;
 use reference::table::{REQUIRED, fields};
 use reference::text;
 
-use crate::trial::Trial;
-use crate::{calls, reports, scripts};
+use crate::trial::{Given, Trial};
+use crate::{calls, flag_tables, reports, scripts};
 
 /// A list is followed by its script.
 pub fn trials(seed: u64, case: u64) -> Vec<Trial> {
     let mut prng = prng_of(seed, case);
-    match prng.below(25) {
-        0..3 => vec![Trial::Whole(judge_case(&mut prng))],
-        3..6 => vec![Trial::Whole(unpack_case(&mut prng))],
-        6..10 => vec![Trial::Whole(pack_case(&mut prng))],
-        10 => vec![Trial::Whole(fresh_case(&mut prng))],
-        11..21 => vec![call_trial(&mut prng)],
-        21..24 => list_trials(&mut prng),
-        _ => vec![Trial::Whole(characters_case(&mut prng))],
-    }
+    let flags = flag_tables::table(&mut prng);
+    let given = match prng.below(28) {
+        0..3 => vec![Given::Whole(judge_case(&mut prng, &flags))],
+        3..6 => vec![Given::Whole(unpack_case(&mut prng, &flags))],
+        6..10 => vec![Given::Whole(pack_case(&mut prng, &flags))],
+        10 => vec![Given::Whole(fresh_case(&mut prng))],
+        11..21 => vec![given_call(&mut prng, &flags)],
+        21..24 => given_list(&mut prng, &flags),
+        24 => vec![Given::Whole(characters_case(&mut prng))],
+        25..27 => {
+            let marks = flag_tables::lent(&mut prng);
+            vec![Given::Whole(Case::Load { marks })]
+        }
+        _ => vec![Given::AllFlags],
+    };
+    let under = |given: Given| given.under(flags);
+    given.into_iter().map(under).collect()
 }
 
 fn prng_of(seed: u64, case: u64) -> Prng {
@@ -32,13 +41,14 @@ fn prng_of(seed: u64, case: u64) -> Prng {
     Prng::new(Prng::new(seed ^ number).next_u64())
 }
 
-/// A buffer, its report refused once in so many times, and the observation that it was
-/// made from or that it holds.
-fn lent_report(prng: &mut Prng, refused: usize) -> (Observation, Vec<u8>) {
-    let observation = reports::observation(prng);
+/// A buffer, its report damaged once in so many times, and the observation that it was
+/// made from or that it holds. As seldom, an undamaged one has a forbidden flag.
+fn lent_report(prng: &mut Prng, flags: &FlagTable, refused: usize) -> (Observation, Vec<u8>) {
+    let mut observation = reports::observation(prng);
+    flag_tables::meet(prng, flags, &mut observation, refused);
     if prng.one_in(refused) {
         let buffer = reports::damaged(prng, &observation);
-        let held = judge(&buffer).map_or(observation, |report| report.observation);
+        let held = judge(&buffer, flags).map_or(observation, |report| report.observation);
         return (held, buffer);
     }
     let buffer = reports::buffer(prng, &observation);
@@ -63,13 +73,13 @@ fn value_count(prng: &mut Prng) -> usize {
     }
 }
 
-fn judge_case(prng: &mut Prng) -> Case {
-    let report = lent_report(prng, 2).1;
+fn judge_case(prng: &mut Prng, flags: &FlagTable) -> Case {
+    let report = lent_report(prng, flags, 2).1;
     Case::Judge { report }
 }
 
-fn unpack_case(prng: &mut Prng) -> Case {
-    let (observation, report) = lent_report(prng, 2);
+fn unpack_case(prng: &mut Prng, flags: &FlagTable) -> Case {
+    let (observation, report) = lent_report(prng, flags, 2);
     let length = Draft::of(&observation).tail.len();
     let count = value_count(prng);
     let room = room(prng, length);
@@ -80,8 +90,9 @@ fn unpack_case(prng: &mut Prng) -> Case {
     }
 }
 
-fn pack_case(prng: &mut Prng) -> Case {
-    let observation = reports::observation(prng);
+fn pack_case(prng: &mut Prng, flags: &FlagTable) -> Case {
+    let mut observation = reports::observation(prng);
+    flag_tables::meet(prng, flags, &mut observation, 3);
     let missing = prng.pick(&[0, i64::MIN, i64::MAX, 1]);
     let (mut values, mut word) = values_and_word(&observation, missing);
     let mut draft = Draft::of(&observation);
@@ -156,15 +167,15 @@ fn characters_case(prng: &mut Prng) -> Case {
     }
 }
 
-fn call_trial(prng: &mut Prng) -> Trial {
-    let (observation, buffer) = lent_report(prng, 2);
-    let call = calls::call(prng, &observation, buffer.len());
-    Trial::Call { buffer, call }
+fn given_call(prng: &mut Prng, flags: &FlagTable) -> Given {
+    let (observation, buffer) = lent_report(prng, flags, 2);
+    let call = calls::call(prng, &observation, buffer.len(), flags);
+    Given::Call { buffer, call }
 }
 
-fn list_trials(prng: &mut Prng) -> Vec<Trial> {
-    let (observation, buffer) = lent_report(prng, 8);
-    let calls = calls::list(prng, &observation, buffer.len());
-    let script = scripts::trial(prng, &buffer, &calls);
-    vec![Trial::List { buffer, calls }, script]
+fn given_list(prng: &mut Prng, flags: &FlagTable) -> Vec<Given> {
+    let (observation, buffer) = lent_report(prng, flags, 8);
+    let calls = calls::list(prng, &observation, buffer.len(), flags);
+    let script = scripts::given(prng, &buffer, &calls);
+    vec![Given::List { buffer, calls }, script]
 }

@@ -2,6 +2,7 @@
 
 use reference::call::Call;
 use reference::cases::Case;
+use reference::flag_table::FlagTable;
 use reference::gate::script;
 use reference::judge::judge;
 use reference::line::hex;
@@ -65,13 +66,21 @@ fn states(buffers: &[(&'static str, &[u8])]) -> Vec<(&'static str, Vec<u8>)> {
     buffers.iter().map(state).collect()
 }
 
-/// Judge, fresh, unpack, pack or characters.
-pub fn whole(case: &Case) -> Outcome {
+/// The table of flags is compared last.
+fn with_flags(mut outcome: Outcome, flags: &FlagTable) -> Outcome {
+    let state = ("flags", state_of(&flags.marks()));
+    outcome.buffers.push(state);
+    outcome
+}
+
+/// Judge, fresh, unpack, pack, characters or load.
+pub fn whole(case: &Case, flags: &FlagTable) -> Outcome {
     match case {
-        Case::Judge { report } => outcome(
-            judge(report).map(|report| vec![Number::bytes(report.bytes)]),
-            &[("report", report)],
-        ),
+        Case::Judge { report } => {
+            let judged = judge(report, flags);
+            let result = judged.map(|report| vec![Number::bytes(report.bytes)]);
+            with_flags(outcome(result, &[("report", report)]), flags)
+        }
         Case::Fresh { required, output } => {
             let mut output = output.clone();
             let result = fresh(*required, &mut output).map(|()| Vec::new());
@@ -81,7 +90,7 @@ pub fn whole(case: &Case) -> Outcome {
             report,
             values,
             tail,
-        } => unpacked(report, values.clone(), tail.clone()),
+        } => with_flags(unpacked(report, values.clone(), tail.clone(), flags), flags),
         Case::Pack {
             values,
             word,
@@ -90,12 +99,12 @@ pub fn whole(case: &Case) -> Outcome {
             output,
         } => {
             let mut output = output.clone();
-            let result = pack(values, *word, *rptin, tail, &mut output);
+            let result = pack(values, *word, *rptin, tail, &mut output, flags);
             let result = result.map(|bytes| vec![Number::bytes(bytes)]);
             let values = bytes_of_values(values);
             let buffers: [(_, &[u8]); 3] =
                 [("values", &values), ("tail", tail), ("output", &output)];
-            outcome(result, &buffers)
+            with_flags(outcome(result, &buffers), flags)
         }
         Case::Characters { table } => {
             let mut table = table.clone();
@@ -105,6 +114,11 @@ pub fn whole(case: &Case) -> Outcome {
                 buffers: states(&[("table", &bytes_of_entries(&table))]),
             }
         }
+        Case::Load { marks } => {
+            let mut flags = *flags;
+            let result = flags.load(marks).map(|()| Vec::new());
+            with_flags(outcome(result, &[("marks", marks)]), &flags)
+        }
         Case::Lister { .. }
         | Case::Same { .. }
         | Case::Restore { .. }
@@ -113,8 +127,8 @@ pub fn whole(case: &Case) -> Outcome {
     }
 }
 
-fn unpacked(report: &[u8], mut values: Vec<i64>, mut tail: Vec<u8>) -> Outcome {
-    let result = unpack(report, &mut values, &mut tail);
+fn unpacked(report: &[u8], mut values: Vec<i64>, mut tail: Vec<u8>, flags: &FlagTable) -> Outcome {
+    let result = unpack(report, &mut values, &mut tail, flags);
     let numbers = result.map_or(NUMBERS, |given| {
         [
             given.word,
@@ -135,9 +149,18 @@ fn unpacked(report: &[u8], mut values: Vec<i64>, mut tail: Vec<u8>) -> Outcome {
     outcome(result.map(|_| Vec::new()), &buffers)
 }
 
+/// Every flag permitted, whatever stood in the table.
+pub fn all_flags() -> Outcome {
+    let nothing = Outcome {
+        said: Said::Nothing,
+        buffers: Vec::new(),
+    };
+    with_flags(nothing, &FlagTable::all())
+}
+
 /// One of the eleven calls; the buffer is changed as it should be.
-pub fn call(call: &Call, buffer: &mut [u8]) -> Outcome {
-    let answer = call.run(buffer);
+pub fn call(call: &Call, buffer: &mut [u8], flags: &FlagTable) -> Outcome {
+    let answer = call.run(buffer, flags);
     let mut buffers: Vec<(_, &[u8])> = vec![("report", buffer)];
     match call {
         Call::Put { content, .. } => buffers.push(("content", content)),
@@ -147,12 +170,12 @@ pub fn call(call: &Call, buffer: &mut [u8]) -> Outcome {
     if let Some(output) = &answer.output {
         buffers.push(("output", output));
     }
-    outcome(answer.result, &buffers)
+    with_flags(outcome(answer.result, &buffers), flags)
 }
 
-pub fn replay(buffer: &[u8], script: &[u8], log: &[u8]) -> Outcome {
+pub fn replay(buffer: &[u8], script: &[u8], log: &[u8], flags: &FlagTable) -> Outcome {
     let (mut buffer, mut log) = (buffer.to_vec(), log.to_vec());
-    let ran = script::run(&mut buffer, script, log.len());
+    let ran = script::run(&mut buffer, script, log.len(), flags);
     log[..ran.log.len()].copy_from_slice(&ran.log);
     let said = Said::Performed(Performed {
         calls: ran.calls.len() as u64,
@@ -160,10 +183,11 @@ pub fn replay(buffer: &[u8], script: &[u8], log: &[u8]) -> Outcome {
         written: ran.log.len() as u64,
     });
     let buffers: [(_, &[u8]); 3] = [("report", &buffer), ("script", script), ("log", &log)];
-    Outcome {
+    let outcome = Outcome {
         said,
         buffers: states(&buffers),
-    }
+    };
+    with_flags(outcome, flags)
 }
 
 pub fn bytes_of_values(values: &[i64]) -> Vec<u8> {
@@ -189,6 +213,13 @@ impl Outcome {
             Said::Answer(answer) => answer.refusal as usize,
             Said::Performed(_) | Said::Nothing => 0,
         }
+    }
+
+    /// A buffer's state by its name.
+    pub fn buffer(&self, name: &str) -> Option<&[u8]> {
+        let mut buffers = self.buffers.iter();
+        let found = buffers.find(|(other, _)| *other == name);
+        found.map(|(_, state)| state.as_slice())
     }
 
     /// The answer and the buffers, as far as they differ from another outcome's.

@@ -1,4 +1,4 @@
-//! The independent implementation beside a library of the seventeen calls, on
+//! The independent implementation beside a library of the nineteen calls, on
 //! random cases, with every buffer between fences.
 
 pub mod calls;
@@ -7,6 +7,7 @@ pub mod draw;
 pub mod expected;
 pub mod fault;
 pub mod fence;
+pub mod flag_tables;
 pub mod harness;
 pub mod library;
 pub mod reports;

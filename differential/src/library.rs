@@ -1,4 +1,4 @@
-//! The seventeen calls as C sees them.
+//! The nineteen calls as C sees them.
 
 /// The refusal and its place; the labels of the numbers that are given, the first
 /// one's in the lowest byte; the numbers.
@@ -21,16 +21,31 @@ pub struct Performed {
     pub written: u64,
 }
 
-type Numbered = unsafe extern "C" fn(*const u8, usize, usize) -> Answer;
-type NumberedEdit = unsafe extern "C" fn(*mut u8, usize, usize) -> Answer;
+/// A table of flags, row after row.
+#[repr(C)]
+#[derive(Clone, Copy, Debug, PartialEq, Eq)]
+pub struct Flags {
+    pub marks: [[u8; 10]; 14],
+}
+
+type Numbered = unsafe extern "C" fn(*const u8, usize, usize, *const Flags) -> Answer;
+type NumberedEdit = unsafe extern "C" fn(*mut u8, usize, usize, *const Flags) -> Answer;
 
 /// A library: pointers and lengths, in the order of its header.
 #[derive(Clone, Copy)]
 pub struct Library {
-    pub judge: unsafe extern "C" fn(*const u8, usize) -> Answer,
+    pub judge: unsafe extern "C" fn(*const u8, usize, *const Flags) -> Answer,
     pub fresh: unsafe extern "C" fn(i64, i64, i64, i64, i64, *mut u8, usize) -> Answer,
-    pub unpack:
-        unsafe extern "C" fn(*const u8, usize, *mut i64, usize, *mut u8, usize, *mut u64) -> Answer,
+    pub unpack: unsafe extern "C" fn(
+        *const u8,
+        usize,
+        *mut i64,
+        usize,
+        *mut u8,
+        usize,
+        *mut u64,
+        *const Flags,
+    ) -> Answer,
     pub pack: unsafe extern "C" fn(
         *const i64,
         usize,
@@ -40,19 +55,31 @@ pub struct Library {
         usize,
         *mut u8,
         usize,
+        *const Flags,
     ) -> Answer,
     pub read_field: Numbered,
-    pub set_field: unsafe extern "C" fn(*mut u8, usize, usize, i64) -> Answer,
+    pub set_field: unsafe extern "C" fn(*mut u8, usize, usize, i64, *const Flags) -> Answer,
     pub clear_field: NumberedEdit,
     pub read_flag: Numbered,
-    pub set_flag: unsafe extern "C" fn(*mut u8, usize, usize, usize) -> Answer,
+    pub set_flag: unsafe extern "C" fn(*mut u8, usize, usize, usize, *const Flags) -> Answer,
     pub clear_flag: NumberedEdit,
-    pub put: unsafe extern "C" fn(*mut u8, usize, usize, *const u8, usize) -> Answer,
-    pub fetch: unsafe extern "C" fn(*const u8, usize, usize, *mut u8, usize) -> Answer,
+    pub put: unsafe extern "C" fn(*mut u8, usize, usize, *const u8, usize, *const Flags) -> Answer,
+    pub fetch:
+        unsafe extern "C" fn(*const u8, usize, usize, *mut u8, usize, *const Flags) -> Answer,
     pub drop: NumberedEdit,
-    pub put_text: unsafe extern "C" fn(*mut u8, usize, *const u8, usize) -> Answer,
-    pub fetch_text: unsafe extern "C" fn(*const u8, usize, *mut u8, usize) -> Answer,
-    pub replay: unsafe extern "C" fn(*mut u8, usize, *const u8, usize, *mut u8, usize) -> Performed,
+    pub put_text: unsafe extern "C" fn(*mut u8, usize, *const u8, usize, *const Flags) -> Answer,
+    pub fetch_text: unsafe extern "C" fn(*const u8, usize, *mut u8, usize, *const Flags) -> Answer,
+    pub replay: unsafe extern "C" fn(
+        *mut u8,
+        usize,
+        *const u8,
+        usize,
+        *mut u8,
+        usize,
+        *const Flags,
+    ) -> Performed,
     /// The pointer is to 256 entries.
     pub character_table: unsafe extern "C" fn(*mut u16),
+    pub all_flags: unsafe extern "C" fn(*mut Flags),
+    pub load_flags: unsafe extern "C" fn(*const u8, usize, *mut Flags) -> Answer,
 }

@@ -10,12 +10,12 @@ use differential::compare::{Difference, compare};
 use differential::draw::trials;
 use differential::fault;
 use differential::harness::Harness;
-use differential::library::{Answer, Library, Performed};
+use differential::library::{Answer, Flags, Library, Performed};
 use differential::shrink::shrink;
 use differential::tally::Tally;
 
 unsafe extern "C" {
-    fn lmr5_judge(report: *const u8, n: usize) -> Answer;
+    fn lmr5_judge(report: *const u8, n: usize, flags: *const Flags) -> Answer;
     fn lmr5_fresh(
         box10: i64,
         year: i64,
@@ -33,6 +33,7 @@ unsafe extern "C" {
         tail: *mut u8,
         tail_n: usize,
         contents: *mut u64,
+        flags: *const Flags,
     ) -> Answer;
     fn lmr5_pack(
         values: *const i64,
@@ -43,24 +44,57 @@ unsafe extern "C" {
         tail_n: usize,
         out: *mut u8,
         out_n: usize,
+        flags: *const Flags,
     ) -> Answer;
-    fn lmr5_read_field(report: *const u8, n: usize, field: usize) -> Answer;
-    fn lmr5_set_field(report: *mut u8, n: usize, field: usize, value: i64) -> Answer;
-    fn lmr5_clear_field(report: *mut u8, n: usize, field: usize) -> Answer;
-    fn lmr5_read_flag(report: *const u8, n: usize, flag: usize) -> Answer;
-    fn lmr5_set_flag(report: *mut u8, n: usize, flag: usize, value: usize) -> Answer;
-    fn lmr5_clear_flag(report: *mut u8, n: usize, flag: usize) -> Answer;
+    fn lmr5_read_field(report: *const u8, n: usize, field: usize, flags: *const Flags) -> Answer;
+    fn lmr5_set_field(
+        report: *mut u8,
+        n: usize,
+        field: usize,
+        value: i64,
+        flags: *const Flags,
+    ) -> Answer;
+    fn lmr5_clear_field(report: *mut u8, n: usize, field: usize, flags: *const Flags) -> Answer;
+    fn lmr5_read_flag(report: *const u8, n: usize, flag: usize, flags: *const Flags) -> Answer;
+    fn lmr5_set_flag(
+        report: *mut u8,
+        n: usize,
+        flag: usize,
+        value: usize,
+        flags: *const Flags,
+    ) -> Answer;
+    fn lmr5_clear_flag(report: *mut u8, n: usize, flag: usize, flags: *const Flags) -> Answer;
     fn lmr5_put(
         report: *mut u8,
         n: usize,
         id: usize,
         content: *const u8,
         content_n: usize,
+        flags: *const Flags,
     ) -> Answer;
-    fn lmr5_fetch(report: *const u8, n: usize, id: usize, out: *mut u8, out_n: usize) -> Answer;
-    fn lmr5_drop(report: *mut u8, n: usize, id: usize) -> Answer;
-    fn lmr5_put_text(report: *mut u8, n: usize, text: *const u8, text_n: usize) -> Answer;
-    fn lmr5_fetch_text(report: *const u8, n: usize, out: *mut u8, out_n: usize) -> Answer;
+    fn lmr5_fetch(
+        report: *const u8,
+        n: usize,
+        id: usize,
+        out: *mut u8,
+        out_n: usize,
+        flags: *const Flags,
+    ) -> Answer;
+    fn lmr5_drop(report: *mut u8, n: usize, id: usize, flags: *const Flags) -> Answer;
+    fn lmr5_put_text(
+        report: *mut u8,
+        n: usize,
+        text: *const u8,
+        text_n: usize,
+        flags: *const Flags,
+    ) -> Answer;
+    fn lmr5_fetch_text(
+        report: *const u8,
+        n: usize,
+        out: *mut u8,
+        out_n: usize,
+        flags: *const Flags,
+    ) -> Answer;
     fn lmr5_replay(
         report: *mut u8,
         n: usize,
@@ -68,8 +102,11 @@ unsafe extern "C" {
         script_n: usize,
         log: *mut u8,
         log_n: usize,
+        flags: *const Flags,
     ) -> Performed;
     fn lmr5_character_table(table: *mut u16);
+    fn lmr5_all_flags(flags: *mut Flags);
+    fn lmr5_load_flags(marks: *const u8, marks_n: usize, flags: *mut Flags) -> Answer;
 }
 
 const LIBRARY: Library = Library {
@@ -90,6 +127,8 @@ const LIBRARY: Library = Library {
     fetch_text: lmr5_fetch_text,
     replay: lmr5_replay,
     character_table: lmr5_character_table,
+    all_flags: lmr5_all_flags,
+    load_flags: lmr5_load_flags,
 };
 
 fn main() -> ExitCode {

@@ -6,10 +6,10 @@ use reference::gate::script::{entry, script};
 use reference::prng::Prng;
 
 use crate::calls::widened;
-use crate::trial::Trial;
+use crate::trial::Given;
 
 /// The script of a list, most often whole and with a log that just takes it.
-pub fn trial(prng: &mut Prng, buffer: &[u8], calls: &[Call]) -> Trial {
+pub fn given(prng: &mut Prng, buffer: &[u8], calls: &[Call]) -> Given {
     let mut script = script(calls);
     let mut room: usize = calls.iter().map(record_size).sum();
     match prng.below(12) {
@@ -27,7 +27,7 @@ pub fn trial(prng: &mut Prng, buffer: &[u8], calls: &[Call]) -> Trial {
         _ => {}
     }
     room += prng.pick(&[0, 0, 0, 1, 10, 19, 36, 37, 200]);
-    Trial::Script {
+    Given::Script {
         buffer: buffer.to_vec(),
         script,
         log: prng.bytes(room),

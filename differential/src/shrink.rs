@@ -2,6 +2,7 @@
 
 use reference::call::Call;
 use reference::cases::Case;
+use reference::flag_table::{FlagTable, NO, YES};
 use reference::gate::log::record_size;
 use reference::gate::script::first_call;
 use reference::judge::judge;
@@ -10,7 +11,7 @@ use reference::text::Table;
 use crate::compare::{Difference, compare};
 use crate::harness::Harness;
 use crate::tally::Tally;
-use crate::trial::Trial;
+use crate::trial::{Given, Trial};
 
 /// Makes a trial smaller as long as the two sides still differ.
 pub fn shrink(harness: &mut Harness, mut found: Difference) -> Difference {
@@ -24,18 +25,58 @@ pub fn shrink(harness: &mut Harness, mut found: Difference) -> Difference {
     found
 }
 
-/// Trials that are a little smaller, the smallest first.
+/// Trials that are a little smaller, the smallest first: of a plainer table of flags,
+/// then of less that is given.
 fn smaller(trial: &Trial) -> Vec<Trial> {
-    match trial {
-        Trial::Whole(case) => smaller_cases(case).into_iter().map(Trial::Whole).collect(),
-        Trial::Call { buffer, call } => smaller_calls(buffer, call),
-        Trial::List { buffer, calls } => smaller_lists(buffer, calls),
-        Trial::Script {
+    let flags = &trial.flags;
+    let mut smaller: Vec<Trial> = plainer(&flags.marks())
+        .iter()
+        .filter_map(|marks| marks.as_slice().try_into().ok())
+        .map(|marks| trial.given.clone().under(FlagTable::of(marks)))
+        .collect();
+    let given = match &trial.given {
+        Given::Whole(case) => smaller_cases(case).into_iter().map(Given::Whole).collect(),
+        Given::AllFlags => Vec::new(),
+        Given::Call { buffer, call } => smaller_calls(buffer, call),
+        Given::List { buffer, calls } => smaller_lists(buffer, calls, flags),
+        Given::Script {
             buffer,
             script,
             log,
-        } => smaller_scripts(buffer, script, log),
+        } => smaller_scripts(buffer, script, log, flags),
+    };
+    smaller.extend(given.into_iter().map(|given| given.under(*flags)));
+    smaller
+}
+
+/// Marks with fewer that are not a yes: none, half as many, one less; then with a plain
+/// no for all others.
+fn plainer(marks: &[u8]) -> Vec<Vec<u8>> {
+    let places: Vec<usize> = (0..marks.len()).filter(|&at| marks[at] != YES).collect();
+    let with = |places: &[usize], mark: u8| {
+        let mut marks = marks.to_vec();
+        for &place in places {
+            marks[place] = mark;
+        }
+        marks
+    };
+    let mut plainer: Vec<Vec<u8>> = fewer(&places)
+        .into_iter()
+        .map(|places| with(places, YES))
+        .collect();
+    if places.iter().any(|&at| marks[at] != NO) {
+        plainer.push(with(&places, NO));
     }
+    plainer
+}
+
+/// All places, half of them, and each alone.
+fn fewer(places: &[usize]) -> Vec<&[usize]> {
+    let (front, back) = places.split_at(places.len() / 2);
+    let mut fewer = vec![places, front, back];
+    fewer.extend(places.chunks(1));
+    fewer.retain(|places| !places.is_empty());
+    fewer
 }
 
 /// The front half and all but the last.
@@ -51,10 +92,10 @@ fn shorter<T: Clone>(row: &[T]) -> Vec<Vec<T>> {
     shorter
 }
 
-/// A report with an attachment less, and shorter buffers.
+/// A report with an attachment less, whatever its flags are, and shorter buffers.
 fn smaller_reports(buffer: &[u8]) -> Vec<Vec<u8>> {
     let mut smaller = Vec::new();
-    if let Ok(report) = judge(buffer) {
+    if let Ok(report) = judge(buffer, &FlagTable::all()) {
         for index in 0..report.ac {
             let mut observation = report.observation.clone();
             observation.attachments.remove(index);
@@ -108,16 +149,21 @@ fn smaller_cases(case: &Case) -> Vec<Case> {
             });
         }
     }
+    if let Case::Load { marks } = case {
+        for lent in [plainer(marks), shorter(marks)].concat() {
+            with(&|case| {
+                if let Case::Load { marks } = case {
+                    *marks = lent.clone();
+                }
+            });
+        }
+    }
     smaller
 }
 
 /// Arrays with fewer entries other than 0: none, half as many, and one less.
 fn emptier(table: &Table) -> Vec<Table> {
     let held: Vec<usize> = (0..table.len()).filter(|&at| table[at] != 0).collect();
-    let (front, back) = held.split_at(held.len() / 2);
-    let mut emptied = vec![&held[..], front, back];
-    emptied.extend(held.chunks(1));
-    emptied.retain(|places| !places.is_empty());
     let without = |places: &[usize]| {
         let mut table = *table;
         for &place in places {
@@ -125,19 +171,19 @@ fn emptier(table: &Table) -> Vec<Table> {
         }
         table
     };
-    emptied.into_iter().map(without).collect()
+    fewer(&held).into_iter().map(without).collect()
 }
 
-fn smaller_calls(buffer: &[u8], call: &Call) -> Vec<Trial> {
-    let on = |buffer: Vec<u8>| Trial::Call {
+fn smaller_calls(buffer: &[u8], call: &Call) -> Vec<Given> {
+    let on = |buffer: Vec<u8>| Given::Call {
         buffer,
         call: call.clone(),
     };
-    let with = |call: Call| Trial::Call {
+    let with = |call: Call| Given::Call {
         buffer: buffer.to_vec(),
         call,
     };
-    let mut smaller: Vec<Trial> = smaller_reports(buffer).into_iter().map(on).collect();
+    let mut smaller: Vec<Given> = smaller_reports(buffer).into_iter().map(on).collect();
     let calls: Vec<Call> = match call {
         Call::Put { id, content } => {
             let put = |content| Call::Put { id: *id, content };
@@ -162,23 +208,23 @@ fn smaller_calls(buffer: &[u8], call: &Call) -> Vec<Trial> {
 }
 
 /// The last call alone, then the list without its first call.
-fn smaller_lists(buffer: &[u8], calls: &[Call]) -> Vec<Trial> {
+fn smaller_lists(buffer: &[u8], calls: &[Call], flags: &FlagTable) -> Vec<Given> {
     let Some((last, before)) = calls.split_last() else {
         return Vec::new();
     };
     let after = |calls: &[Call]| {
         let mut buffer = buffer.to_vec();
         for call in calls {
-            call.run(&mut buffer);
+            call.run(&mut buffer, flags);
         }
         buffer
     };
-    let mut smaller = vec![Trial::Call {
+    let mut smaller = vec![Given::Call {
         buffer: after(before),
         call: last.clone(),
     }];
     if !before.is_empty() {
-        smaller.push(Trial::List {
+        smaller.push(Given::List {
             buffer: after(&calls[..1]),
             calls: calls[1..].to_vec(),
         });
@@ -187,8 +233,8 @@ fn smaller_lists(buffer: &[u8], calls: &[Call]) -> Vec<Trial> {
 }
 
 /// The script without its first call, a shorter script, a shorter log.
-fn smaller_scripts(buffer: &[u8], script: &[u8], log: &[u8]) -> Vec<Trial> {
-    let trial = |buffer: &[u8], script: &[u8], log: &[u8]| Trial::Script {
+fn smaller_scripts(buffer: &[u8], script: &[u8], log: &[u8], flags: &FlagTable) -> Vec<Given> {
+    let given = |buffer: &[u8], script: &[u8], log: &[u8]| Given::Script {
         buffer: buffer.to_vec(),
         script: script.to_vec(),
         log: log.to_vec(),
@@ -198,17 +244,17 @@ fn smaller_scripts(buffer: &[u8], script: &[u8], log: &[u8]) -> Vec<Trial> {
         && record_size(&call) <= log.len()
     {
         let mut after = buffer.to_vec();
-        call.run(&mut after);
-        smaller.push(trial(&after, rest, &log[record_size(&call)..]));
+        call.run(&mut after, flags);
+        smaller.push(given(&after, rest, &log[record_size(&call)..]));
     }
     for shorter in shorter(script) {
-        smaller.push(trial(buffer, &shorter, log));
+        smaller.push(given(buffer, &shorter, log));
     }
     for shorter in shorter(log) {
-        smaller.push(trial(buffer, script, &shorter));
+        smaller.push(given(buffer, script, &shorter));
     }
     for shorter in smaller_reports(buffer) {
-        smaller.push(trial(&shorter, script, log));
+        smaller.push(given(&shorter, script, log));
     }
     smaller
 }

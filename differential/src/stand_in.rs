@@ -1,15 +1,16 @@
-//! The independent implementation behind the seventeen calls, in place of a library.
+//! The independent implementation behind the nineteen calls, in place of a library.
 
 use std::slice::{from_raw_parts, from_raw_parts_mut};
 
 use reference::call::Call;
+use reference::flag_table::FlagTable;
 use reference::gate::script;
 use reference::judge;
 use reference::number::Number;
 use reference::outside;
 use reference::refusal::Refusal;
 
-use crate::library::{Answer, Library, Performed};
+use crate::library::{Answer, Flags, Library, Performed};
 
 pub const STAND_IN: Library = Library {
     judge,
@@ -29,9 +30,11 @@ pub const STAND_IN: Library = Library {
     fetch_text,
     replay,
     character_table,
+    all_flags,
+    load_flags,
 };
 
-unsafe fn input<'a, T>(at: *const T, n: usize) -> &'a [T] {
+pub unsafe fn input<'a, T>(at: *const T, n: usize) -> &'a [T] {
     if n == 0 {
         return &[];
     }
@@ -43,6 +46,13 @@ unsafe fn output<'a, T>(at: *mut T, n: usize) -> &'a mut [T] {
         return &mut [];
     }
     unsafe { from_raw_parts_mut(at, n) }
+}
+
+/// The table of flags that a call is lent.
+unsafe fn table(flags: *const Flags) -> FlagTable {
+    let marks = unsafe { (*flags).marks };
+    let marks = marks.as_flattened().try_into();
+    FlagTable::of(marks.expect("a table has 140 marks"))
 }
 
 fn answer(result: Result<Vec<Number>, Refusal>) -> Answer {
@@ -63,8 +73,8 @@ fn answer(result: Result<Vec<Number>, Refusal>) -> Answer {
     answer
 }
 
-pub unsafe extern "C" fn judge(report: *const u8, n: usize) -> Answer {
-    let judged = judge::judge(unsafe { input(report, n) });
+pub unsafe extern "C" fn judge(report: *const u8, n: usize, flags: *const Flags) -> Answer {
+    let judged = judge::judge(unsafe { input(report, n) }, &unsafe { table(flags) });
     answer(judged.map(|report| vec![Number::bytes(report.bytes)]))
 }
 
@@ -89,9 +99,11 @@ pub unsafe extern "C" fn unpack(
     tail: *mut u8,
     tail_n: usize,
     numbers: *mut u64,
+    flags: *const Flags,
 ) -> Answer {
     let (values, tail) = unsafe { (output(values, values_n), output(tail, tail_n)) };
-    let unpacked = outside::unpack(unsafe { input(report, n) }, values, tail);
+    let (report, flags) = unsafe { (input(report, n), table(flags)) };
+    let unpacked = outside::unpack(report, values, tail, &flags);
     if let Ok(given) = unpacked {
         let counts = [
             given.present,
@@ -116,17 +128,25 @@ pub unsafe extern "C" fn pack(
     tail_n: usize,
     out: *mut u8,
     n: usize,
+    flags: *const Flags,
 ) -> Answer {
     let (values, tail) = unsafe { (input(values, values_n), input(tail, tail_n)) };
-    let packed = outside::pack(values, word, rptin, tail, unsafe { output(out, n) });
+    let (out, flags) = unsafe { (output(out, n), table(flags)) };
+    let packed = outside::pack(values, word, rptin, tail, out, &flags);
     answer(packed.map(|bytes| vec![Number::bytes(bytes)]))
 }
 
 /// A call on a report that may be read-only: what does not change is not stored.
-unsafe fn perform(report: *const u8, n: usize, call: Call, out: *mut u8) -> Answer {
+unsafe fn perform(
+    report: *const u8,
+    n: usize,
+    call: Call,
+    out: *mut u8,
+    flags: *const Flags,
+) -> Answer {
     let mut buffer = unsafe { input(report, n) }.to_vec();
     let before = buffer.clone();
-    let done = call.run(&mut buffer);
+    let done = call.run(&mut buffer, &unsafe { table(flags) });
     if buffer != before {
         unsafe { output(report.cast_mut(), n) }.copy_from_slice(&buffer);
     }
@@ -136,38 +156,70 @@ unsafe fn perform(report: *const u8, n: usize, call: Call, out: *mut u8) -> Answ
     answer(done.result)
 }
 
-unsafe fn plain(report: *const u8, n: usize, call: Call) -> Answer {
-    unsafe { perform(report, n, call, std::ptr::null_mut()) }
+unsafe fn plain(report: *const u8, n: usize, call: Call, flags: *const Flags) -> Answer {
+    unsafe { perform(report, n, call, std::ptr::null_mut(), flags) }
 }
 
-pub unsafe extern "C" fn read_field(report: *const u8, n: usize, field: usize) -> Answer {
+pub unsafe extern "C" fn read_field(
+    report: *const u8,
+    n: usize,
+    field: usize,
+    flags: *const Flags,
+) -> Answer {
     let field = field as u64;
-    unsafe { plain(report, n, Call::ReadField { field }) }
+    unsafe { plain(report, n, Call::ReadField { field }, flags) }
 }
 
-pub unsafe extern "C" fn set_field(report: *mut u8, n: usize, field: usize, value: i64) -> Answer {
+pub unsafe extern "C" fn set_field(
+    report: *mut u8,
+    n: usize,
+    field: usize,
+    value: i64,
+    flags: *const Flags,
+) -> Answer {
     let field = field as u64;
-    unsafe { plain(report, n, Call::SetField { field, value }) }
+    unsafe { plain(report, n, Call::SetField { field, value }, flags) }
 }
 
-pub unsafe extern "C" fn clear_field(report: *mut u8, n: usize, field: usize) -> Answer {
+pub unsafe extern "C" fn clear_field(
+    report: *mut u8,
+    n: usize,
+    field: usize,
+    flags: *const Flags,
+) -> Answer {
     let field = field as u64;
-    unsafe { plain(report, n, Call::ClearField { field }) }
+    unsafe { plain(report, n, Call::ClearField { field }, flags) }
 }
 
-pub unsafe extern "C" fn read_flag(report: *const u8, n: usize, flag: usize) -> Answer {
+pub unsafe extern "C" fn read_flag(
+    report: *const u8,
+    n: usize,
+    flag: usize,
+    flags: *const Flags,
+) -> Answer {
     let flag = flag as u64;
-    unsafe { plain(report, n, Call::ReadFlag { flag }) }
+    unsafe { plain(report, n, Call::ReadFlag { flag }, flags) }
 }
 
-pub unsafe extern "C" fn set_flag(report: *mut u8, n: usize, flag: usize, value: usize) -> Answer {
+pub unsafe extern "C" fn set_flag(
+    report: *mut u8,
+    n: usize,
+    flag: usize,
+    value: usize,
+    flags: *const Flags,
+) -> Answer {
     let (flag, value) = (flag as u64, value as i64);
-    unsafe { plain(report, n, Call::SetFlag { flag, value }) }
+    unsafe { plain(report, n, Call::SetFlag { flag, value }, flags) }
 }
 
-pub unsafe extern "C" fn clear_flag(report: *mut u8, n: usize, flag: usize) -> Answer {
+pub unsafe extern "C" fn clear_flag(
+    report: *mut u8,
+    n: usize,
+    flag: usize,
+    flags: *const Flags,
+) -> Answer {
     let flag = flag as u64;
-    unsafe { plain(report, n, Call::ClearFlag { flag }) }
+    unsafe { plain(report, n, Call::ClearFlag { flag }, flags) }
 }
 
 pub unsafe extern "C" fn put(
@@ -176,10 +228,11 @@ pub unsafe extern "C" fn put(
     id: usize,
     content: *const u8,
     content_n: usize,
+    flags: *const Flags,
 ) -> Answer {
     let id = id as u64;
     let content = unsafe { input(content, content_n) }.to_vec();
-    unsafe { plain(report, n, Call::Put { id, content }) }
+    unsafe { plain(report, n, Call::Put { id, content }, flags) }
 }
 
 pub unsafe extern "C" fn fetch(
@@ -188,15 +241,16 @@ pub unsafe extern "C" fn fetch(
     id: usize,
     out: *mut u8,
     out_n: usize,
+    flags: *const Flags,
 ) -> Answer {
     let id = id as u64;
     let output = unsafe { input(out, out_n) }.to_vec();
-    unsafe { perform(report, n, Call::Fetch { id, output }, out) }
+    unsafe { perform(report, n, Call::Fetch { id, output }, out, flags) }
 }
 
-pub unsafe extern "C" fn drop(report: *mut u8, n: usize, id: usize) -> Answer {
+pub unsafe extern "C" fn drop(report: *mut u8, n: usize, id: usize, flags: *const Flags) -> Answer {
     let id = id as u64;
-    unsafe { plain(report, n, Call::Drop { id }) }
+    unsafe { plain(report, n, Call::Drop { id }, flags) }
 }
 
 pub unsafe extern "C" fn put_text(
@@ -204,9 +258,10 @@ pub unsafe extern "C" fn put_text(
     n: usize,
     text: *const u8,
     text_n: usize,
+    flags: *const Flags,
 ) -> Answer {
     let text = unsafe { input(text, text_n) }.to_vec();
-    unsafe { plain(report, n, Call::PutText { text }) }
+    unsafe { plain(report, n, Call::PutText { text }, flags) }
 }
 
 pub unsafe extern "C" fn fetch_text(
@@ -214,9 +269,10 @@ pub unsafe extern "C" fn fetch_text(
     n: usize,
     out: *mut u8,
     out_n: usize,
+    flags: *const Flags,
 ) -> Answer {
     let output = unsafe { input(out, out_n) }.to_vec();
-    unsafe { perform(report, n, Call::FetchText { output }, out) }
+    unsafe { perform(report, n, Call::FetchText { output }, out, flags) }
 }
 
 pub unsafe extern "C" fn replay(
@@ -226,6 +282,7 @@ pub unsafe extern "C" fn replay(
     script_n: usize,
     log: *mut u8,
     log_n: usize,
+    flags: *const Flags,
 ) -> Performed {
     let (report, script, log) = unsafe {
         (
@@ -234,7 +291,7 @@ pub unsafe extern "C" fn replay(
             output(log, log_n),
         )
     };
-    let ran = script::run(report, script, log.len());
+    let ran = script::run(report, script, log.len(), &unsafe { table(flags) });
     log[..ran.log.len()].copy_from_slice(&ran.log);
     Performed {
         calls: ran.calls.len() as u64,
@@ -245,4 +302,19 @@ pub unsafe extern "C" fn replay(
 
 pub unsafe extern "C" fn character_table(table: *mut u16) {
     outside::characters(unsafe { &mut *table.cast() });
+}
+
+pub unsafe extern "C" fn all_flags(flags: *mut Flags) {
+    unsafe { store(flags, &FlagTable::all()) };
+}
+
+pub unsafe extern "C" fn load_flags(marks: *const u8, n: usize, flags: *mut Flags) -> Answer {
+    let mut held = unsafe { table(flags) };
+    let loaded = held.load(unsafe { input(marks, n) });
+    unsafe { store(flags, &held) };
+    answer(loaded.map(|()| Vec::new()))
+}
+
+unsafe fn store(flags: *mut Flags, table: &FlagTable) {
+    unsafe { flags.cast::<[u8; 140]>().write(table.marks()) };
 }

@@ -1,5 +1,5 @@
-//! How often each call came to each refusal and to a CK at an edge, and how often
-//! each byte was put.
+//! How often each call came to each refusal, to one because of the table of flags and
+//! to a CK at an edge, and how often each byte was put.
 
 use std::collections::BTreeMap;
 use std::fmt;
@@ -12,21 +12,27 @@ use reference::cases::Case;
 use crate::expected::{Outcome, Said};
 use crate::fence::MARKED;
 
-/// A run of so many calls has to see every refusal that a call can meet, and every
-/// byte put.
+/// A run of so many calls has to see every refusal that a call can meet, every one
+/// that the table of flags can decide, and every byte put.
 pub const DEFAULT_CALLS: u64 = 2_000_000;
 
-const REFUSALS: usize = 14;
-const REPLAY: usize = 15;
+const REFUSALS: [usize; 15] = [1, 2, 3, 4, 5, 6, 7, 8, 9, 10, 11, 12, 13, 14, 16];
+const HIGHEST: usize = 16;
 
-/// Fresh, pack, set field and clear field work CK out.
-const WRITERS: [usize; 4] = [1, 3, 5, 6];
+const REPLAY: usize = 15;
+const ALL_FLAGS: usize = 18;
+
+/// Fresh, pack, set field and clear field work CK out; where the report is then.
+const WRITERS: [(usize, &str); 4] = [(1, "output"), (3, "output"), (5, "report"), (6, "report")];
+
+/// The refusals that the table of flags can decide.
+const BY_FLAGS: [usize; 3] = [6, 9, 14];
 
 /// CK at and beside 0.
 const EDGES: [u64; 3] = [254, 0, 1];
 
 /// Each call with the refusals that it can meet.
-const CALLS: [(&str, &[usize]); 17] = [
+const CALLS: [(&str, &[usize]); 19] = [
     ("judge", &[1, 2, 3, 4, 5, 6, 7]),
     ("fresh", &[9, 13]),
     ("unpack", &[1, 2, 3, 4, 5, 6, 7, 13]),
@@ -44,12 +50,28 @@ const CALLS: [(&str, &[usize]); 17] = [
     ("fetch text", &[1, 2, 3, 4, 5, 6, 7, 11, 13]),
     ("replay", &[]),
     ("characters", &[]),
+    ("load", &[16]),
+    ("all flags", &[]),
 ];
+
+/// The refusals of a call that the table of flags can decide.
+fn refusals_by_flags(name: &str) -> &'static [usize] {
+    match name {
+        "fresh" | "replay" | "characters" | "load" | "all flags" => &[],
+        "set flag" => &[6, 9],
+        "put" => &[6, 14],
+        _ => &[6],
+    }
+}
 
 #[derive(Clone, Debug, Default)]
 pub struct Tally {
     /// By call and refusal, 0 where accepted.
-    counts: [[u64; REFUSALS + 1]; CALLS.len()],
+    counts: [[u64; HIGHEST + 1]; CALLS.len()],
+    /// By call and refusal, where another answer is due if every flag is permitted.
+    by_flags: [[u64; HIGHEST + 1]; CALLS.len()],
+    /// Scripts with such an answer in their log.
+    scripts_by_flags: u64,
     /// By writer and edge.
     checksums: [[u64; EDGES.len()]; WRITERS.len()],
     /// Bytes that an accepted put text has written; trailing spaces are not.
@@ -59,23 +81,28 @@ pub struct Tally {
 }
 
 impl Tally {
-    pub fn add_whole(&mut self, case: &Case, outcome: &Outcome) {
+    pub fn add_whole(&mut self, case: &Case, outcome: &Outcome, by_flags: bool) {
         let row = match case {
             Case::Judge { .. } => 0,
             Case::Fresh { .. } => 1,
             Case::Unpack { .. } => 2,
             Case::Pack { .. } => 3,
             Case::Characters { .. } => 16,
+            Case::Load { .. } => 17,
             Case::Lister { .. }
             | Case::Same { .. }
             | Case::Restore { .. }
             | Case::Recover { .. }
             | Case::Calls { .. } => unreachable!("not a call of the library"),
         };
-        self.add(row, outcome);
+        self.add(row, outcome, by_flags);
     }
 
-    pub fn add_call(&mut self, call: &Call, outcome: &Outcome) {
+    pub fn add_all_flags(&mut self) {
+        self.counts[ALL_FLAGS][0] += 1;
+    }
+
+    pub fn add_call(&mut self, call: &Call, outcome: &Outcome, by_flags: bool) {
         let row = match call {
             Call::ReadField { .. } => 4,
             Call::SetField { .. } => 5,
@@ -89,7 +116,7 @@ impl Tally {
             Call::PutText { .. } => 13,
             Call::FetchText { .. } => 14,
         };
-        self.add(row, outcome);
+        self.add(row, outcome, by_flags);
         if let (Call::PutText { text }, 0) = (call, outcome.refusal()) {
             self.add_bytes(text);
         }
@@ -102,22 +129,23 @@ impl Tally {
         }
     }
 
-    pub fn add_script(&mut self, outcome: &Outcome, script: &[u8]) {
+    pub fn add_script(&mut self, outcome: &Outcome, script: &[u8], by_flags: bool) {
         self.counts[REPLAY][0] += 1;
+        self.scripts_by_flags += u64::from(by_flags);
         if let Said::Performed(performed) = outcome.said {
             self.performed += performed.calls;
             self.ended_early += u64::from(performed.taken < script.len() as u64);
         }
     }
 
-    fn add(&mut self, row: usize, outcome: &Outcome) {
+    fn add(&mut self, row: usize, outcome: &Outcome, by_flags: bool) {
         self.counts[row][outcome.refusal()] += 1;
-        let writer = WRITERS.iter().position(|&writer| writer == row);
+        self.by_flags[row][outcome.refusal()] += u64::from(by_flags);
+        let writer = WRITERS.iter().position(|&(writer, _)| writer == row);
         let (Some(writer), 0) = (writer, outcome.refusal()) else {
             return;
         };
-        // The report, or the output that it was written to, comes last.
-        if let Some((_, state)) = outcome.buffers.last() {
+        if let Some(state) = outcome.buffer(WRITERS[writer].1) {
             let ck = Card::read(&bits_of(&state[MARKED..][..CARD_BYTES])).ck;
             if let Some(edge) = EDGES.iter().position(|&edge| edge == ck) {
                 self.checksums[writer][edge] += 1;
@@ -131,7 +159,8 @@ impl Tally {
     }
 
     /// The calls that were never accepted or never came to a refusal that they can
-    /// meet, and the bytes that were never put.
+    /// meet, the refusals that the table of flags never decided, and the bytes that
+    /// were never put.
     pub fn unseen(&self) -> Vec<String> {
         let mut unseen = Vec::new();
         for ((name, refusals), counts) in CALLS.iter().zip(&self.counts) {
@@ -139,6 +168,15 @@ impl Tally {
             for refusal in numbers.filter(|&&refusal| counts[refusal] == 0) {
                 unseen.push(format!("{name}, refusal {refusal} (0 is accepted)"));
             }
+        }
+        for ((name, _), counts) in CALLS.iter().zip(&self.by_flags) {
+            let refusals = refusals_by_flags(name).iter();
+            for refusal in refusals.filter(|&&refusal| counts[refusal] == 0) {
+                unseen.push(format!("{name}, refusal {refusal} by the table of flags"));
+            }
+        }
+        if self.scripts_by_flags == 0 {
+            unseen.push("replay, a refusal by the table of flags".into());
         }
         let bytes = (0..=255).filter(|byte| !self.put.contains_key(byte));
         unseen.extend(bytes.map(|byte| format!("put text, byte {byte}")));
@@ -151,37 +189,40 @@ impl Tally {
     }
 }
 
-/// The table, with a dash where a call cannot meet a refusal.
+/// A count, or a dash where a call cannot meet a refusal.
+fn shown(count: u64, refusal: usize, refusals: &[usize]) -> String {
+    if count == 0 && !refusals.contains(&refusal) {
+        "-".into()
+    } else {
+        count.to_string()
+    }
+}
+
 impl fmt::Display for Tally {
     fn fmt(&self, f: &mut fmt::Formatter) -> fmt::Result {
         write!(f, "{:<12}{:>9}{:>9}", "call", "calls", "accepted")?;
-        for refusal in 1..=REFUSALS {
+        for refusal in REFUSALS {
             write!(f, "{refusal:>8}")?;
         }
         writeln!(f)?;
         for ((name, refusals), counts) in CALLS.iter().zip(&self.counts) {
             let calls: u64 = counts.iter().sum();
             write!(f, "{name:<12}{calls:>9}{:>9}", counts[0])?;
-            for (refusal, &count) in counts.iter().enumerate().skip(1) {
-                let impossible = count == 0 && !refusals.contains(&refusal);
-                let shown = if impossible {
-                    "-".into()
-                } else {
-                    count.to_string()
-                };
-                write!(f, "{shown:>8}")?;
+            for refusal in REFUSALS {
+                write!(f, "{:>8}", shown(counts[refusal], refusal, refusals))?;
             }
             writeln!(f)?;
         }
         let sum = |refusal: usize| self.counts.iter().map(|row| row[refusal]).sum::<u64>();
         write!(f, "{:<12}{:>9}{:>9}", "all", self.calls(), sum(0))?;
-        for refusal in 1..=REFUSALS {
+        for refusal in REFUSALS {
             write!(f, "{:>8}", sum(refusal))?;
         }
         writeln!(f)?;
+        self.fmt_by_flags(f)?;
         let [below, at, above] = EDGES;
         writeln!(f, "{:<12}{below:>9}{at:>9}{above:>9}", "CK written")?;
-        for (&row, [below, at, above]) in WRITERS.iter().zip(&self.checksums) {
+        for (&(row, _), [below, at, above]) in WRITERS.iter().zip(&self.checksums) {
             writeln!(f, "{:<12}{below:>9}{at:>9}{above:>9}", CALLS[row].0)?;
         }
         let least = self.put.values().min().unwrap_or(&0);
@@ -189,8 +230,25 @@ impl fmt::Display for Tally {
         writeln!(f, "bytes put: {bytes} of 256, each {least} times or more")?;
         writeln!(
             f,
-            "scripts: {} calls performed, {} ended before the script's end",
-            self.performed, self.ended_early
+            "scripts: {} calls performed, {} ended before the script's end, {} with a refusal by flags",
+            self.performed, self.ended_early, self.scripts_by_flags
         )
+    }
+}
+
+impl Tally {
+    /// The refusals that the table of flags decided.
+    fn fmt_by_flags(&self, f: &mut fmt::Formatter) -> fmt::Result {
+        let [report, set, put] = BY_FLAGS;
+        writeln!(f, "{:<12}{report:>9}{set:>9}{put:>9}", "by flags")?;
+        for ((name, _), counts) in CALLS.iter().zip(&self.by_flags) {
+            let refusals = refusals_by_flags(name);
+            if !refusals.is_empty() {
+                let count = |refusal: usize| shown(counts[refusal], refusal, refusals);
+                let [report, set, put] = BY_FLAGS.map(count);
+                writeln!(f, "{name:<12}{report:>9}{set:>9}{put:>9}")?;
+            }
+        }
+        Ok(())
     }
 }

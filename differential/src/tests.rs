@@ -1,10 +1,14 @@
 //! The harness finds what it is there to find. No library is needed.
 
+mod altered;
+mod flag_tables;
+
 use std::process::{Command, Output};
 
 use reference::call::Call;
 use reference::cases::Case;
 use reference::cases::material::{observation_with, values_and_word};
+use reference::flag_table::FlagTable;
 use reference::flags;
 use reference::gate::log::{FRONT, HEAD};
 use reference::gate::script::first_call;
@@ -17,11 +21,11 @@ use crate::expected::{self, Said};
 use crate::fault;
 use crate::fence::{Fenced, MARKED, state_of};
 use crate::harness::Harness;
-use crate::library::{Answer, Library, Performed};
+use crate::library::{Answer, Flags, Library, Performed};
 use crate::shrink::shrink;
 use crate::stand_in::{self, STAND_IN};
 use crate::tally::{DEFAULT_CALLS, Tally};
-use crate::trial::Trial;
+use crate::trial::Given;
 
 const SEED: u64 = 7;
 
@@ -65,23 +69,24 @@ fn checksums_at_an_edge_are_counted() {
     let (values, word) = values_and_word(&observation, 0);
     let set = |value| Call::SetField { field: 46, value };
     let (mut tally, mut harness) = (Tally::default(), Harness::new(STAND_IN));
-    for trial in [
-        Trial::Whole(Case::Fresh {
+    for given in [
+        Given::Whole(Case::Fresh {
             required: required_of_sum(255),
             output: vec![0; 40],
         }),
-        Trial::Whole(Case::Pack {
+        Given::Whole(Case::Pack {
             values,
             word,
             rptin: 0,
             tail: Vec::new(),
             output: vec![0; 38],
         }),
-        Trial::List {
+        Given::List {
             buffer: observation.packing(),
             calls: vec![set(0), set(1), Call::ClearField { field: 46 }, set(2)],
         },
     ] {
+        let trial = given.under(FlagTable::all());
         assert!(compare(&mut harness, &mut tally, &trial).is_none());
     }
     let shown = tally.to_string();
@@ -102,7 +107,7 @@ fn put_text(tally: &mut Tally, text: &[u8]) {
     buffer.resize(200, 0);
     let text = text.to_vec();
     let call = Call::PutText { text };
-    let trial = Trial::Call { buffer, call };
+    let trial = Given::Call { buffer, call }.under(FlagTable::all());
     assert!(compare(&mut Harness::new(STAND_IN), tally, &trial).is_none());
 }
 
@@ -152,9 +157,9 @@ fn a_byte_never_put_fails_a_whole_run() {
     let puts_a_7 = |call: &Call| matches!(call, Call::PutText { text } if text.contains(&7));
     for case in 0..6000 {
         for trial in trials(SEED, case) {
-            let left_out = match &trial {
-                Trial::Call { call, .. } => puts_a_7(call),
-                Trial::List { calls, .. } => calls.iter().any(puts_a_7),
+            let left_out = match &trial.given {
+                Given::Call { call, .. } => puts_a_7(call),
+                Given::List { calls, .. } => calls.iter().any(puts_a_7),
                 _ => false,
             };
             if !left_out {
@@ -194,7 +199,7 @@ fn answers_have_the_header_s_form() {
         place,
         ..Answer::default()
     };
-    let mut harness = Harness::new(STAND_IN);
+    let (mut harness, all) = (Harness::new(STAND_IN), FlagTable::all());
     for (case, answer) in [
         (
             Case::Judge {
@@ -229,8 +234,8 @@ fn answers_have_the_header_s_form() {
         ),
         (Case::Judge { report: Vec::new() }, refused(1, 0)),
     ] {
-        assert_eq!(expected::whole(&case).said, Said::Answer(answer));
-        assert_eq!(harness.whole(&case).said, Said::Answer(answer));
+        assert_eq!(expected::whole(&case, &all).said, Said::Answer(answer));
+        assert_eq!(harness.whole(&case, &all).said, Said::Answer(answer));
     }
     let output = || vec![0; 16];
     for (call, answer) in [
@@ -251,9 +256,9 @@ fn answers_have_the_header_s_form() {
         (Call::ReadField { field: 47 }, refused(8, 0)),
         (Call::ClearField { field: 3 }, refused(10, 3)),
     ] {
-        let due = expected::call(&call, &mut report.clone()).said;
+        let due = expected::call(&call, &mut report.clone(), &all).said;
         assert_eq!(due, Said::Answer(answer), "{call:?}");
-        let got = harness.call(&call, &report).said;
+        let got = harness.call(&call, &report, &all).said;
         assert_eq!(got, Said::Answer(answer), "{call:?}");
     }
 }
@@ -263,7 +268,8 @@ fn answers_have_the_header_s_form() {
 fn a_table_has_the_header_s_form() {
     let case = characters([0x5AA5; 256]);
     let mut harness = Harness::new(STAND_IN);
-    for outcome in [expected::whole(&case), harness.whole(&case)] {
+    let all = FlagTable::all();
+    for outcome in [expected::whole(&case, &all), harness.whole(&case, &all)] {
         assert_eq!(outcome.said, Said::Nothing);
         let (name, state) = &outcome.buffers[0];
         let entries = &state[MARKED..];
@@ -295,12 +301,12 @@ fn characters_are_counted() {
     let mut harness = Harness::new(STAND_IN);
     let mut drawn = 0;
     for trial in (0..1000).flat_map(|case| trials(SEED, case)) {
-        let is_table = matches!(trial, Trial::Whole(Case::Characters { .. }));
+        let is_table = matches!(trial.given, Given::Whole(Case::Characters { .. }));
         drawn += usize::from(is_table);
         assert!(compare(&mut harness, &mut tally, &trial).is_none());
     }
     assert!(drawn > 20, "{drawn}");
-    let line = format!("characters  {drawn:>9}{drawn:>9}{}", "       -".repeat(14));
+    let line = format!("characters  {drawn:>9}{drawn:>9}{}", "       -".repeat(15));
     let shown = tally.to_string();
     assert!(shown.lines().any(|shown| shown == line), "{shown}");
 }
@@ -318,7 +324,7 @@ fn a_wrong_entry_is_found() {
         ..STAND_IN
     });
     assert_eq!(differing(&found), ["table"]);
-    assert_eq!(found.trial, Trial::Whole(characters([0; 256])));
+    assert_eq!(found.trial.given, Given::Whole(characters([0; 256])));
 }
 
 #[test]
@@ -335,7 +341,7 @@ fn an_entry_left_unwritten_is_found() {
         ..STAND_IN
     });
     assert_eq!(differing(&found), ["table"]);
-    assert_eq!(found.trial, Trial::Whole(characters([0; 256])));
+    assert_eq!(found.trial.given, Given::Whole(characters([0; 256])));
 }
 
 /// An entry with a bit that stood there; the array is made smaller to that entry.
@@ -353,7 +359,7 @@ fn an_entry_that_is_not_written_whole_is_found() {
         ..STAND_IN
     });
     assert_eq!(differing(&found), ["table"]);
-    let Trial::Whole(Case::Characters { table }) = found.trial else {
+    let Given::Whole(Case::Characters { table }) = found.trial.given else {
         panic!("no table: {}", found.trial);
     };
     let held = table.iter().enumerate().filter(|(_, entry)| **entry != 0);
@@ -373,7 +379,7 @@ fn an_entry_before_the_table_is_found() {
         ..STAND_IN
     });
     assert_eq!(differing(&found), ["table"]);
-    assert_eq!(found.trial, Trial::Whole(characters([0; 256])));
+    assert_eq!(found.trial.given, Given::Whole(characters([0; 256])));
     let (expected, got) = (&found.expected.buffers[0].1, &found.got.buffers[0].1);
     assert_eq!(expected[MARKED..], got[MARKED..]);
     let shown = found.got.against(&found.expected);
@@ -388,20 +394,21 @@ fn a_byte_that_is_put_wrong_is_found() {
         n: usize,
         text: *const u8,
         text_n: usize,
+        flags: *const Flags,
     ) -> Answer {
         let mut bytes = vec![0; text_n];
         for (index, byte) in bytes.iter_mut().enumerate() {
             let given = unsafe { *text.add(index) };
             *byte = if given == 0xF7 { 0xF6 } else { given };
         }
-        unsafe { stand_in::put_text(report, n, bytes.as_ptr(), text_n) }
+        unsafe { stand_in::put_text(report, n, bytes.as_ptr(), text_n, flags) }
     }
     let found = found(Library {
         put_text: wrong,
         ..STAND_IN
     });
     assert_eq!(differing(&found), ["report"]);
-    let Trial::Call { call, .. } = found.trial else {
+    let Given::Call { call, .. } = found.trial.given else {
         panic!("no call: {}", found.trial);
     };
     assert!(matches!(call, Call::PutText { text } if text.ends_with(&[0xF7])));
@@ -409,8 +416,13 @@ fn a_byte_that_is_put_wrong_is_found() {
 
 #[test]
 fn a_wrong_label_is_found() {
-    unsafe extern "C" fn wrong(report: *const u8, n: usize, flag: usize) -> Answer {
-        let mut answer = unsafe { stand_in::read_flag(report, n, flag) };
+    unsafe extern "C" fn wrong(
+        report: *const u8,
+        n: usize,
+        flag: usize,
+        flags: *const Flags,
+    ) -> Answer {
+        let mut answer = unsafe { stand_in::read_flag(report, n, flag, flags) };
         if answer.given == 130 {
             answer.given = 129;
         }
@@ -426,8 +438,8 @@ fn a_wrong_label_is_found() {
 
 #[test]
 fn a_number_that_is_not_given_is_found() {
-    unsafe extern "C" fn wrong(report: *const u8, n: usize) -> Answer {
-        let mut answer = unsafe { stand_in::judge(report, n) };
+    unsafe extern "C" fn wrong(report: *const u8, n: usize, flags: *const Flags) -> Answer {
+        let mut answer = unsafe { stand_in::judge(report, n, flags) };
         if answer.refusal == 0 {
             answer.third = 1;
         }
@@ -449,8 +461,9 @@ fn a_wrong_label_in_the_log_is_found() {
         script_n: usize,
         log: *mut u8,
         log_n: usize,
+        flags: *const Flags,
     ) -> Performed {
-        let performed = unsafe { stand_in::replay(report, n, script, script_n, log, log_n) };
+        let performed = unsafe { stand_in::replay(report, n, script, script_n, log, log_n, flags) };
         if performed.calls > 0 {
             let label = unsafe { &mut *log.add(HEAD) };
             if unsafe { *script } == 4 && *label == 2 {
@@ -464,7 +477,7 @@ fn a_wrong_label_in_the_log_is_found() {
         ..STAND_IN
     });
     assert_eq!(differing(&found), ["log"]);
-    let Trial::Script { script, log, .. } = found.trial else {
+    let Given::Script { script, log, .. } = found.trial.given else {
         panic!("no script: {}", found.trial);
     };
     let (call, rest) = first_call(&script).expect("a call");
@@ -482,8 +495,9 @@ fn a_byte_of_a_number_that_is_not_in_the_log_is_found() {
         script_n: usize,
         log: *mut u8,
         log_n: usize,
+        flags: *const Flags,
     ) -> Performed {
-        let performed = unsafe { stand_in::replay(report, n, script, script_n, log, log_n) };
+        let performed = unsafe { stand_in::replay(report, n, script, script_n, log, log_n, flags) };
         if performed.calls > 0 {
             unsafe { *log.add(FRONT - 1) ^= 1 };
         }
@@ -494,7 +508,7 @@ fn a_byte_of_a_number_that_is_not_in_the_log_is_found() {
         ..STAND_IN
     });
     assert_eq!(differing(&found), ["log"]);
-    assert!(matches!(found.trial, Trial::Script { log, .. } if log.len() == 37));
+    assert!(matches!(found.trial.given, Given::Script { log, .. } if log.len() == 37));
 }
 
 /// A record is not begun where only its head and a part of its row fit.
@@ -507,8 +521,9 @@ fn a_log_that_ends_in_a_row_is_tried() {
         script_n: usize,
         log: *mut u8,
         log_n: usize,
+        flags: *const Flags,
     ) -> Performed {
-        let performed = unsafe { stand_in::replay(report, n, script, script_n, log, log_n) };
+        let performed = unsafe { stand_in::replay(report, n, script, script_n, log, log_n, flags) };
         let (taken, left) = (performed.taken as usize, log_n - performed.written as usize);
         let field_read = taken < script_n && unsafe { *script.add(taken) } == 1;
         if field_read && (HEAD + 1..FRONT).contains(&left) {
@@ -533,8 +548,9 @@ fn a_log_that_ends_in_an_output_is_tried() {
         script_n: usize,
         log: *mut u8,
         log_n: usize,
+        flags: *const Flags,
     ) -> Performed {
-        let performed = unsafe { stand_in::replay(report, n, script, script_n, log, log_n) };
+        let performed = unsafe { stand_in::replay(report, n, script, script_n, log, log_n, flags) };
         let (taken, left) = (performed.taken as usize, log_n - performed.written as usize);
         let text_fetched = taken < script_n && unsafe { *script.add(taken) } == 11;
         if text_fetched && left > FRONT {
@@ -551,8 +567,14 @@ fn a_log_that_ends_in_an_output_is_tried() {
 
 #[test]
 fn a_wrong_answer_is_found() {
-    unsafe extern "C" fn wrong(report: *mut u8, n: usize, flag: usize, value: usize) -> Answer {
-        let mut answer = unsafe { stand_in::set_flag(report, n, flag, value) };
+    unsafe extern "C" fn wrong(
+        report: *mut u8,
+        n: usize,
+        flag: usize,
+        value: usize,
+        flags: *const Flags,
+    ) -> Answer {
+        let mut answer = unsafe { stand_in::set_flag(report, n, flag, value, flags) };
         if answer.refusal == 9 {
             answer.place = 0;
         }
@@ -574,8 +596,9 @@ fn a_refused_call_that_writes_is_found_and_made_one_call() {
         id: usize,
         content: *const u8,
         content_n: usize,
+        flags: *const Flags,
     ) -> Answer {
-        let answer = unsafe { stand_in::put(report, n, id, content, content_n) };
+        let answer = unsafe { stand_in::put(report, n, id, content, content_n, flags) };
         if answer.refusal == 13 {
             unsafe { *report.add(n - 1) ^= 1 };
         }
@@ -585,16 +608,21 @@ fn a_refused_call_that_writes_is_found_and_made_one_call() {
         put: wrong,
         ..STAND_IN
     });
-    assert!(matches!(found.trial, Trial::Call { .. }));
+    assert!(matches!(found.trial.given, Given::Call { .. }));
     assert_eq!(found.expected.said, found.got.said);
     assert_eq!(differing(&found), ["report"]);
 }
 
 #[test]
 fn a_byte_behind_the_report_is_found() {
-    unsafe extern "C" fn wrong(report: *mut u8, n: usize, id: usize) -> Answer {
-        let size = unsafe { stand_in::judge(report, n) }.first as usize;
-        let answer = unsafe { stand_in::drop(report, n, id) };
+    unsafe extern "C" fn wrong(
+        report: *mut u8,
+        n: usize,
+        id: usize,
+        flags: *const Flags,
+    ) -> Answer {
+        let size = unsafe { stand_in::judge(report, n, flags) }.first as usize;
+        let answer = unsafe { stand_in::drop(report, n, id, flags) };
         if answer.refusal == 0 && size < n {
             unsafe { *report.add(size) = 0 };
         }
@@ -615,11 +643,12 @@ fn a_byte_before_an_output_is_found() {
         id: usize,
         out: *mut u8,
         out_n: usize,
+        flags: *const Flags,
     ) -> Answer {
         if out_n == 16 {
             unsafe { *out.sub(1) = 0 };
         }
-        unsafe { stand_in::fetch(report, n, id, out, out_n) }
+        unsafe { stand_in::fetch(report, n, id, out, out_n, flags) }
     }
     let found = found(Library {
         fetch: wrong,
@@ -637,8 +666,9 @@ fn a_byte_behind_the_log_s_end_is_found() {
         script_n: usize,
         log: *mut u8,
         log_n: usize,
+        flags: *const Flags,
     ) -> Performed {
-        let performed = unsafe { stand_in::replay(report, n, script, script_n, log, log_n) };
+        let performed = unsafe { stand_in::replay(report, n, script, script_n, log, log_n, flags) };
         let end = performed.written as usize;
         if end < log_n {
             unsafe { *log.add(end) ^= 0x80 };
@@ -650,7 +680,7 @@ fn a_byte_behind_the_log_s_end_is_found() {
         ..STAND_IN
     });
     assert_eq!(differing(&found), ["log"]);
-    assert!(matches!(found.trial, Trial::Script { log, .. } if log.len() == 1));
+    assert!(matches!(found.trial.given, Given::Script { log, .. } if log.len() == 1));
 }
 
 #[test]
@@ -743,5 +773,5 @@ fn write_past_the_table() {
         character_table: wrong,
         ..STAND_IN
     });
-    harness.whole(&characters([0; 256]));
+    harness.whole(&characters([0; 256]), &FlagTable::all());
 }

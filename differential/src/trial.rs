@@ -4,12 +4,23 @@ use std::fmt;
 
 use reference::call::Call;
 use reference::cases::Case;
+use reference::flag_table::FlagTable;
 use reference::line::{hex, inputs};
 
+/// What is given, and the table of flags that it is run under.
 #[derive(Clone, Debug, PartialEq, Eq)]
-pub enum Trial {
-    /// Judge, fresh, unpack, pack or characters.
+pub struct Trial {
+    pub flags: FlagTable,
+    pub given: Given,
+}
+
+#[derive(Clone, Debug, PartialEq, Eq)]
+pub enum Given {
+    /// Judge, fresh, unpack, pack, characters or load. Fresh and characters are lent no
+    /// table of flags; a load may replace the one that it is lent.
     Whole(Case),
+    /// Every flag permitted, over the trial's table.
+    AllFlags,
     Call {
         buffer: Vec<u8>,
         call: Call,
@@ -26,20 +37,37 @@ pub enum Trial {
     },
 }
 
+impl Given {
+    pub fn under(self, flags: FlagTable) -> Trial {
+        Trial { flags, given: self }
+    }
+}
+
+/// The table of flags comes first, unless it permits every flag.
 impl fmt::Display for Trial {
+    fn fmt(&self, f: &mut fmt::Formatter) -> fmt::Result {
+        if self.flags != FlagTable::all() {
+            write!(f, "flags {} ; ", hex(&self.flags.marks()))?;
+        }
+        self.given.fmt(f)
+    }
+}
+
+impl fmt::Display for Given {
     fn fmt(&self, f: &mut fmt::Formatter) -> fmt::Result {
         let list = |buffer: &Vec<u8>, calls: &[Call]| Case::Calls {
             buffer: buffer.clone(),
             calls: calls.to_vec(),
         };
         match self {
-            Trial::Whole(case) => f.write_str(&inputs(case)),
-            Trial::Call { buffer, call } => {
+            Given::Whole(case) => f.write_str(&inputs(case)),
+            Given::AllFlags => f.write_str("all-flags"),
+            Given::Call { buffer, call } => {
                 let case = list(buffer, std::slice::from_ref(call));
                 f.write_str(&inputs(&case))
             }
-            Trial::List { buffer, calls } => f.write_str(&inputs(&list(buffer, calls))),
-            Trial::Script {
+            Given::List { buffer, calls } => f.write_str(&inputs(&list(buffer, calls))),
+            Given::Script {
                 buffer,
                 script,
                 log,

@@ -1,5 +1,6 @@
 //! Attachments: AL, AID and data nibbles.
 
+use crate::flag_table::FlagTable;
 use crate::refusal::{Refusal, refusal};
 use crate::{flags, text};
 
@@ -37,9 +38,9 @@ pub fn with_header(id: u8, nibbles: &[u8]) -> Vec<u8> {
 }
 
 /// Whether refusal 6 passes a body of nibbles.
-pub fn is_valid_body(id: u8, nibbles: &[u8]) -> bool {
+pub fn is_valid_body(id: u8, nibbles: &[u8], table: &FlagTable) -> bool {
     match id {
-        flags::ID => flags::is_valid(nibbles),
+        flags::ID => flags::is_valid(nibbles, table),
         text::ID => text::read(nibbles).is_some(),
         _ => true,
     }
@@ -51,6 +52,7 @@ pub fn next_attachment(
     nibbles: &[u8],
     place: usize,
     before: &[Attachment],
+    table: &FlagTable,
 ) -> Result<(Attachment, usize), Refusal> {
     let position = before.len() + 1;
     let data = place + HEADER;
@@ -67,7 +69,7 @@ pub fn next_attachment(
         return Err(refusal(1, position));
     }
     let body = &nibbles[data..end];
-    if !is_valid_body(id, body) {
+    if !is_valid_body(id, body, table) {
         return Err(refusal(6, position));
     }
     Ok((Attachment::new(id, body.to_vec()), end))

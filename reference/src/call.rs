@@ -1,6 +1,7 @@
 //! The eleven calls of a list as data, with contents and outputs as given.
 
 use crate::edit;
+use crate::flag_table::FlagTable;
 use crate::number::Number;
 use crate::refusal::Refusal;
 use crate::table::Scaled;
@@ -37,29 +38,30 @@ impl Call {
         }
     }
 
-    /// Runs the call on a buffer.
-    pub fn run(&self, buffer: &mut [u8]) -> Answer {
+    /// Runs the call on a buffer under a table of flags.
+    pub fn run(&self, buffer: &mut [u8], table: &FlagTable) -> Answer {
         let nothing = |()| Vec::new();
         let count = |count| vec![Number::count(count)];
         let mut output = self.output();
         let out = output.as_deref_mut().unwrap_or_default();
         let result = match self {
-            Call::ReadField { field } => edit::read_field(buffer, *field)
+            Call::ReadField { field } => edit::read_field(buffer, *field, table)
                 .map(|value| vec![Number::value(value.map(|value| value.0))]),
             Call::SetField { field, value } => {
-                edit::set_field(buffer, *field, Scaled(*value)).map(nothing)
+                edit::set_field(buffer, *field, Scaled(*value), table).map(nothing)
             }
-            Call::ClearField { field } => edit::clear_field(buffer, *field).map(nothing),
-            Call::ReadFlag { flag } => {
-                edit::read_flag(buffer, *flag).map(|value| vec![Number::flag(value.map(i64::from))])
+            Call::ClearField { field } => edit::clear_field(buffer, *field, table).map(nothing),
+            Call::ReadFlag { flag } => edit::read_flag(buffer, *flag, table)
+                .map(|value| vec![Number::flag(value.map(i64::from))]),
+            Call::SetFlag { flag, value } => {
+                edit::set_flag(buffer, *flag, *value, table).map(nothing)
             }
-            Call::SetFlag { flag, value } => edit::set_flag(buffer, *flag, *value).map(nothing),
-            Call::ClearFlag { flag } => edit::clear_flag(buffer, *flag).map(nothing),
-            Call::Put { id, content } => edit::put(buffer, *id, content).map(nothing),
-            Call::Fetch { id, .. } => edit::fetch(buffer, *id, out).map(count),
-            Call::Drop { id } => edit::drop_attachment(buffer, *id).map(nothing),
-            Call::PutText { text } => edit::put_text(buffer, text).map(nothing),
-            Call::FetchText { .. } => edit::fetch_text(buffer, out).map(count),
+            Call::ClearFlag { flag } => edit::clear_flag(buffer, *flag, table).map(nothing),
+            Call::Put { id, content } => edit::put(buffer, *id, content, table).map(nothing),
+            Call::Fetch { id, .. } => edit::fetch(buffer, *id, out, table).map(count),
+            Call::Drop { id } => edit::drop_attachment(buffer, *id, table).map(nothing),
+            Call::PutText { text } => edit::put_text(buffer, text, table).map(nothing),
+            Call::FetchText { .. } => edit::fetch_text(buffer, out, table).map(count),
         };
         Answer { result, output }
     }

@@ -1,4 +1,4 @@
-//! The eleven calls on a buffer. Each works on the report's bits and
+//! The eleven calls on a buffer under a table of flags. Each works on the report's bits and
 //! nibbles where they stand; a refused call changes nothing.
 
 use std::ops::Range;
@@ -6,29 +6,39 @@ use std::ops::Range;
 use crate::attachment::{self, HEADER, HIGHEST_ID, LONGEST};
 use crate::bits::{bits_of, bytes_of, bytes_of_nibbles, nibbles_of, store_number};
 use crate::card::{CARD_BYTES, CARD_NIBBLES, Card, checksum};
+use crate::flag_table::FlagTable;
 use crate::flags::{self, FLAGS, HIGHEST_FLAG, quality_code};
 use crate::judge::{Report, judge};
 use crate::refusal::{Refusal, refusal};
 use crate::table::{CK, Coded, Field, Scaled, field, place_on_card};
 use crate::text;
 
-pub fn read_field(buffer: &[u8], number: u64) -> Result<Option<Scaled>, Refusal> {
-    judge(buffer)?;
+pub fn read_field(
+    buffer: &[u8],
+    number: u64,
+    table: &FlagTable,
+) -> Result<Option<Scaled>, Refusal> {
+    judge(buffer, table)?;
     let field = known_field(number)?;
     let card = Card::read(&bits_of(&buffer[..CARD_BYTES]));
     Ok(field.scaled(card.codes[field.number - 1]))
 }
 
-pub fn set_field(buffer: &mut [u8], number: u64, value: Scaled) -> Result<(), Refusal> {
-    judge(buffer)?;
+pub fn set_field(
+    buffer: &mut [u8],
+    number: u64,
+    value: Scaled,
+    table: &FlagTable,
+) -> Result<(), Refusal> {
+    judge(buffer, table)?;
     let field = known_field(number)?;
     let code = field.coded(value).ok_or(refusal(9, field.number))?;
     store_code(buffer, field, code);
     Ok(())
 }
 
-pub fn clear_field(buffer: &mut [u8], number: u64) -> Result<(), Refusal> {
-    judge(buffer)?;
+pub fn clear_field(buffer: &mut [u8], number: u64, table: &FlagTable) -> Result<(), Refusal> {
+    judge(buffer, table)?;
     let field = known_field(number)?;
     if field.is_required() {
         return Err(refusal(10, field.number));
@@ -37,18 +47,24 @@ pub fn clear_field(buffer: &mut [u8], number: u64) -> Result<(), Refusal> {
     Ok(())
 }
 
-pub fn read_flag(buffer: &[u8], number: u64) -> Result<Option<u8>, Refusal> {
-    let report = judge(buffer)?;
+pub fn read_flag(buffer: &[u8], number: u64, table: &FlagTable) -> Result<Option<u8>, Refusal> {
+    let report = judge(buffer, table)?;
     let flag = known_flag(number)?;
     let data = standing(&report, u64::from(flags::ID))?;
     let value = nibbles_of(buffer)[data.start + flag - 1];
     Ok((value != 0).then_some(value))
 }
 
-pub fn set_flag(buffer: &mut [u8], number: u64, value: i64) -> Result<(), Refusal> {
-    let report = judge(buffer)?;
+pub fn set_flag(
+    buffer: &mut [u8],
+    number: u64,
+    value: i64,
+    table: &FlagTable,
+) -> Result<(), Refusal> {
+    let report = judge(buffer, table)?;
     let flag = known_flag(number)?;
-    if !(1..=i64::from(HIGHEST_FLAG)).contains(&value) {
+    let in_range = (1..=i64::from(HIGHEST_FLAG)).contains(&value);
+    if !in_range || !table.permits(flag, value as u8) {
         return Err(refusal(9, flag));
     }
     let data = standing(&report, u64::from(flags::ID))?;
@@ -56,8 +72,8 @@ pub fn set_flag(buffer: &mut [u8], number: u64, value: i64) -> Result<(), Refusa
     Ok(())
 }
 
-pub fn clear_flag(buffer: &mut [u8], number: u64) -> Result<(), Refusal> {
-    let report = judge(buffer)?;
+pub fn clear_flag(buffer: &mut [u8], number: u64, table: &FlagTable) -> Result<(), Refusal> {
+    let report = judge(buffer, table)?;
     let flag = known_flag(number)?;
     let data = standing(&report, u64::from(flags::ID))?;
     store_flag(buffer, data.start, flag, 0);
@@ -65,36 +81,41 @@ pub fn clear_flag(buffer: &mut [u8], number: u64) -> Result<(), Refusal> {
 }
 
 /// Puts an attachment, content one nibble a byte.
-pub fn put(buffer: &mut [u8], id: u64, content: &[u8]) -> Result<(), Refusal> {
-    let report = judge(buffer)?;
+pub fn put(buffer: &mut [u8], id: u64, content: &[u8], table: &FlagTable) -> Result<(), Refusal> {
+    let report = judge(buffer, table)?;
     let id = known_id(id)?;
     if content.is_empty() || content.len() > LONGEST {
         return Err(refusal(12, 0));
     }
-    if content.iter().any(|&byte| byte > 15) || !attachment::is_valid_body(id, content) {
+    if content.iter().any(|&byte| byte > 15) || !attachment::is_valid_body(id, content, table) {
         return Err(refusal(14, 0));
     }
     put_nibbles(buffer, &report, id, content)
 }
 
 /// Writes an attachment's nibbles to the output, one a byte, and gives their count.
-pub fn fetch(buffer: &[u8], id: u64, output: &mut [u8]) -> Result<usize, Refusal> {
-    let report = judge(buffer)?;
+pub fn fetch(
+    buffer: &[u8],
+    id: u64,
+    output: &mut [u8],
+    table: &FlagTable,
+) -> Result<usize, Refusal> {
+    let report = judge(buffer, table)?;
     let id = known_id(id)?;
     let data = standing(&report, u64::from(id))?;
     hold(&nibbles_of(buffer)[data], output)
 }
 
-pub fn drop_attachment(buffer: &mut [u8], id: u64) -> Result<(), Refusal> {
-    let report = judge(buffer)?;
+pub fn drop_attachment(buffer: &mut [u8], id: u64, table: &FlagTable) -> Result<(), Refusal> {
+    let report = judge(buffer, table)?;
     let id = known_id(id)?;
     let data = standing(&report, u64::from(id))?;
     let whole = data.start - HEADER..data.end;
     replace(buffer, &report, whole, &[], report.ac - 1)
 }
 
-pub fn put_text(buffer: &mut [u8], text: &[u8]) -> Result<(), Refusal> {
-    let report = judge(buffer)?;
+pub fn put_text(buffer: &mut [u8], text: &[u8], table: &FlagTable) -> Result<(), Refusal> {
+    let report = judge(buffer, table)?;
     let nibbles = text::write(text);
     if nibbles.is_empty() || nibbles.len() > LONGEST {
         return Err(refusal(12, 0));
@@ -103,8 +124,8 @@ pub fn put_text(buffer: &mut [u8], text: &[u8]) -> Result<(), Refusal> {
 }
 
 /// Writes the ship text to the output and gives its length.
-pub fn fetch_text(buffer: &[u8], output: &mut [u8]) -> Result<usize, Refusal> {
-    let report = judge(buffer)?;
+pub fn fetch_text(buffer: &[u8], output: &mut [u8], table: &FlagTable) -> Result<usize, Refusal> {
+    let report = judge(buffer, table)?;
     let data = standing(&report, u64::from(text::ID))?;
     let text = text::read(&nibbles_of(buffer)[data]).expect("an accepted body has a text");
     hold(&text, output)

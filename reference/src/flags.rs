@@ -1,5 +1,7 @@
 //! Attachment 1: fourteen flags and the quality code.
 
+use crate::flag_table::FlagTable;
+
 pub const ID: u8 = 1;
 pub const FLAGS: usize = 14;
 pub const HIGHEST_FLAG: u8 = 10;
@@ -25,8 +27,12 @@ pub fn body_of(flags: &[u8]) -> Vec<u8> {
     body
 }
 
-pub fn is_valid(body: &[u8]) -> bool {
-    body.len() == LENGTH
-        && body[..FLAGS].iter().all(|&flag| flag <= HIGHEST_FLAG)
-        && body == body_of(&body[..FLAGS])
+pub fn is_valid(body: &[u8], table: &FlagTable) -> bool {
+    if body.len() != LENGTH {
+        return false;
+    }
+    let flags = &body[..FLAGS];
+    flags.iter().all(|&flag| flag <= HIGHEST_FLAG)
+        && body == body_of(flags)
+        && (1..=FLAGS).all(|number| table.permits(number, flags[number - 1]))
 }

@@ -3,6 +3,7 @@
 use crate::attachment::next_attachment;
 use crate::bits::{bits_of, nibbles_of};
 use crate::card::{CARD_BYTES, CARD_NIBBLES, Card, checksum};
+use crate::flag_table::FlagTable;
 use crate::observation::Observation;
 use crate::refusal::{Refusal, refusal};
 use crate::table::{FIELDS, fields};
@@ -18,8 +19,8 @@ pub struct Report {
     pub bytes: usize,
 }
 
-/// Judges the report at the head of a buffer.
-pub fn judge(buffer: &[u8]) -> Result<Report, Refusal> {
+/// Judges the report at the head of a buffer under a table of flags.
+pub fn judge(buffer: &[u8], table: &FlagTable) -> Result<Report, Refusal> {
     if buffer.len() < CARD_BYTES {
         return Err(refusal(1, 0));
     }
@@ -32,7 +33,7 @@ pub fn judge(buffer: &[u8]) -> Result<Report, Refusal> {
     let mut attachments = Vec::new();
     let mut place = CARD_NIBBLES;
     for _ in 0..card.ac {
-        let (attachment, next) = next_attachment(&nibbles, place, &attachments)?;
+        let (attachment, next) = next_attachment(&nibbles, place, &attachments, table)?;
         attachments.push(attachment);
         place = next;
     }

@@ -6,6 +6,7 @@ pub mod call;
 pub mod card;
 pub mod cases;
 pub mod edit;
+pub mod flag_table;
 pub mod flags;
 pub mod gate;
 pub mod judge;

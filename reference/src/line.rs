@@ -2,13 +2,15 @@
 
 use crate::call::{Answer, Call};
 use crate::cases::{Case, Outcome};
+use crate::flag_table::FlagTable;
 use crate::judge::Report;
 use crate::outside::Unpacked;
 use crate::refusal::Refusal;
 
-/// The line of a case: kind and what the call takes, then ` -> ` and what comes of it.
-pub fn line(case: &Case) -> String {
-    format!("{} -> {}", inputs(case), outcome(&case.run()))
+/// The line of a case: kind and what the call takes, then ` -> ` and what comes of it
+/// under the table of flags in force, which a load may replace.
+pub fn line(case: &Case, flags: &mut FlagTable) -> String {
+    format!("{} -> {}", inputs(case), outcome(&case.run(flags)))
 }
 
 /// What the call takes.
@@ -62,6 +64,7 @@ pub fn inputs(case: &Case) -> String {
             format!("recover {values} {word} {rptin} {tail} {output} {values_out} {tail_out}")
         }
         Case::Characters { table } => format!("characters {}", numbers(&**table)),
+        Case::Load { marks } => format!("load {}", hex(marks)),
         Case::Calls { buffer, calls } => {
             let mut parts = vec![format!("calls {}", hex(buffer))];
             parts.extend(calls.iter().map(call));
@@ -126,6 +129,10 @@ fn outcome(outcome: &Outcome) -> String {
             format!("{answer} {values_out} {tail_out} {}", hex(output))
         }
         Outcome::Characters(table) => format!("ok {}", numbers(&**table)),
+        Outcome::Load { result, table } => {
+            let answer = accepted(result, |()| "ok".into());
+            format!("{answer} {}", hex(&table.marks()))
+        }
         Outcome::Calls(answers) => {
             let answers: Vec<String> = answers
                 .iter()

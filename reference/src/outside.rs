@@ -2,6 +2,7 @@
 
 use crate::attachment::{Attachment, next_attachment};
 use crate::card::{CARD_BYTES, CARD_NIBBLES};
+use crate::flag_table::FlagTable;
 use crate::judge::judge;
 use crate::observation::Observation;
 use crate::refusal::{Refusal, refusal};
@@ -37,8 +38,13 @@ pub struct Unpacked {
 }
 
 /// Writes 46 values, 0 where missing, and the tail, one nibble a byte.
-pub fn unpack(buffer: &[u8], values: &mut [i64], tail: &mut [u8]) -> Result<Unpacked, Refusal> {
-    let report = judge(buffer)?;
+pub fn unpack(
+    buffer: &[u8],
+    values: &mut [i64],
+    tail: &mut [u8],
+    table: &FlagTable,
+) -> Result<Unpacked, Refusal> {
+    let report = judge(buffer, table)?;
     let nibbles = report.observation.nibbles()[CARD_NIBBLES..].to_vec();
     if values.len() < FIELDS || tail.len() < nibbles.len() {
         return Err(refusal(13, 0));
@@ -70,6 +76,7 @@ pub fn pack(
     rptin: u16,
     tail: &[u8],
     output: &mut [u8],
+    table: &FlagTable,
 ) -> Result<usize, Refusal> {
     if values.len() < FIELDS {
         return Err(refusal(13, 0));
@@ -80,7 +87,7 @@ pub fn pack(
     let observation = Observation {
         rptin,
         values: judge_values(values, word)?,
-        attachments: judge_tail(tail)?,
+        attachments: judge_tail(tail, table)?,
     };
     let report = observation.packing();
     if output.len() < report.len() {
@@ -91,9 +98,9 @@ pub fn pack(
 }
 
 /// Whether two reports, judged in this order, have the same bytes.
-pub fn same(first: &[u8], second: &[u8]) -> Result<bool, Refusal> {
-    let first_bytes = judge(first)?.bytes;
-    let second_bytes = judge(second)?.bytes;
+pub fn same(first: &[u8], second: &[u8], table: &FlagTable) -> Result<bool, Refusal> {
+    let first_bytes = judge(first, table)?.bytes;
+    let second_bytes = judge(second, table)?.bytes;
     Ok(first[..first_bytes] == second[..second_bytes])
 }
 
@@ -125,14 +132,14 @@ fn judge_values(values: &[i64], word: u64) -> Result<[Option<Scaled>; FIELDS], R
 }
 
 /// Refusal 14 for the bytes, then 1, 5 and 6 for each attachment.
-fn judge_tail(tail: &[u8]) -> Result<Vec<Attachment>, Refusal> {
+fn judge_tail(tail: &[u8], table: &FlagTable) -> Result<Vec<Attachment>, Refusal> {
     if tail.iter().any(|&byte| byte > 15) {
         return Err(refusal(14, 0));
     }
     let mut attachments = Vec::new();
     let mut place = 0;
     while place < tail.len() {
-        let (attachment, next) = next_attachment(tail, place, &attachments)?;
+        let (attachment, next) = next_attachment(tail, place, &attachments, table)?;
         attachments.push(attachment);
         place = next;
     }

@@ -2,6 +2,7 @@
 
 use crate::attachment::{Attachment, is_valid_body};
 use crate::call::{Answer, Call};
+use crate::flag_table::FlagTable;
 use crate::flags::{self, FLAGS};
 use crate::number::Number;
 use crate::observation::Observation;
@@ -15,10 +16,16 @@ const TEXT_ID: u64 = text::ID as u64;
 /// The caller's refusals in the order in which they are judged.
 const ORDER: [u8; 7] = [8, 9, 10, 11, 12, 14, 13];
 
-/// One step: the answer, and the observation after it. n is the buffer's length.
-pub fn step(observation: &Observation, n: usize, call: &Call) -> (Observation, Answer) {
+/// One step under a table of flags: the answer, and the observation after it. n is
+/// the buffer's length.
+pub fn step(
+    observation: &Observation,
+    n: usize,
+    call: &Call,
+    table: &FlagTable,
+) -> (Observation, Answer) {
     for number in ORDER {
-        if fits(number, observation, n, call) {
+        if fits(number, observation, n, call, table) {
             let answer = Answer {
                 result: Err(Refusal {
                     number,
@@ -53,15 +60,15 @@ fn place(number: u8, call: &Call) -> usize {
 }
 
 /// Whether a refusal fits, given that none before it in the order does.
-fn fits(number: u8, observation: &Observation, n: usize, call: &Call) -> bool {
+fn fits(number: u8, observation: &Observation, n: usize, call: &Call, table: &FlagTable) -> bool {
     match number {
         8 => has_unknown_number(call),
-        9 => has_value_out_of_range(call),
+        9 => has_value_out_of_range(call) || sets_forbidden_flag(call, table),
         10 => matches!(call, Call::ClearField { field } if REQUIRED.contains(&(*field as usize))),
         11 => names_absent_attachment(observation, call),
         12 => content_of(call).is_some_and(|(_, content)| !(1..=255).contains(&content.len())),
         14 => content_of(call).is_some_and(|(id, content)| {
-            content.iter().any(|&byte| byte > 15) || !is_valid_body(id, &content)
+            content.iter().any(|&byte| byte > 15) || !is_valid_body(id, &content, table)
         }),
         _ => lends_too_little(observation, n, call),
     }
@@ -89,6 +96,11 @@ fn has_value_out_of_range(call: &Call) -> bool {
         Call::SetFlag { value, .. } => *value < 1 || *value > 10,
         _ => false,
     }
+}
+
+/// Given that the value is in range.
+fn sets_forbidden_flag(call: &Call, table: &FlagTable) -> bool {
+    matches!(call, Call::SetFlag { flag, value } if !table.permits(*flag as usize, *value as u8))
 }
 
 fn names_absent_attachment(observation: &Observation, call: &Call) -> bool {

@@ -5,11 +5,11 @@ mod common;
 
 use std::collections::BTreeSet;
 
+use common::all_flags::{line, run_case, run_list};
 use common::{SHORT, table_by_hand};
 use reference::call::{Answer, Call};
-use reference::cases::{Case, Outcome, fixed};
+use reference::cases::{Case, Outcome, fixed, flag_tables};
 use reference::gate::{SEED, list_cases, record, text_cases, whole_cases};
-use reference::line::line;
 use reference::outside::characters;
 use reference::prng::Prng;
 use reference::refusal::refusal;
@@ -161,14 +161,21 @@ fn records_by_hand() {
     let before: Vec<u8> = (0..=255).flat_map(|byte| [1, byte]).collect();
     assert!(record::fits(&ascending));
     assert_eq!(record::input(&ascending), [&[9][..], &before].concat());
-    assert_eq!(record::answer(&ascending.run()), after);
+    assert_eq!(record::answer(&run_case(&ascending)), after);
     let input = record::input(&case([0xFFFE; 256]));
     assert_eq!(input, [&[9][..], &[0xFF, 0xFE].repeat(256)].concat());
 }
 
-/// The fixed cases and the gate's end with the same arrays.
+/// Before the cases of the table of flags, the fixed ones and the gate's end with the
+/// same arrays.
 #[test]
 fn cases_end_with_arrays() {
+    let before_flags = |mut cases: Vec<Case>| {
+        let flags = flag_tables::cases();
+        assert!(cases.ends_with(&flags));
+        cases.truncate(cases.len() - flags.len());
+        cases
+    };
     let tables = |cases: Vec<Case>| -> Vec<Table> {
         let arrays = cases.iter().rev().map_while(|case| match case {
             Case::Characters { table } => Some(**table),
@@ -180,8 +187,8 @@ fn cases_end_with_arrays() {
         assert!(!front.iter().any(more));
         arrays
     };
-    let arrays = tables(fixed());
-    assert_eq!(tables(whole_cases::cases(SEED)), arrays);
+    let arrays = tables(before_flags(fixed()));
+    assert_eq!(tables(whole_cases::before_loads(SEED)), arrays);
     assert_eq!(arrays.iter().collect::<BTreeSet<_>>().len(), arrays.len());
     for former in &former_contents()[..4] {
         assert!(arrays.contains(former));
@@ -193,7 +200,7 @@ fn cases_end_with_arrays() {
     }
     for array in arrays {
         let after = Outcome::Characters(Box::new(table_by_hand()));
-        assert_eq!(case(array).run(), after);
+        assert_eq!(run_case(&case(array)), after);
     }
 }
 
@@ -223,7 +230,7 @@ struct Texts {
 fn texts() -> Texts {
     let mut texts = Texts::default();
     for list in text_cases::lists() {
-        let (_, ran) = list.run();
+        let (_, ran) = run_list(&list);
         assert_eq!(ran.taken, list.script.len());
         for (call, answer) in ran.calls {
             match call {

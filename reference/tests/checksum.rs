@@ -5,6 +5,7 @@ mod common;
 
 use std::collections::BTreeMap;
 
+use common::all_flags::{run_case, run_list};
 use common::refused;
 use reference::bits::bits_of;
 use reference::call::Call;
@@ -126,7 +127,7 @@ impl Seen {
 fn records_meet_the_edges() {
     let mut seen = Seen::default();
     for case in sum_cases::cases() {
-        match (&case, case.run()) {
+        match (&case, run_case(&case)) {
             (Case::Judge { report }, Outcome::Judge(result)) => {
                 if stored(report) == 255 {
                     assert_eq!(*result, refused(4, 0));
@@ -157,7 +158,7 @@ fn records_meet_the_edges() {
 fn lists_end_at_the_edges() {
     let mut seen = Seen::default();
     for list in sum_cases::lists() {
-        let (after, ran) = list.run();
+        let (after, ran) = run_list(&list);
         assert_eq!(ran.taken, list.script.len());
         let last = ran.calls.last().map(|(call, _)| call);
         if stored(&list.buffer) == 255 {

@@ -2,11 +2,10 @@
 
 mod common;
 
+use common::all_flags::*;
 use common::{fresh_buffer, fresh_with_tail, refused, set_ck};
-use reference::edit::*;
-use reference::judge::judge;
 use reference::lister::lines;
-use reference::outside::{fresh, pack};
+use reference::outside::fresh;
 use reference::table::{Scaled, fields};
 
 fn buffer_of_fresh(length: usize) -> Vec<u8> {

@@ -2,9 +2,8 @@
 
 mod common;
 
+use common::all_flags::*;
 use common::{fresh_buffer, fresh_with_tail, refused};
-use reference::edit::*;
-use reference::judge::judge;
 use reference::table::{Scaled, fields};
 
 const WRONG_NUMBERS: [u64; 8] = [0, 256, 257, 270, 1 << 16, (1 << 32) + 1, 1 << 63, u64::MAX];

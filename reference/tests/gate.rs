@@ -7,15 +7,15 @@ use std::fs;
 use std::path::Path;
 use std::process::Command;
 
+use common::all_flags::{judge, run, run_case, run_list};
 use common::{fresh_buffer, table_by_hand};
 use reference::call::{Answer, Call};
 use reference::cases::{Case, Outcome};
-use reference::gate::list::List;
+use reference::gate::list::{Item, List};
 use reference::gate::list_cases::CALLS;
 use reference::gate::log::{self, FRONT, HEAD, record_size};
-use reference::gate::script::{entry, first_call, run, script};
+use reference::gate::script::{entry, first_call, script};
 use reference::gate::{self, SEED, list_cases, record, sizes, whole_cases};
-use reference::judge::judge;
 use reference::number::{Number, Quantity};
 use reference::prng::Prng;
 
@@ -313,7 +313,7 @@ fn rows_by_hand() {
 #[test]
 fn records_of_every_list() {
     for list in list_cases::lists(SEED) {
-        let (_, ran) = list.run();
+        let (_, ran) = run_list(&list);
         let mut rest = &ran.log[..];
         for (call, answer) in &ran.calls {
             let output = answer.output.clone().unwrap_or_default();
@@ -370,7 +370,7 @@ fn a_list_and_its_answer_by_hand() {
         &hex("0000000A 010000000000000007 0C 00000033"),
     ];
     assert_eq!(list.input(), input.concat());
-    let (after, ran) = list.run();
+    let (after, ran) = run_list(&list);
     let answer = [
         &hex("00000001 00000009 00000025")[..],
         &report,
@@ -383,7 +383,7 @@ fn a_list_and_its_answer_by_hand() {
 
 /// A record and its answer.
 fn both(case: &Case) -> (Vec<u8>, Vec<u8>) {
-    (record::input(case), record::answer(&case.run()))
+    (record::input(case), record::answer(&run_case(case)))
 }
 
 #[test]
@@ -648,7 +648,7 @@ fn whole_files_meet_every_refusal_and_keep_their_limits() {
     let cases = whole_cases::cases(SEED);
     assert!(cases.iter().all(record::fits));
     let files = gate::whole(&cases);
-    assert!(files.stdin.len() + files.stdout.len() < 1_600_000);
+    assert!(files.stdin.len() + files.stdout.len() < 2_180_000);
     for (kind, refusals) in [
         ("judge", &[0, 1, 2, 3, 4, 5, 6, 7][..]),
         ("lister", &[0, 1, 2, 3, 4, 5, 6, 7]),
@@ -658,6 +658,7 @@ fn whole_files_meet_every_refusal_and_keep_their_limits() {
         ("same", &[0, 1, 2, 3, 4, 5, 6, 7]),
         ("restore", &[0, 1, 2, 3, 4, 5, 6, 7, 13]),
         ("recover", &[0, 1, 5, 6, 8, 9, 10, 13, 14]),
+        ("load", &[0, 16]),
     ] {
         let met: Vec<u8> = files.tally.refusals(kind);
         assert_eq!(met, refusals, "{kind}");
@@ -676,8 +677,8 @@ fn whole_files_meet_every_refusal_and_keep_their_limits() {
 
 /// Fourteen arrays, of which six hold one number and the ninth is the table.
 #[test]
-fn whole_files_end_with_the_table() {
-    let files = gate::whole(&whole_cases::cases(SEED));
+fn the_table_of_the_characters_comes_before_the_loads() {
+    let files = gate::whole(&whole_cases::before_loads(SEED));
     let entries = table_by_hand().map(|entry| format!("{entry:04X}")).concat();
     let answer = hex(&format!("01 00 0000000000000000 {entries}"));
     assert!(files.stdout.ends_with(&answer.repeat(14)));
@@ -694,11 +695,11 @@ fn whole_files_end_with_the_table() {
 
 #[test]
 fn same_and_trips_are_met_on_every_side() {
-    let cases = whole_cases::cases(SEED);
+    let cases = whole_cases::before_loads(SEED);
     let mut equal = [0, 0];
     let mut sizes = BTreeSet::new();
     for case in &cases {
-        match case.run() {
+        match run_case(case) {
             Outcome::Same(Ok(same)) => equal[usize::from(same)] += 1,
             Outcome::Restore { result, .. } => sizes.extend(result),
             Outcome::Recover { result, .. } => sizes.extend(result.map(|given| given.bytes)),
@@ -716,7 +717,7 @@ fn many_logs_are_longer_than_what_is_written() {
     // What is left of a log, and the size of the record that does not fit.
     let mut ends = Vec::new();
     for list in list_cases::lists(SEED) {
-        let (_, ran) = list.run();
+        let (_, ran) = run_list(&list);
         let left = list.room - ran.log.len();
         a_little_longer += usize::from((1..=40).contains(&left));
         if let Some((call, _)) = first_call(&list.script[ran.taken..]) {
@@ -747,11 +748,15 @@ fn many_logs_are_longer_than_what_is_written() {
 #[test]
 fn list_files_meet_every_refusal_and_keep_their_limits() {
     let lists = list_cases::lists(SEED);
-    assert!(lists.iter().all(List::fits));
-    let files = gate::lists(&lists);
-    assert!(files.stdin.len() + files.stdout.len() < 1_300_000);
+    let items = list_cases::items(SEED);
+    assert!(items.iter().all(|item| match item {
+        Item::List(list) => list.fits(),
+        Item::Load(marks) => marks.len() <= 200,
+    }));
+    let files = gate::lists(&items);
+    assert!(files.stdin.len() + files.stdout.len() < 1_880_000);
     let whole = lists.iter().filter(|list| {
-        let (_, ran) = list.run();
+        let (_, ran) = run_list(list);
         ran.calls.len() == CALLS && judge(&list.buffer).is_ok()
     });
     assert!(whole.count() >= 200);
@@ -772,12 +777,13 @@ fn list_files_meet_every_refusal_and_keep_their_limits() {
         let expected = [&report[..], refusals].concat();
         assert_eq!(files.tally.refusals(kind), expected, "{kind}");
     }
+    assert_eq!(files.tally.refusals("load"), [0, 16]);
 }
 
 #[test]
 fn the_same_seed_gives_the_same_files() {
     let whole = |seed| gate::whole(&whole_cases::cases(seed));
-    let lists = |seed| gate::lists(&list_cases::lists(seed));
+    let lists = |seed| gate::lists(&list_cases::items(seed));
     for make in [&whole as &dyn Fn(u64) -> gate::Files, &lists] {
         let (first, again, other) = (make(SEED), make(SEED), make(SEED + 1));
         assert_eq!(first.stdin, again.stdin);
@@ -795,7 +801,7 @@ fn the_programs_write_the_files() {
         ),
         (
             env!("CARGO_BIN_EXE_gate-scripts"),
-            gate::lists(&list_cases::lists(SEED)),
+            gate::lists(&list_cases::items(SEED)),
         ),
     ];
     for (index, (program, files)) in programs.into_iter().enumerate() {

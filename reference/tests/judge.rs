@@ -2,9 +2,9 @@
 
 mod common;
 
+use common::all_flags::judge;
 use common::{fresh_buffer, fresh_with_tail, refused, set_bits, set_ck};
 use reference::cases::reports::{beyond_the_lister, damaged, sound};
-use reference::judge::judge;
 use reference::lister::lines;
 use reference::table::Scaled;
 

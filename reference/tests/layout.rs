@@ -2,10 +2,8 @@
 
 mod common;
 
+use common::all_flags::*;
 use common::{fresh_buffer, fresh_with_tail};
-use reference::edit::*;
-use reference::judge::judge;
-use reference::outside::pack;
 use reference::table::{Scaled, fields};
 
 fn bytes_of_digits(digits: &str) -> Vec<u8> {

@@ -3,9 +3,12 @@
 use std::collections::BTreeMap;
 
 use reference::call::Call;
-use reference::cases::material::random_observation;
+use reference::cases::material::{permit_flags, random_flag_table, random_observation};
 use reference::cases::random::random_call;
 use reference::cases::{Case, fixed};
+use reference::flag_table::FlagTable;
+use reference::flags;
+use reference::gate::list::Item;
 use reference::gate::script::first_call;
 use reference::gate::{SEED, list_cases};
 use reference::judge::judge;
@@ -41,18 +44,24 @@ fn name(call: &Call) -> &'static str {
     }
 }
 
-/// Runs one list on the buffer and on the observation.
-fn compare(start: &[u8], observation: Observation, calls: &[Call], met: &mut Met) {
+/// Runs one list on the buffer and on the observation, under one table of flags.
+fn compare(
+    start: &[u8],
+    observation: Observation,
+    calls: &[Call],
+    flags: &FlagTable,
+    met: &mut Met,
+) {
     let n = start.len();
     let mut buffer = start.to_vec();
     let mut observation = observation;
     let mut longest = observation.size();
     for call in calls {
-        let (after, answer) = step(&observation, n, call);
-        assert_eq!(call.run(&mut buffer), answer, "{call:?}");
+        let (after, answer) = step(&observation, n, call, flags);
+        assert_eq!(call.run(&mut buffer, flags), answer, "{call:?}");
         longest = longest.max(after.size());
         assert_eq!(buffer, expected_buffer(start, &after, longest), "{call:?}");
-        assert_eq!(judge(&buffer).unwrap().observation, after);
+        assert_eq!(judge(&buffer, flags).unwrap().observation, after);
         let number = answer.result.err().map_or(0, |refusal| refusal.number);
         *met.entry((name(call), number)).or_default() += 1;
         observation = after;
@@ -72,10 +81,10 @@ fn random_lists_agree() {
         let mut current = observation.clone();
         for _ in 0..30 {
             let call = random_call(&mut prng, &current, start.len());
-            current = step(&current, start.len(), &call).0;
+            current = step(&current, start.len(), &call, &FlagTable::all()).0;
             calls.push(call);
         }
-        compare(&start, observation, &calls, &mut met);
+        compare(&start, observation, &calls, &FlagTable::all(), &mut met);
     }
     let reached: Vec<(&str, &[u8])> = vec![
         ("read field", &[0, 8]),
@@ -99,15 +108,46 @@ fn random_lists_agree() {
     assert!(met.is_empty(), "no call should come to {met:?}");
 }
 
+/// Lists under drawn tables, in which set flag comes to 9 and put to 14 more often.
+#[test]
+fn random_lists_agree_under_tables_of_flags() {
+    let mut prng = Prng::new(21);
+    let mut met = Met::new();
+    for _ in 0..300 {
+        let table = random_flag_table(&mut prng);
+        let mut observation = random_observation(&mut prng);
+        for attachment in &mut observation.attachments {
+            if attachment.id == flags::ID {
+                let row = &mut attachment.nibbles[..flags::FLAGS];
+                permit_flags(&mut prng, &table, row);
+                attachment.nibbles = flags::body_of(row);
+            }
+        }
+        let mut start = observation.packing();
+        start.extend(prng.bytes(40));
+        let mut calls = Vec::new();
+        for _ in 0..20 {
+            calls.push(random_call(&mut prng, &observation, start.len()));
+            let (flag, value) = (1 + prng.below(14) as u64, 1 + prng.below(10) as i64);
+            calls.push(Call::SetFlag { flag, value });
+        }
+        compare(&start, observation, &calls, &table, &mut met);
+    }
+    assert!(met[&("set flag", 9)] > 500, "{met:?}");
+    assert!(met[&("put", 14)] > 100, "{met:?}");
+}
+
 #[test]
 fn fixed_lists_agree() {
     let mut met = Met::new();
+    let mut flags = FlagTable::all();
     for case in fixed() {
-        if let Case::Calls { buffer, calls } = case
-            && let Ok(report) = judge(&buffer)
+        if let Case::Calls { buffer, calls } = &case
+            && let Ok(report) = judge(buffer, &flags)
         {
-            compare(&buffer, report.observation, &calls, &mut met);
+            compare(buffer, report.observation, calls, &flags, &mut met);
         }
+        case.run(&mut flags);
     }
     assert!(met.len() >= 34, "{met:?}");
 }
@@ -126,10 +166,21 @@ fn calls_of(script: &[u8]) -> Vec<Call> {
 #[test]
 fn gate_lists_agree() {
     let mut met = Met::new();
-    for list in list_cases::lists(SEED) {
-        if let Ok(report) = judge(&list.buffer) {
-            let calls = calls_of(&list.script);
-            compare(&list.buffer, report.observation, &calls, &mut met);
+    let mut flags = FlagTable::all();
+    for item in list_cases::items(SEED) {
+        match item {
+            Item::List(list) => {
+                if let Ok(report) = judge(&list.buffer, &flags) {
+                    let calls = calls_of(&list.script);
+                    compare(&list.buffer, report.observation, &calls, &flags, &mut met);
+                }
+            }
+            Item::Load(marks) => {
+                let former = flags;
+                if flags.load(&marks).is_err() {
+                    assert_eq!(flags, former);
+                }
+            }
         }
     }
     assert_eq!(met.len(), 36, "{met:?}");

@@ -2,10 +2,10 @@
 
 mod common;
 
+use common::all_flags::{judge, pack, same, unpack};
 use common::{fresh_buffer, fresh_with_tail, refused, set_bits, set_ck};
 use reference::cases::reports;
-use reference::judge::judge;
-use reference::outside::{Unpacked, fresh, pack, same, unpack};
+use reference::outside::{Unpacked, fresh};
 
 const SOUND: [i64; 5] = [1, 1900, 1, 0, 0];
 const FRESH_WORD: u64 = 0b1100_1110;

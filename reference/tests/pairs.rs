@@ -1,14 +1,17 @@
 //! Each pair of refusals that an order decides.
 
+mod common;
+
+use common::all_flags::run_case;
 use reference::cases::pairs::pairs;
 use reference::cases::{Case, Outcome};
 use reference::refusal::Refusal;
 
 fn refusal_of(case: &Case) -> Option<Refusal> {
-    match case.run() {
+    match run_case(case) {
         Outcome::Judge(result) => result.err(),
         Outcome::Lister(_) | Outcome::Characters(_) => None,
-        Outcome::Fresh { result, .. } => result.err(),
+        Outcome::Fresh { result, .. } | Outcome::Load { result, .. } => result.err(),
         Outcome::Unpack { result, .. } => result.err(),
         Outcome::Pack { result, .. } => result.err(),
         Outcome::Same(result) => result.err(),

@@ -1,12 +1,12 @@
 //! Random observations, there and back.
 
+mod common;
+
+use common::all_flags::{fetch, fetch_text, is_valid, judge, pack, put, put_text, unpack};
 use reference::cases::material::{
     random_body, random_flags, random_observation, random_text, tail_of, values_and_word,
 };
-use reference::edit::{fetch, fetch_text, put, put_text};
-use reference::flags::{is_valid, quality_code};
-use reference::judge::judge;
-use reference::outside::{pack, unpack};
+use reference::flags::quality_code;
 use reference::prng::Prng;
 use reference::text::{read, write};
 

@@ -2,15 +2,14 @@
 
 mod common;
 
+use common::all_flags::{judge, recover, restore};
 use common::{fresh_buffer, fresh_with_tail};
 use reference::cases::material::{random_observation, tail_of, values_and_word};
 use reference::cases::{Case, pairs, reports};
-use reference::judge::judge;
 use reference::observation::Observation;
 use reference::outside::Unpacked;
 use reference::prng::Prng;
 use reference::refusal::{Refusal, refusal};
-use reference::trips::{recover, restore};
 
 const FRESH_WORD: u64 = 0b1100_1110;
 const TOO_SHORT: Refusal = refusal(13, 0);

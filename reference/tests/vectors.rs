@@ -5,9 +5,11 @@ mod common;
 use std::io::Write;
 use std::process::{Command, Stdio};
 
+use common::all_flags::line;
 use common::{fresh_buffer, table_by_hand};
 use reference::cases::{Case, fixed, random};
-use reference::line::line;
+use reference::flag_table::FlagTable;
+use reference::line;
 
 fn vectors(arguments: &[&str]) -> (bool, String) {
     let output = Command::new(env!("CARGO_BIN_EXE_vectors"))
@@ -165,17 +167,42 @@ fn lists_by_hand() {
 }
 
 #[test]
+fn loads_by_hand() {
+    let mut flags = FlagTable::all();
+    let load = |marks: Vec<u8>| Case::Load { marks };
+    let mut marks = vec![1; 140];
+    marks[1] = 0;
+    let table = format!("0100{}", "01".repeat(138));
+    let case = load(marks.clone());
+    let written = format!("load {table} -> ok {table}");
+    assert_eq!(line::line(&case, &mut flags), written);
+    marks.pop();
+    let short = &table[..278];
+    let written = format!("load {short} -> refused 16 0 {table}");
+    assert_eq!(line::line(&load(marks), &mut flags), written);
+    let written = format!("load - -> refused 16 0 {table}");
+    assert_eq!(line::line(&load(Vec::new()), &mut flags), written);
+    let written = format!("load - -> refused 16 0 {}", "01".repeat(140));
+    assert_eq!(line(&load(Vec::new())), written);
+}
+
+#[test]
 fn vectors_meet_every_refusal_and_accept() {
+    let mut flags = FlagTable::all();
     let lines: Vec<String> = fixed()
         .iter()
         .chain(&random::cases(3, 400).collect::<Vec<_>>())
-        .map(line)
+        .map(|case| line::line(case, &mut flags))
         .collect();
-    for number in 1..=14 {
+    assert_eq!(flags, FlagTable::all());
+    for number in (1..=14).chain([16]) {
         let refused = format!(" refused {number} ");
         assert!(lines.iter().any(|line| line.contains(&refused)), "{number}");
     }
-    for kind in ["judge ", "lister ", "fresh ", "unpack ", "pack ", "calls "] {
+    let kinds = [
+        "judge ", "lister ", "fresh ", "unpack ", "pack ", "load ", "calls ",
+    ];
+    for kind in kinds {
         let of_kind = lines.iter().filter(|line| line.starts_with(kind));
         let accepted = of_kind
             .clone()

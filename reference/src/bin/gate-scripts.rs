@@ -1,4 +1,4 @@
-//! Writes DIR/stdin and DIR/stdout: lists of calls in script form.
+//! Writes DIR/stdin and DIR/stdout: lists of calls in script form, and loads.
 
 use std::process::ExitCode;
 
@@ -10,7 +10,7 @@ fn main() -> ExitCode {
         eprintln!("usage: gate-scripts DIR [SEED]");
         return ExitCode::from(2);
     };
-    let files = lists(&list_cases::lists(seed));
+    let files = lists(&list_cases::items(seed));
     if let Err(error) = files.write(directory) {
         eprintln!("gate-scripts: {error}");
         return ExitCode::FAILURE;

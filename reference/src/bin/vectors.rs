@@ -4,6 +4,7 @@ use std::io::{self, BufWriter, Write};
 use std::process::ExitCode;
 
 use reference::cases::{fixed, random};
+use reference::flag_table::FlagTable;
 use reference::line::line;
 
 fn main() -> ExitCode {
@@ -27,8 +28,9 @@ fn main() -> ExitCode {
 
 fn print(seed: u64, count: usize) -> io::Result<()> {
     let mut output = BufWriter::new(io::stdout().lock());
+    let mut flags = FlagTable::all();
     for case in fixed().into_iter().chain(random::cases(seed, count)) {
-        writeln!(output, "{}", line(&case))?;
+        writeln!(output, "{}", line(&case, &mut flags))?;
     }
     output.flush()
 }

@@ -3,7 +3,8 @@
 use crate::attachment::{Attachment, with_header};
 use crate::bits::bytes_of_nibbles;
 use crate::card::{Card, checksum};
-use crate::flags;
+use crate::flag_table::{FlagTable, NO, VALUES, YES};
+use crate::flags::{self, FLAGS};
 use crate::observation::Observation;
 use crate::prng::Prng;
 use crate::table::{Coded, FIELDS, Scaled, fields};
@@ -222,6 +223,44 @@ pub fn random_flags(prng: &mut Prng) -> Vec<u8> {
         })
         .collect();
     flags::body_of(&flags)
+}
+
+/// A sound table of flags: most marks are yes.
+pub fn random_flag_table(prng: &mut Prng) -> FlagTable {
+    let mut table = FlagTable::all();
+    let times = prng.pick(&[3, 8, 20, 60]);
+    for flag in 1..=FLAGS {
+        for value in 1..=VALUES as u8 {
+            if prng.one_in(times) {
+                table.mark(flag, value, NO);
+            }
+        }
+        if table.permitted(flag).is_empty() {
+            table.mark(flag, 1 + prng.below(VALUES) as u8, YES);
+        }
+    }
+    table
+}
+
+/// Exchanges the flags that a table forbids for permitted ones, or for missing ones
+/// where a row permits none.
+pub fn permit_flags(prng: &mut Prng, table: &FlagTable, flags: &mut [u8]) {
+    for (number, flag) in (1..=FLAGS).zip(flags) {
+        if !table.permits(number, *flag) {
+            let permitted = [table.permitted(number), vec![0]].concat();
+            *flag = prng.pick(&permitted);
+        }
+    }
+}
+
+/// Sets one flag to a value that a table forbids, if there is one.
+pub fn forbid_flag(prng: &mut Prng, table: &FlagTable, flags: &mut [u8]) {
+    let forbids = |number: &usize| !table.forbidden(*number).is_empty();
+    let rows: Vec<usize> = (1..=FLAGS).filter(forbids).collect();
+    if !rows.is_empty() {
+        let number = prng.pick(&rows);
+        flags[number - 1] = prng.pick(&table.forbidden(number));
+    }
 }
 
 /// A text of runs of spaces, digits, letters, marks and escapes.

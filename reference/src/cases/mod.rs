@@ -2,6 +2,7 @@
 
 pub mod calls;
 pub mod characters;
+pub mod flag_tables;
 pub mod material;
 pub mod outside;
 pub mod pairs;
@@ -9,6 +10,7 @@ pub mod random;
 pub mod reports;
 
 use crate::call::{Answer, Call};
+use crate::flag_table::FlagTable;
 use crate::judge::{Report, judge};
 use crate::lister;
 use crate::outside::{Unpacked, characters, fresh, pack, same, unpack};
@@ -63,6 +65,10 @@ pub enum Case {
     Characters {
         table: Box<Table>,
     },
+    /// A table of flags as it is lent.
+    Load {
+        marks: Vec<u8>,
+    },
     /// A list of calls on one buffer.
     Calls {
         buffer: Vec<u8>,
@@ -102,14 +108,20 @@ pub enum Outcome {
         tail_out: Vec<u8>,
     },
     Characters(Box<Table>),
+    /// The table of flags is the one in force after the call.
+    Load {
+        result: Result<(), Refusal>,
+        table: FlagTable,
+    },
     /// For each call its answer and the buffer after it.
     Calls(Vec<(Answer, Vec<u8>)>),
 }
 
 impl Case {
-    pub fn run(&self) -> Outcome {
+    /// Runs the case under the table of flags in force, which a load may replace.
+    pub fn run(&self, flags: &mut FlagTable) -> Outcome {
         match self {
-            Case::Judge { report } => Outcome::Judge(Box::new(judge(report))),
+            Case::Judge { report } => Outcome::Judge(Box::new(judge(report, flags))),
             Case::Lister { input } => Outcome::Lister(lister::lines(input)),
             Case::Fresh { required, output } => {
                 let mut output = output.clone();
@@ -122,7 +134,7 @@ impl Case {
                 tail,
             } => {
                 let (mut values, mut tail) = (values.clone(), tail.clone());
-                let result = unpack(report, &mut values, &mut tail);
+                let result = unpack(report, &mut values, &mut tail, flags);
                 Outcome::Unpack {
                     result,
                     values,
@@ -137,10 +149,10 @@ impl Case {
                 output,
             } => {
                 let mut output = output.clone();
-                let result = pack(values, *word, *rptin, tail, &mut output);
+                let result = pack(values, *word, *rptin, tail, &mut output, flags);
                 Outcome::Pack { result, output }
             }
-            Case::Same { first, second } => Outcome::Same(same(first, second)),
+            Case::Same { first, second } => Outcome::Same(same(first, second, flags)),
             Case::Restore {
                 report,
                 values,
@@ -149,7 +161,7 @@ impl Case {
             } => {
                 let (mut values, mut tail) = (values.clone(), tail.clone());
                 let mut output = output.clone();
-                let result = restore(report, &mut values, &mut tail, &mut output);
+                let result = restore(report, &mut values, &mut tail, &mut output, flags);
                 Outcome::Restore {
                     result,
                     values,
@@ -176,6 +188,7 @@ impl Case {
                     &mut output,
                     &mut values_out,
                     &mut tail_out,
+                    flags,
                 );
                 Outcome::Recover {
                     result,
@@ -189,11 +202,16 @@ impl Case {
                 characters(&mut table);
                 Outcome::Characters(table)
             }
+            Case::Load { marks } => {
+                let result = flags.load(marks);
+                let table = *flags;
+                Outcome::Load { result, table }
+            }
             Case::Calls { buffer, calls } => {
                 let mut buffer = buffer.clone();
                 let mut answers = Vec::new();
                 for call in calls {
-                    let answer = call.run(&mut buffer);
+                    let answer = call.run(&mut buffer, flags);
                     answers.push((answer, buffer.clone()));
                 }
                 Outcome::Calls(answers)
@@ -202,7 +220,8 @@ impl Case {
     }
 }
 
-/// The cases that are the same for every seed.
+/// The cases that are the same for every seed. They begin and end with every flag
+/// permitted.
 pub fn fixed() -> Vec<Case> {
     let mut cases = reports::cases();
     cases.extend(outside::cases());
@@ -211,5 +230,6 @@ pub fn fixed() -> Vec<Case> {
         cases.extend([pair.both, pair.mended]);
     }
     cases.extend(characters::cases());
+    cases.extend(flag_tables::cases());
     cases
 }

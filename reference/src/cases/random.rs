@@ -4,7 +4,9 @@ use super::Case;
 use super::material::*;
 use super::outside::edge_values;
 use crate::call::Call;
+use crate::flag_table::FlagTable;
 use crate::flags;
+use crate::judge::judge;
 use crate::observation::Observation;
 use crate::prng::Prng;
 use crate::step;
@@ -94,7 +96,8 @@ pub fn damage_tail(prng: &mut Prng, draft: &mut Draft) {
 
 fn unpack_case(prng: &mut Prng) -> Case {
     let report = report(prng);
-    let room = crate::judge::judge(&report).map_or(5, |report| tail_of(&report.observation).len());
+    let room =
+        judge(&report, &FlagTable::all()).map_or(5, |report| tail_of(&report.observation).len());
     let tail = prng.pick(&[room, room, room + 7, room.saturating_sub(1)]);
     Case::Unpack {
         report,
@@ -162,7 +165,7 @@ fn calls_case(prng: &mut Prng) -> Case {
     let mut calls = Vec::new();
     for _ in 0..1 + prng.below(16) {
         let call = random_call(prng, &observation, buffer.len());
-        observation = step::step(&observation, buffer.len(), &call).0;
+        observation = step::step(&observation, buffer.len(), &call, &FlagTable::all()).0;
         calls.push(call);
     }
     Case::Calls { buffer, calls }

@@ -2,6 +2,7 @@
 
 use super::Case;
 use super::material::*;
+use crate::flag_table::FlagTable;
 use crate::flags;
 use crate::judge::judge;
 use crate::observation::Observation;
@@ -105,7 +106,9 @@ pub fn two_of_each_refusal() -> Vec<Vec<u8>> {
     for number in 1..=7 {
         let refused: Vec<&Vec<u8>> = damaged
             .iter()
-            .filter(|report| judge(report).is_err_and(|refusal| refusal.number == number))
+            .filter(|report| {
+                judge(report, &FlagTable::all()).is_err_and(|refusal| refusal.number == number)
+            })
             .collect();
         chosen.extend([refused[0].clone(), refused[refused.len() / 2].clone()]);
     }

@@ -1,6 +1,7 @@
 //! The head of the answer to a call outside the list: a tag, a refusal's number,
 //! and eight bytes.
 
+use crate::flag_table::FlagTable;
 use crate::refusal::Refusal;
 
 const REFUSED: u8 = 0;
@@ -14,6 +15,11 @@ pub fn head(result: Result<Option<usize>, Refusal>) -> Vec<u8> {
         Ok(None) => joined(NOTHING, 0, 0),
         Ok(Some(number)) => joined(NUMBER, 0, number),
     }
+}
+
+/// The answer to a load: the head, and the table of flags in force after it.
+pub fn loaded(result: Result<(), Refusal>, flags: &FlagTable) -> Vec<u8> {
+    [head(result.map(|()| None)), flags.marks().to_vec()].concat()
 }
 
 fn joined(tag: u8, refusal: u8, number: usize) -> Vec<u8> {

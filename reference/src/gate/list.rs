@@ -1,6 +1,7 @@
-//! A list of calls in its script form.
+//! A list of calls in its script form, or a table of flags lent between lists.
 
 use crate::call::Call;
+use crate::flag_table::FlagTable;
 use crate::gate::log::record_size;
 use crate::gate::script::{Ran, run, script};
 
@@ -11,6 +12,17 @@ pub const MOST_LOG: usize = 60_000;
 
 /// Every byte of the log before the list.
 pub const UNWRITTEN: u8 = 165;
+
+/// In place of the first byte of a buffer's length.
+const LOAD: u8 = 255;
+
+/// What a file of lists is made of.
+#[derive(Clone, Debug, PartialEq, Eq)]
+pub enum Item {
+    List(List),
+    /// A table of flags as it is lent, in force for the lists behind it.
+    Load(Vec<u8>),
+}
 
 #[derive(Clone, Debug, PartialEq, Eq)]
 pub struct List {
@@ -47,10 +59,10 @@ impl List {
         bytes
     }
 
-    /// The buffer after the list, and what comes of it.
-    pub fn run(&self) -> (Vec<u8>, Ran) {
+    /// The buffer after the list under a table of flags, and what comes of it.
+    pub fn run(&self, flags: &FlagTable) -> (Vec<u8>, Ran) {
         let mut buffer = self.buffer.clone();
-        let ran = run(&mut buffer, &self.script, self.room);
+        let ran = run(&mut buffer, &self.script, self.room, flags);
         (buffer, ran)
     }
 
@@ -67,6 +79,12 @@ impl List {
         bytes.extend(log);
         bytes
     }
+}
+
+/// A load's input.
+pub fn load(marks: &[u8]) -> Vec<u8> {
+    let length = u16::try_from(marks.len()).expect("a load keeps its limits");
+    [&[LOAD][..], &length.to_be_bytes(), marks].concat()
 }
 
 fn count(count: usize) -> [u8; 4] {

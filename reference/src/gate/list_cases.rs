@@ -1,4 +1,4 @@
-//! Lists of calls in script form.
+//! Lists of calls in script form, the lists of a library's own table of flags last.
 
 use std::collections::BTreeSet;
 
@@ -10,11 +10,12 @@ use crate::cases::material::*;
 use crate::cases::outside::edge_values;
 use crate::cases::random::random_call;
 use crate::cases::{pairs, reports};
-use crate::gate::list::{List, MOST_LOG};
+use crate::flag_table::FlagTable;
+use crate::gate::list::{Item, List, MOST_LOG};
 use crate::gate::log::{FRONT, HEAD, MARKED, record_size};
 use crate::gate::script::{entry, run, script};
 use crate::gate::sizes::{LONGEST_TAIL, observation_of_tail};
-use crate::gate::{sum_cases, text_cases};
+use crate::gate::{flag_cases, sum_cases, text_cases};
 use crate::judge::judge;
 use crate::observation::Observation;
 use crate::prng::Prng;
@@ -27,6 +28,14 @@ pub const CALLS: usize = 50;
 /// Given calls in a list, in groups of two or three; drawn ones fill it up.
 const GIVEN: usize = 48;
 
+/// Lists and loads from a seed.
+pub fn items(seed: u64) -> Vec<Item> {
+    let mut items: Vec<Item> = lists(seed).into_iter().map(Item::List).collect();
+    items.extend(flag_cases::items(seed));
+    items
+}
+
+/// The lists before the first load, with every flag permitted.
 pub fn lists(seed: u64) -> Vec<List> {
     let mut prng = Prng::new(seed);
     let mut lists = field_lists(&mut prng);
@@ -74,11 +83,11 @@ fn whole_list(prng: &mut Prng, buffer: Vec<u8>, given: &[Call]) -> List {
     let mut state = buffer.clone();
     let mut calls = given.to_vec();
     for call in given {
-        call.run(&mut state);
+        call.run(&mut state, &FlagTable::all());
     }
     while calls.len() < CALLS {
         let call = drawn_call(prng, &state);
-        call.run(&mut state);
+        call.run(&mut state, &FlagTable::all());
         calls.push(call);
     }
     List::of(buffer, &calls)
@@ -86,7 +95,8 @@ fn whole_list(prng: &mut Prng, buffer: Vec<u8>, given: &[Call]) -> List {
 
 /// The observation of a sound report.
 fn observation_of(buffer: &[u8]) -> Observation {
-    judge(buffer).expect("the report is sound").observation
+    let report = judge(buffer, &FlagTable::all());
+    report.expect("the report is sound").observation
 }
 
 /// A drawn call, seldom with long contents or outputs.
@@ -293,7 +303,7 @@ fn pair_lists(prng: &mut Prng) -> Vec<List> {
                 buffer: given,
                 calls: one,
             } = case
-                && judge(&given).is_ok()
+                && judge(&given, &FlagTable::all()).is_ok()
                 && !calls.contains(&one[0])
             {
                 buffer = given;
@@ -339,7 +349,7 @@ fn fitting_lists(prng: &mut Prng) -> Vec<List> {
         let mut calls = Vec::new();
         for _ in 0..GIVEN {
             let call = fitting_call(prng, &state);
-            call.run(&mut state);
+            call.run(&mut state, &FlagTable::all());
             calls.push(call);
         }
         lists.push(whole_list(prng, buffer, &calls));
@@ -458,7 +468,9 @@ pub fn one_of_each() -> Vec<Call> {
 /// A list of raw script bytes, with so much room left in the log where it ends.
 fn raw(script: Vec<u8>, left: usize) -> List {
     let buffer = held_buffer();
-    let written = run(&mut buffer.clone(), &script, MOST_LOG).log.len();
+    let written = run(&mut buffer.clone(), &script, MOST_LOG, &FlagTable::all())
+        .log
+        .len();
     List {
         buffer,
         script,
@@ -632,7 +644,7 @@ fn refused_pair_lists() -> Vec<List> {
     let mut grouped: Vec<(Vec<u8>, Vec<Call>)> = Vec::new();
     for pair in pairs::pairs() {
         if let Case::Calls { buffer, calls } = pair.both
-            && judge(&buffer).is_err()
+            && judge(&buffer, &FlagTable::all()).is_err()
         {
             match grouped.last_mut() {
                 Some((last, together)) if *last == buffer => together.extend(calls),

@@ -1,6 +1,7 @@
 //! Files for a program under test: what it is to read, and what it is to write.
 //! Every number in them is big-endian.
 
+pub mod flag_cases;
 pub mod head;
 pub mod list;
 pub mod list_cases;
@@ -20,7 +21,8 @@ use std::io;
 use std::path::Path;
 
 use crate::cases::Case;
-use list::List;
+use crate::flag_table::FlagTable;
+use list::{Item, load};
 use tally::Tally;
 
 /// The seed of both files if none is given.
@@ -36,8 +38,9 @@ pub struct Files {
 /// Records of calls outside the list.
 pub fn whole(cases: &[Case]) -> Files {
     let mut files = Files::empty();
+    let mut flags = FlagTable::all();
     for case in cases {
-        let outcome = case.run();
+        let outcome = case.run(&mut flags);
         files.stdin.extend(record::input(case));
         files.stdout.extend(record::answer(&outcome));
         files.tally.add_record(&outcome);
@@ -45,13 +48,25 @@ pub fn whole(cases: &[Case]) -> Files {
     files
 }
 
-pub fn lists(lists: &[List]) -> Files {
+/// Lists of calls, and loads between them.
+pub fn lists(items: &[Item]) -> Files {
     let mut files = Files::empty();
-    for list in lists {
-        let (after, ran) = list.run();
-        files.stdin.extend(list.input());
-        files.stdout.extend(list.answer(&after, &ran));
-        files.tally.add_list(list, &ran);
+    let mut flags = FlagTable::all();
+    for item in items {
+        match item {
+            Item::List(list) => {
+                let (after, ran) = list.run(&flags);
+                files.stdin.extend(list.input());
+                files.stdout.extend(list.answer(&after, &ran));
+                files.tally.add_list(list, &ran, &flags);
+            }
+            Item::Load(marks) => {
+                let result = flags.load(marks);
+                files.stdin.extend(load(marks));
+                files.stdout.extend(head::loaded(result, &flags));
+                files.tally.add_load(result);
+            }
+        }
     }
     files
 }

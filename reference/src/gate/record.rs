@@ -1,7 +1,7 @@
 //! A call outside the list as a record, and its answer.
 
 use crate::cases::{Case, Outcome};
-use crate::gate::head::head;
+use crate::gate::head::{head, loaded};
 use crate::outside::Unpacked;
 use crate::refusal::Refusal;
 use crate::text::Table;
@@ -15,12 +15,15 @@ const SAME: u8 = 6;
 const RESTORE: u8 = 7;
 const RECOVER: u8 = 8;
 const CHARACTERS: u8 = 9;
+const LOAD: u8 = 10;
 
-/// The longest report, input or output; the most values; the longest tails.
+/// The longest report, input or output; the most values; the longest tails; the most
+/// marks of a table of flags.
 pub const MOST_BYTES: usize = 2000;
 pub const MOST_VALUES: usize = 60;
 pub const MOST_UNPACK_TAIL: usize = 4000;
 pub const MOST_PACK_TAIL: usize = 4200;
+pub const MOST_MARKS: usize = 200;
 
 /// Whether a case is a record and keeps its limits.
 pub fn fits(case: &Case) -> bool {
@@ -74,6 +77,7 @@ pub fn fits(case: &Case) -> bool {
                 && tail_out.len() <= MOST_UNPACK_TAIL
         }
         Case::Characters { .. } => true,
+        Case::Load { marks } => marks.len() <= MOST_MARKS,
         Case::Calls { .. } => false,
     }
 }
@@ -146,6 +150,7 @@ pub fn input(case: &Case) -> Vec<u8> {
         ]
         .concat(),
         Case::Characters { table } => [vec![CHARACTERS], entries(table)].concat(),
+        Case::Load { marks } => [vec![LOAD], counted(marks)].concat(),
         Case::Calls { .. } => unreachable!("a list of calls is no record"),
     }
 }
@@ -194,6 +199,7 @@ pub fn answer(outcome: &Outcome) -> Vec<u8> {
         ]
         .concat(),
         Outcome::Characters(table) => [head(Ok(None)), entries(table)].concat(),
+        Outcome::Load { result, table } => loaded(*result, table),
         Outcome::Calls(_) => unreachable!("a list of calls is no record"),
     }
 }

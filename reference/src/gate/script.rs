@@ -1,6 +1,7 @@
 //! Scripts: the calls of a list as bytes, and what comes of them.
 
 use crate::call::{Answer, Call};
+use crate::flag_table::FlagTable;
 use crate::gate::log::{record, record_size};
 
 const READ_FIELD: u8 = 1;
@@ -128,9 +129,10 @@ pub struct Ran {
     pub log: Vec<u8>,
 }
 
-/// Runs a script on a buffer with a log of some room, up to the first entry that
-/// is cut off, of an unknown kind, or too long for what is left of the log.
-pub fn run(buffer: &mut [u8], script: &[u8], room: usize) -> Ran {
+/// Runs a script on a buffer with a log of some room, under one table of flags, up to
+/// the first entry that is cut off, of an unknown kind, or too long for what is left
+/// of the log.
+pub fn run(buffer: &mut [u8], script: &[u8], room: usize, flags: &FlagTable) -> Ran {
     let mut ran = Ran {
         calls: Vec::new(),
         taken: 0,
@@ -140,7 +142,7 @@ pub fn run(buffer: &mut [u8], script: &[u8], room: usize) -> Ran {
         if record_size(&call) > room - ran.log.len() {
             break;
         }
-        let answer = call.run(buffer);
+        let answer = call.run(buffer, flags);
         ran.log.extend(record(&answer));
         ran.taken = script.len() - rest.len();
         ran.calls.push((call, answer));

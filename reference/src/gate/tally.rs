@@ -5,6 +5,7 @@ use std::fmt;
 
 use crate::call::Call;
 use crate::cases::Outcome;
+use crate::flag_table::FlagTable;
 use crate::gate::list::List;
 use crate::gate::script::Ran;
 use crate::judge::judge;
@@ -15,6 +16,8 @@ use crate::refusal::Refusal;
 pub struct Tally {
     pub counts: BTreeMap<(&'static str, u8), usize>,
     pub lists: usize,
+    /// Calls of lists.
+    pub calls: usize,
     pub lists_on_refused_reports: usize,
     pub lists_ended_early: usize,
     /// Lists whose log is longer than what is written.
@@ -33,14 +36,20 @@ impl Tally {
             Outcome::Restore { result, .. } => ("restore", number(result)),
             Outcome::Recover { result, .. } => ("recover", number(result)),
             Outcome::Characters(_) => ("characters", 0),
+            Outcome::Load { result, .. } => ("load", number(result)),
             Outcome::Calls(_) => unreachable!("a list of calls is no record"),
         };
         self.add(kind, refusal);
     }
 
-    pub fn add_list(&mut self, list: &List, ran: &Ran) {
+    pub fn add_load(&mut self, result: Result<(), Refusal>) {
+        self.add("load", number(&result));
+    }
+
+    pub fn add_list(&mut self, list: &List, ran: &Ran, flags: &FlagTable) {
         self.lists += 1;
-        self.lists_on_refused_reports += usize::from(judge(&list.buffer).is_err());
+        self.calls += ran.calls.len();
+        self.lists_on_refused_reports += usize::from(judge(&list.buffer, flags).is_err());
         self.lists_ended_early += usize::from(ran.taken < list.script.len());
         self.longer_logs += usize::from(ran.log.len() < list.room);
         for (call, answer) in &ran.calls {
@@ -109,7 +118,7 @@ impl fmt::Display for Tally {
                 "lists {}: on refused reports {}, ended early {}, log longer than what is written {}",
                 self.lists, self.lists_on_refused_reports, self.lists_ended_early, self.longer_logs
             )?;
-            writeln!(f, "calls {}", self.counts.values().sum::<usize>())?;
+            writeln!(f, "calls {}", self.calls)?;
         }
         Ok(())
     }

@@ -1,6 +1,8 @@
 //! Bytes and codes worked out by hand, and a plain way to alter bytes.
 #![allow(dead_code)]
 
+pub mod all_flags;
+
 use reference::refusal::{Refusal, refusal};
 use reference::text::Table;
 
