@@ -1,6 +1,6 @@
--- Three lists of examples, each checked by one computed fact. The first has the figures of FORMAT 12. The second has cases in
+-- Four lists of examples, each checked by one computed fact. The first has the figures of FORMAT 12. The second has cases in
 -- which two refusals fit at once, for the orders of FORMAT 5 to 7, zeroed bytes, unpack and pack, and edges of FORMAT 2 to 9.
--- The third has the table of the characters.
+-- The third has the table of the characters, the fourth tables of permitted flags.
 -- Assumes nothing.
 use Prim.Native.Nat.{ℕ, zero, suc, _+_, _-_, _/_, _^_}
 use mathlib.Core.List.{List, [], _∷_, _++_, map}
@@ -12,7 +12,7 @@ use Rattle.format.specs.Order.{Refusal, first}
 use Rattle.format.specs.Field.{Field, minus, table, fieldAt, required, scaled, coded, scaledOf, codedOf, inRange, entryOf, codeOf, entries, codes}
 use Rattle.format.specs.Bits.{bits, number, bitsOf, bitField, total, offset, readFields, writeFields}
 use Rattle.format.specs.Nibbles.{attachment, nibbles, bytes, padded, attachmentNibbles, tailNibbles, attachmentsOf, among}
-use Rattle.format.specs.Flags.{weights, weight, totalWeight, allMissing, qualityCode, allYes, flagsFit, flagBody, withFlag, flagsValid}
+use Rattle.format.specs.Flags.{FlagTable, markOf, weights, weight, totalWeight, allMissing, qualityCode, allYes, flagsFit, flagBody, withFlag, flagsValid}
 use Rattle.format.specs.ShipText.{charCode, short, pairByte, codeNibbles, upFrom, entry, charTable, classify, byteOf, escapable, isSpace, symbolNibbles, fulls, rest, spaceRun, writeFrom}
 use Rattle.format.specs.ShipText.{writeText, spaces, textStep, stateAfter, symbolsOf, readFrom, endFrom, atEnd, textValid, readText}
 use Rattle.format.specs.Observation.{Observation, widths, checksum, cardNumbers, cardNibbles, packing}
@@ -24,6 +24,7 @@ use Rattle.format.specs.Machine.{course}
 use Rattle.format.specs.Buffer.{layout, effect, Shown, calls, run, claim}
 use Rattle.format.specs.Whole.{freshObservation, freshChecks, Wrote, fresh, presenceFrom, countPresent, Unpacked, unpackGives, unpack, packChecks, entriesGiven}
 use Rattle.format.specs.Whole.{countFrom, packObservation, packOrder, pack}
+use Rattle.format.specs.Loading.{rows, tableOf, allMarks, someYes, everyRow, loadChecks, loadAnswer, inForce}
 use Rattle.format.specs.Lister.{digitsFrom, fieldLines, listing}
 use Rattle.format.specs.declared.Scaled.{Scaled}
 use Rattle.format.proofs.Test.{Example, same, every}
@@ -433,3 +434,94 @@ characters =
 pub characters-hold : T (every characters)
 unfolding entryAt nibblesOf characters example same every total upFrom entry charTable charCode codeNibbles
 characters-hold = tt
+
+-- ---- tables of permitted flags
+
+-- a table that is lent: every mark yes, but for the byte at place i
+without : ℕ → List ℕ
+without i = set (replicate 140 1) i 0
+
+-- fourteen rows with one yes, at the same column
+only : ℕ → List ℕ
+only i = rowsOf 14
+  where
+    rowsOf : ℕ → List ℕ
+    rowsOf zero = []
+    rowsOf (suc n) = set (replicate 10 0) i 1 ++ rowsOf n
+
+-- flag 1 may not be A, 2
+noA : FlagTable
+noA = tableOf (without 1)
+
+under : FlagTable → List ℕ → List Call → List ℕ
+under marks b cs = answers (claim marks b cs .answers)
+
+-- a report whose flag 1 is A, made under the table of every value; and its content of id 1
+withA : List ℕ
+withA = claim allYes roomy (put1 ∷ edits (setFlag 1 2) ∷ []) .state
+
+contentA : List ℕ
+contentA = 2 ∷ (replicate 14 0 ++ (2 ∷ []))
+
+-- the answer to a table that is lent, and the table in force afterwards
+loading : FlagTable → List ℕ → List ℕ
+loading former lent = answer (loadAnswer lent) ++ joined (inForce former lent)
+
+packedUnder : FlagTable → List ℕ → List ℕ → List ℕ
+packedUnder marks ns out = let w = pack marks wholeValues requiredBits 0 ns out in answer (w .answer) ++ w .out
+
+pub tables : List Example
+tables =
+    -- where a mark stands: flag 1 at S, flag 2 at R, flag 14 at S
+    example (markOf (tableOf (without 9)) 1 10 ∷ markOf (tableOf (without 9)) 2 1 ∷ []) (0 ∷ 1 ∷ [])
+    ∷ example (markOf (tableOf (without 10)) 1 10 ∷ markOf (tableOf (without 10)) 2 1 ∷ []) (1 ∷ 0 ∷ [])
+    ∷ example (markOf (tableOf (without 139)) 14 10 ∷ markOf (tableOf (without 139)) 14 9 ∷ markOf (tableOf (without 139)) 13 10 ∷ []) (0 ∷ 1 ∷ 1 ∷ [])
+    -- loading: accepted; 139 and 141 bytes, none; a byte 2, a byte 255; a first and a last row without a yes. The former table stays
+    ∷ example (loading allYes (without 1)) (1 ∷ without 1)
+    ∷ example (loading noA (only 9)) (1 ∷ only 9)
+    ∷ example (loading noA (replicate 139 1)) (refuses 16 0 ++ without 1)
+    ∷ example (loading noA (replicate 141 1)) (refuses 16 0 ++ without 1)
+    ∷ example (loading noA []) (refuses 16 0 ++ without 1)
+    ∷ example (loading noA (set (replicate 140 1) 0 2)) (refuses 16 0 ++ without 1)
+    ∷ example (loading noA (set (replicate 140 1) 139 255)) (refuses 16 0 ++ without 1)
+    ∷ example (loading noA (replicate 10 0 ++ replicate 130 1)) (refuses 16 0 ++ without 1)
+    ∷ example (loading noA (replicate 130 1 ++ replicate 10 0)) (refuses 16 0 ++ without 1)
+    ∷ example (loading allYes (replicate 131 1 ++ replicate 9 0)) (1 ∷ (replicate 131 1 ++ replicate 9 0))
+    -- set flag: 8 before 9, 9 before 11; another value, another flag
+    ∷ example (under noA freshBytes (edits (setFlag 15 2) ∷ edits (setFlag 1 2) ∷ edits (setFlag 1 1) ∷ edits (setFlag 2 2) ∷ []))
+    (refuses 8 0 ++ (refuses 9 1 ++ (refuses 11 0 ++ refuses 11 0)))
+    ∷ example (under noA roomy (put1 ∷ edits (setFlag 1 2) ∷ edits (setFlag 1 3) ∷ edits (setFlag 2 2) ∷ edits (setFlag 1 11) ∷ [])) (1 ∷ (refuses 9 1 ++ (1 ∷ 1 ∷ refuses 9 1)))
+    -- put: 14, before 13; the same content where every value is permitted
+    ∷ example (under noA freshBytes (edits (put 1 contentA) ∷ [])) (refuses 14 0)
+    ∷ example (under allYes freshBytes (edits (put 1 contentA) ∷ [])) (refuses 13 0)
+    -- a report made under one table is refused under another, by every call, and no byte changes
+    ∷ example (take 1 (judged (judge allYes withA)) ++ judged (judge noA withA)) (1 ∷ refuses 6 1)
+    ∷ example
+    (under noA withA
+    (reads (readField 1) ∷ edits (setField 31 (scaled (pos 1))) ∷ edits (clearField 4) ∷ reads (readFlag 1) ∷ edits (setFlag 1 1) ∷ edits (clearFlag 1)
+    ∷ edits (put 1 flagless) ∷ edits (remove 1) ∷ edits (putText (65 ∷ [])) ∷ []))
+    (joined (replicate 9 (refuses 6 1)))
+    ∷ example (under noA withA (fetches (fetch 1 (7 ∷ [])) ∷ fetches (fetchText (8 ∷ [])) ∷ [])) (refuses 6 1 ++ (7 ∷ (refuses 6 1 ++ one 8)))
+    ∷ example (claim noA withA (edits (clearFlag 1) ∷ edits (remove 1) ∷ []) .state) withA
+    ∷ example (answer (unpack noA withA (replicate 46 (pos 5)) (replicate 19 5) .answer)) (refuses 6 1)
+    -- pack's tail, by the attachment's position
+    ∷ example (packedUnder noA ((0 ∷ 1 ∷ 5 ∷ 9 ∷ 1 ∷ 0 ∷ 1 ∷ []) ++ contentA) (replicate 60 7)) (refuses 6 2 ++ replicate 60 7)
+    ∷ example (take 4 (packedUnder allYes ((0 ∷ 1 ∷ 5 ∷ 9 ∷ 1 ∷ 0 ∷ 1 ∷ []) ++ contentA) (replicate 60 7))) (1 ∷ 1 ∷ 0 ∷ 49 ∷ [])
+    -- a missing flag under a table of one value, and under one without a yes; any other number than 1 is no
+    ∷ example (under (tableOf (only 9)) roomy (put1 ∷ edits (setFlag 3 10) ∷ edits (setFlag 3 9) ∷ edits (clearFlag 3) ∷ [])) (1 ∷ 1 ∷ (refuses 9 3 ++ yes))
+    ∷ example (under (replicate 14 (replicate 10 0)) roomy (put1 ∷ edits (clearFlag 14) ∷ edits (setFlag 14 10) ∷ [])) (1 ∷ 1 ∷ refuses 9 14)
+    ∷ example (under (tableOf (set (replicate 140 1) 46 2)) roomy (put1 ∷ edits (setFlag 5 7) ∷ edits (setFlag 5 6) ∷ [])) (1 ∷ (refuses 9 5 ++ yes))
+    -- the lister has the table of every value
+    ∷ example (take 4 (listing withA)) (49 ∷ 32 ∷ 49 ∷ 10 ∷ [])
+    ∷ []
+
+pub tables-hold : T (every tables)
+unfolding without only noA under withA contentA loading packedUnder tables rows allMarks someYes everyRow loadChecks loadAnswer inForce one wholeValues requiredBits unpack
+    unpackGives presenceFrom countPresent packChecks entriesGiven countFrom packObservation packOrder pack signed optional given valueNumbers observationNumbers refusal
+    judged answer joined answers yes refuses example freshExample freshBytes freshObservationExample flagless put1 roomy same every first table fieldAt required scaledOf
+    codedOf inRange entryOf codeOf entries codes bits number bitsOf total readFields writeFields nibbles bytes padded attachmentNibbles tailNibbles attachmentsOf among
+    weights weight totalWeight allMissing qualityCode allYes flagsFit flagBody withFlag flagsValid charCode short pairByte codeNibbles classify byteOf escapable isSpace
+    symbolNibbles fulls rest spaceRun writeFrom writeText spaces textStep stateAfter symbolsOf readFrom endFrom atEnd textValid readText widths checksum cardNumbers
+    cardNibbles packing observationOf fieldChecks bodyValid attachmentChecks reportChecks judge stands contentOf putIn removeFrom made gives outputsOf writes overfull
+    overEach allNibbles callChecks checks step layout effect course calls run claim freshObservation freshChecks fresh digitsFrom fieldLines listing
+tables-hold = tt
