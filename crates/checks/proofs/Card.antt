@@ -24,7 +24,7 @@ use Rattle.checks.specs.Parts.{Part, WordFields, fieldsA, fieldsB, field
 use Rattle.checks.specs.declared.CardCheck.the-variants.{Checksum}
 use Rattle.checks.specs.Walk.{codeRefusal}
 use Rattle.checks.proofs.Turns as turns
-use Rattle.checks.proofs.Turned.{field-within}
+use Rattle.words.proofs.Turned.{field-within}
 use Rattle.checks.proofs.Parts.{shown, lower, apart, none-above, all-above, picked-at, every, every-at}
 use Rattle.checks.proofs.Places.{Near, near-add, near-low, near-mod, near-placed, near-summed, summed-add, valued, allValued, placed-all}
 

@@ -1,4 +1,3 @@
 pub mod Answers
-pub mod Turned
 pub mod Parts
 pub mod Walk

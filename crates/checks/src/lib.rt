@@ -5,7 +5,6 @@ ghost use lib.ListN.{length};
 ghost use lib.Bits.{bitAnd, bitXor};
 ghost use Rattle.format.specs.Bits.{bitField};
 ghost use Rattle.checks.specs.Answers.{cardCheck};
-ghost use Rattle.checks.specs.Turned.{little2, little4, little8, turned2, turned4};
 ghost use Rattle.checks.specs.Parts.{AllPassed, summed, atPlace};
 ghost use Rattle.checks.specs.Walk.{codeRefusal};
 use format::Coded;
@@ -14,57 +13,6 @@ use format::Coded;
 pub enum CardCheck {
     Refused(u8, usize),
     Checksum(u64),
-}
-
-// ---- a word of eight bytes: loaded with its first byte lowest, then turned; the compiler makes one instruction of each
-
-// Two bytes as a number, the first lowest.
-fn load_two(s: &[u8], i: usize) -> u64
-    requires { ⌜ i + 2 ≤ length (now s) ⌝ }
-    ensures { λ r. ⌜ (r ≡ little2 (now (s .entry)) i) × (r < 65536) ⌝ }
-{
-    numbers::wide(s[i + 1]) * 256 + numbers::wide(s[i])
-}
-
-// Four bytes.
-fn load_four(s: &[u8], i: usize) -> u64
-    requires { ⌜ i + 4 ≤ length (now s) ⌝ }
-    ensures { λ r. ⌜ (r ≡ little4 (now (s .entry)) i) × (r < 4294967296) ⌝ }
-{
-    load_two(s, i + 2) * 65536 + load_two(s, i)
-}
-
-// Eight bytes.
-fn load(s: &[u8], i: usize) -> u64
-    requires { ⌜ i + 8 ≤ length (now s) ⌝ }
-    ensures { λ r. ⌜ r ≡ little8 (now (s .entry)) i ⌝ }
-{
-    load_four(s, i + 4) * 4294967296 + load_four(s, i)
-}
-
-// A number of two bytes with its bytes in the other order.
-fn turn_two(x: u64) -> u64
-    requires { ⌜ x < 65536 ⌝ }
-    ensures { λ r. ⌜ (r ≡ turned2 x) × (r < 65536) ⌝ }
-{
-    x % 256 * 256 + x / 256
-}
-
-// A number of four bytes.
-fn turn_four(x: u64) -> u64
-    requires { ⌜ x < 4294967296 ⌝ }
-    ensures { λ r. ⌜ (r ≡ turned4 x) × (r < 4294967296) ⌝ }
-{
-    turn_two(x % 65536) * 65536 + turn_two(x / 65536)
-}
-
-// The number in eight bytes from byte i on.
-fn word(s: &[u8], i: usize) -> u64
-    requires { ⌜ i + 8 ≤ length (now s) ⌝ }
-    ensures { λ r. ⌜ r ≡ bitField (now (s .entry)) (8 * i) 64 ⌝ }
-{
-    let x = load(s, i);
-    turn_four(x % 4294967296) * 4294967296 + turn_four(x / 4294967296)
 }
 
 // ---- the check: of every other field of a word at once, so that what is added to one carries into a bit that was masked out
@@ -207,11 +155,11 @@ pub fn check(s: &[u8]) -> CardCheck
     ensures { λ r. ⌜ r ≡ cardCheck (now (s .entry)) ⌝ }
 {
     // fields 1 to 7, 8 to 19, 20 to 28, 29 to 38, 39 to 46, each whole in one word with a bit above it
-    let a = word(s, 1);
-    let b = word(s, 8);
-    let c = word(s, 15);
-    let d = word(s, 22);
-    let e = word(s, 29);
+    let a = words::word(s, 1);
+    let b = words::word(s, 8);
+    let c = words::word(s, 15);
+    let d = words::word(s, 22);
+    let e = words::word(s, 29);
     if faults(a, b, c, d, e) == 0 {
         return CardCheck::Checksum(checksum(a, b, c, d, e));
     }

@@ -3,17 +3,21 @@
 use Prim.Native.Nat.{ℕ, zero, suc, _+_, _-_, _*_, _/_, _%_, _^_, _≤_, _<_}
 use native.Mathlib.Omega.{arith}
 use native.Mathlib.Numerals.{add-one}
-use native.Mathlib.Nat.{pow-le-pow-right, pow-suc, zero-lt-suc}
+use native.Mathlib.Nat.{pow-le-pow-right, pow-suc, zero-lt-suc, mul-assoc, mul-comm, div-div-eq-div-mul, div-add-mod'}
 use mathlib.Core.Path.{_≡_, refl, sym, ap, ap₂, _∙_}
 use mathlib.Core.Bool.{Bool, true, false, cond, not, _&&_, _||_}
 use mathlib.Core.List.{List, [], _∷_, _++_, append-assoc}
-use lib.ListN.{length, getD, take, replicate, length-append}
-use lib.Seq.{take-at, take-suc, take-all, getD-append-add}
+use lib.ListN.{length, getD, take, drop, length-append, length-drop}
+use lib.Seq.{take-at, take-suc, take-add, take-all, drop-cons, drop-drop, getD-drop, getD-append-add}
 use lib.Dec.{eqb, leb}
 use borrow.Author.Tests.{le-leb, lt-leb, ne-eqb, eqb-true, eqb-false, leb-true, not-true}
 use Rattle.format.specs.Order.{between}
+use Rattle.format.specs.Bits.{bitField, Bytes}
+use Rattle.format.specs.Nibbles.{nibbles}
 use Rattle.format.specs.Flags.{FlagTable, isFlag, weights, weight, totalWeight, allMissing, qualityCode, flagInRange, flagFits, flagsFit, flagsValid}
 use Rattle.laws.proofs.Sequences.{and-true, test-case}
+use Rattle.laws.proofs.Nibbles.{length-nibbles, nibbles-drop}
+use Rattle.words.proofs.Turned.{join, byte}
 use Rattle.laws.proofs.Order.{between-in}
 use Rattle.laws.proofs.Flags.{missing-fits, flag-set-valid}
 use Rattle.laws.proofs.Characters.{allBelow, at-below}
@@ -60,6 +64,95 @@ in-more n w x h =
     let q : (w * 16 + x) / 16 ≡ w = omega arith in
     let r : (w * 16 + x) % 16 ≡ x = omega arith in
     ap₂ (λ (a b : ℕ). nibblesIn n a ++ (b ∷ [])) q r
+
+-- the highest nibble is the first
+in-first : (n w : ℕ) → nibblesIn (suc n) w ≡ (w / 16 ^ n % 16) ∷ nibblesIn n w
+unfolding nibblesIn
+in-first zero w = let e : w / 1 ≡ w = omega arith in ap (λ (x : ℕ). x % 16 ∷ []) (sym e)
+in-first (suc n) w =
+    let e : w / 16 / 16 ^ n ≡ w / 16 ^ suc n = div-div-eq-div-mul w 16 (16 ^ n) ∙ ap (λ (x : ℕ). w / x) (mul-comm 16 (16 ^ n) ∙ sym (pow-suc 16 n)) in
+    ap (λ (l : List ℕ). l ++ (w % 16 ∷ [])) (in-first n (w / 16)) ∙ ap (λ (x : ℕ). (x % 16) ∷ (nibblesIn n (w / 16) ++ (w % 16 ∷ []))) e
+
+-- what stands above the n nibbles is not looked at
+in-low : (n x w : ℕ) → nibblesIn n (x * 16 ^ n + w) ≡ nibblesIn n w
+unfolding nibblesIn
+in-low zero x w = refl
+in-low (suc n) x w =
+    let p = pow-suc 16 n in
+    let q : (x * 16 ^ suc n + w) / 16 ≡ x * 16 ^ n + w / 16 = ap (λ (k : ℕ). (x * k + w) / 16) p ∙ ap (λ (k : ℕ). (k + w) / 16) (sym (mul-assoc x (16 ^ n) 16)) ∙ omega arith in
+    let r : (x * 16 ^ suc n + w) % 16 ≡ w % 16 = ap (λ (k : ℕ). (x * k + w) % 16) p ∙ ap (λ (k : ℕ). (k + w) % 16) (sym (mul-assoc x (16 ^ n) 16)) ∙ omega arith in
+    ap₂ (λ (a b : ℕ). nibblesIn n a ++ (b ∷ [])) q r ∙ ap (λ (l : List ℕ). l ++ (w % 16 ∷ [])) (in-low n x (w / 16))
+
+in-rest : (n w : ℕ) → nibblesIn n (w % 16 ^ n) ≡ nibblesIn n w
+in-rest n w = sym (ap (nibblesIn n) (sym (div-add-mod' w (16 ^ n))) ∙ in-low n (w / 16 ^ n) (w % 16 ^ n))
+
+-- ---- n bytes of a packed buffer as a number
+
+module _ (s : List ℕ) (bs : Bytes s) where
+  byte-nibbles : (i : ℕ) → i < length s → take 2 (drop (2 * i) (nibbles s)) ≡ getD s i 0 / 16 ∷ getD s i 0 % 16 ∷ []
+  unfolding nibbles
+  byte-nibbles i h = ap (take 2) (sym (nibbles-drop i s) ∙ ap nibbles (drop-cons s i 0 h))
+
+  bytes-in : (n i : ℕ) → i + n ≤ length s → nibblesIn (2 * n) (bitField s (8 * i) (8 * n)) ≡ take (2 * n) (drop (2 * i) (nibbles s))
+  unfolding nibblesIn
+  bytes-in zero i h = refl
+  bytes-in (suc n) i h =
+      let x : ℕ = bitField s (8 * i) (8 * n) in
+      let b : ℕ = getD s (i + n) 0 in
+      let l = bs (i + n) in
+      let two : 2 * suc n ≡ suc (suc (2 * n)) = omega arith in
+      let eight : 8 * suc n ≡ 8 * n + 8 = omega arith in
+      let at : 8 * i + 8 * n ≡ 8 * (i + n) = omega arith in
+      let word : bitField s (8 * i) (8 * suc n) ≡ x * 256 + b =
+      ap (bitField s (8 * i)) eight ∙ sym (join s (8 * i) (8 * n) 8 (omega arith)) ∙ ap (λ (y : ℕ). x * 256 + y) (ap (λ (o : ℕ). bitField s o 8) at ∙ byte s bs (i + n) (omega arith)) in
+      let high : (x * 256 + b) / 16 / 16 ≡ x = omega arith in
+      let mid : (x * 256 + b) / 16 % 16 ≡ b / 16 = omega arith in
+      let low : (x * 256 + b) % 16 ≡ b % 16 = omega arith in
+      let place : 2 * i + 2 * n ≡ 2 * (i + n) = omega arith in
+      let more : 2 * n + 2 ≡ 2 * suc n = omega arith in
+      ap₂ nibblesIn two word
+      ∙ ap (λ (l : List ℕ). l ++ ((x * 256 + b) % 16 ∷ [])) (ap₂ (λ (y z : ℕ). nibblesIn (2 * n) y ++ (z ∷ [])) high mid)
+      ∙ append-assoc (nibblesIn (2 * n) x) (b / 16 ∷ []) ((x * 256 + b) % 16 ∷ [])
+      ∙ ap₂ (λ (l : List ℕ) (z : ℕ). l ++ (b / 16 ∷ z ∷ [])) (bytes-in n i (omega arith)) low
+      ∙ ap (λ (l : List ℕ). take (2 * n) (drop (2 * i) (nibbles s)) ++ l)
+      (sym (ap (take 2) (drop-drop (2 * n) (2 * i) (nibbles s) ∙ ap (λ (k : ℕ). drop k (nibbles s)) place) ∙ byte-nibbles (i + n) (omega arith)))
+      ∙ sym (take-add (2 * n) 2 (drop (2 * i) (nibbles s))) ∙ ap (λ (k : ℕ). take k (drop (2 * i) (nibbles s))) more
+
+  pub even-place : (at w : ℕ) → at + 16 ≤ 2 * length s → at % 2 ≡ 0 → w ≡ bitField s (8 * (at / 2)) 64 → nibblesIn 16 w ≡ take 16 (drop at (nibbles s))
+  even-place at w h e is =
+      let p : 2 * (at / 2) ≡ at = omega arith in
+      ap (nibblesIn 16) is ∙ bytes-in 8 (at / 2) (omega arith) ∙ ap (λ (k : ℕ). take 16 (drop k (nibbles s))) p
+
+  pub odd-place : (at w x : ℕ) → at + 16 ≤ 2 * length s → (at % 2 ≡ 0 → ⊥) → w ≡ bitField s (8 * (at / 2)) 64 → x ≡ getD s (at / 2 + 8) 0
+      → nibblesIn 16 (w % 1152921504606846976 * 16 + x / 16) ≡ take 16 (drop at (nibbles s))
+  unfolding nibbles
+  odd-place at w x h n is ex =
+      let i : ℕ = at / 2 in
+      let p : at ≡ 1 + 2 * i = omega arith in
+      let l = bs (i + 8) in
+      let small : x / 16 < 16 = omega arith in
+      let all : nibblesIn 16 w ≡ take 16 (drop (2 * i) (nibbles s)) = ap (nibblesIn 16) is ∙ bytes-in 8 i (omega arith) in
+      let behind : nibblesIn 15 w ≡ take 15 (drop at (nibbles s)) =
+      ap (drop 1) (sym (in-first 15 w) ∙ all) ∙ drop-take-one (drop (2 * i) (nibbles s)) ∙ ap (take 15) (drop-drop 1 (2 * i) (nibbles s) ∙ ap (λ (k : ℕ). drop k (nibbles s)) (omega-at at i p)) in
+      let k : at + 15 ≡ 2 * (i + 8) = omega arith in
+      let last : getD (drop at (nibbles s)) 15 0 ≡ x / 16 =
+      getD-drop at (nibbles s) 15 0 ∙ ap (λ (m : ℕ). getD (nibbles s) m 0) k ∙ high-half (i + 8) (omega arith) ∙ ap (λ (y : ℕ). y / 16) (sym ex) in
+      in-more 15 (w % 1152921504606846976) (x / 16) small
+      ∙ ap₂ (λ (ns : List ℕ) (y : ℕ). ns ++ (y ∷ [])) (in-rest 15 w ∙ behind) (sym last)
+      ∙ sym (take-suc (drop at (nibbles s)) 15 0 (rw (length-drop, length-nibbles) (omega arith)))
+    where
+      drop-take-one : (l : List ℕ) → drop 1 (take 16 l) ≡ take 15 (drop 1 l)
+      drop-take-one [] = refl
+      drop-take-one (y ∷ l) = refl
+
+      omega-at : (at i : ℕ) → at ≡ 1 + 2 * i → 2 * i + 1 ≡ at
+      omega-at at i p = omega arith
+
+      high-half : (j : ℕ) → j < length s → getD (nibbles s) (2 * j) 0 ≡ getD s j 0 / 16
+      high-half j h = let z : 2 * j ≡ 2 * j + 0 = omega arith in
+          ap (λ (m : ℕ). getD (nibbles s) m 0) z ∙ sym (getD-drop (2 * j) (nibbles s) 0 0) ∙ ap (λ (l : List ℕ). getD l 0 0) (sym (nibbles-drop j s) ∙ ap nibbles (drop-cons s j 0 h))
+
+-- ---- a nibble a byte
 
 -- the first i nibbles of a row have been read
 pub record Reading (row : List ℕ) (i w : ℕ) : Type 0 where

@@ -1,10 +1,10 @@
 // The flags of attachment 1: whether a body is valid under a table of permitted flags, and the quality code of fourteen flags.
 ghost use mathlib.Core.Path.{_≡_};
 ghost use mathlib.Core.Bool.{_||_};
-ghost use Prim.Native.Nat.{_+_, _≤_, _<_, _^_, _/_};
-ghost use lib.ListN.{length};
+ghost use Prim.Native.Nat.{_+_, _*_, _≤_, _<_, _^_};
+ghost use lib.ListN.{length, take, drop};
 ghost use lib.Dec.{eqb};
-ghost use Rattle.format.specs.Nibbles.{Nibbles};
+ghost use Rattle.format.specs.Nibbles.{nibbles, Nibbles};
 ghost use Rattle.format.specs.Flags.{weight, totalWeight, flagInRange, flagsFit, flagsValid, qualityCode};
 ghost use Rattle.nibble.specs.View.{view, part};
 ghost use Rattle.flags.specs.Word.{nibblesIn, Column};
@@ -12,20 +12,45 @@ ghost use Rattle.flags.specs.Missing.{MissingPermitted};
 use format::FlagTable;
 use nibble::Cursor;
 
-// The sixteen nibbles from a place on as one number, the first nibble highest.
+// ---- the sixteen nibbles of a body as one number, the first highest
+
+// Of a packed buffer, from a place on.
+fn sixteen_packed(s: &[u8], at: usize) -> u64
+    requires { ⌜ (at + 16 ≤ 2 * length (now s)) × (at ≤ 2 ^ 32) ⌝ }
+    ensures { λ r. ⌜ nibblesIn 16 r ≡ take 16 (drop at (nibbles (now (s .entry)))) ⌝ }
+{
+    let i = at / 2;
+    let w = words::word(s, i);
+    if at % 2 == 0 {
+        return w;
+    }
+    w % 1152921504606846976 * 16 + numbers::wide(s[i + 8]) / 16
+}
+
+// Of a buffer with a nibble a byte.
+fn gather(s: &[u8], at: usize) -> u64
+    requires { ⌜ Nibbles (now s) × (at + 16 ≤ length (now s)) × (at ≤ 2 ^ 32) ⌝ }
+    ensures { λ r. ⌜ nibblesIn 16 r ≡ take 16 (drop at (now (s .entry))) ⌝ }
+{
+    let mut w = 0;
+    let mut i = 0;
+    while i < 16 {
+        w = w * 16 + numbers::wide(s[at + i]);
+        i += 1;
+    }
+    w
+}
+
 fn sixteen(s: &[u8], c: Cursor) -> u64
     requires { ⌜ Nibbles (view (c .packed) (now s)) × (c .at + 16 ≤ length (view (c .packed) (now s))) × (c .at ≤ 2 ^ 32) ⌝ }
     ensures { λ r. ⌜ nibblesIn 16 r ≡ part (now (s .entry)) c 16 ⌝ }
 {
     let at = c.at;
     let packed = c.packed;
-    let mut w = 0;
-    let mut i = 0;
-    while i < 16 {
-        w = w * 16 + numbers::wide(nibble::nibble_at(s, at + i, packed));
-        i += 1;
+    if packed {
+        return sixteen_packed(s, at);
     }
-    w
+    gather(s, at)
 }
 
 // ---- the quality code

@@ -1,12 +1,12 @@
--- `checks::load_four` meets its contract.
+-- `words::load_four` meets its contract.
 -- Assumes nothing.
 use Prim.Native.Nat.{ℕ, _+_, _*_}
 use native.Mathlib.Omega.{arith}
 use mathlib.Core.Path.{ap₂}
-use Rattle.checks.specs.Turned.{little4}
+use Rattle.words.specs.Turned.{little4}
 use borrow.Author.Needs.{needs}
-use Rattle.checks.proofs.load_four.Statement.{statement}
-use Rattle.checks.proofs.load_four.Tie as tie
+use Rattle.words.proofs.load_four.Statement.{statement}
+use Rattle.words.proofs.load_four.Tie as tie
 
 add-load-two : tie.Need-add-load-two
 add-load-two c = search needs

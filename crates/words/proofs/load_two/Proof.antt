@@ -1,12 +1,12 @@
--- `checks::load_two` meets its contract.
+-- `words::load_two` meets its contract.
 -- Assumes nothing.
 use Prim.Native.Nat.{ℕ, _+_, _*_}
 use native.Mathlib.Omega.{arith}
 use mathlib.Core.Path.{ap₂}
-use Rattle.checks.specs.Turned.{little2}
+use Rattle.words.specs.Turned.{little2}
 use borrow.Author.Needs.{needs}
-use Rattle.checks.proofs.load_two.Statement.{statement}
-use Rattle.checks.proofs.load_two.Tie as tie
+use Rattle.words.proofs.load_two.Statement.{statement}
+use Rattle.words.proofs.load_two.Tie as tie
 
 add-wide : tie.Need-add-wide
 add-wide c = search needs

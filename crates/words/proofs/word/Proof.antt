@@ -1,13 +1,13 @@
--- `checks::word` meets its contract.
+-- `words::word` meets its contract.
 -- Assumes nothing.
 use Prim.Native.Nat.{ℕ, _+_, _*_}
 use mathlib.Core.Path.{ap, ap₂, _∙_}
 use denote.Ref.{now}
-use Rattle.checks.specs.Turned.{turned8}
-use Rattle.checks.proofs.Turned.{eight}
+use Rattle.words.specs.Turned.{turned8}
+use Rattle.words.proofs.Turned.{eight}
 use borrow.Author.Needs.{needs}
-use Rattle.checks.proofs.word.Statement.{statement}
-use Rattle.checks.proofs.word.Tie as tie
+use Rattle.words.proofs.word.Statement.{statement}
+use Rattle.words.proofs.word.Tie as tie
 
 load-requires : tie.Need-load-requires
 load-requires c κs = search needs

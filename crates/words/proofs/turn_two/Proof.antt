@@ -1,11 +1,11 @@
--- `checks::turn_two` meets its contract.
+-- `words::turn_two` meets its contract.
 -- Assumes nothing.
 use native.Mathlib.Omega.{arith}
 use mathlib.Core.Path.{refl}
-use Rattle.checks.specs.Turned.{turned2}
+use Rattle.words.specs.Turned.{turned2}
 use borrow.Author.Needs.{needs}
-use Rattle.checks.proofs.turn_two.Statement.{statement}
-use Rattle.checks.proofs.turn_two.Tie as tie
+use Rattle.words.proofs.turn_two.Statement.{statement}
+use Rattle.words.proofs.turn_two.Tie as tie
 
 mul-result : tie.Need-mul-result
 mul-result c = search needs

@@ -1,11 +1,11 @@
--- `checks::load` meets its contract.
+-- `words::load` meets its contract.
 -- Assumes nothing.
 use Prim.Native.Nat.{ℕ, _+_, _*_}
 use mathlib.Core.Path.{ap₂}
-use Rattle.checks.specs.Turned.{little8}
+use Rattle.words.specs.Turned.{little8}
 use borrow.Author.Needs.{needs}
-use Rattle.checks.proofs.load.Statement.{statement}
-use Rattle.checks.proofs.load.Tie as tie
+use Rattle.words.proofs.load.Statement.{statement}
+use Rattle.words.proofs.load.Tie as tie
 
 add-load-four : tie.Need-add-load-four
 add-load-four c = search needs

@@ -13,7 +13,7 @@ use native.Mathlib.Nat.{mod-eq-of-lt}
 use Rattle.format.specs.Bits.{bits, number, bitsOf, bitField, total, readFields, writeFields, Bytes}
 use Rattle.laws.proofs.Bits.{length-bits, number-bits, bits-mod, bits-add, length-bitsOf, bitField-lt, writeFields-readFields}
 use Rattle.bits.proofs.Window.{field-byte}
-use Rattle.checks.specs.Turned.{little2, little4, little8, turned2, turned4, turned8}
+use Rattle.words.specs.Turned.{little2, little4, little8, turned2, turned4, turned8}
 
 module _ (s : List ℕ) where
   -- two fields, one behind the other, are one field
@@ -48,7 +48,8 @@ module _ (s : List ℕ) where
       sym (ap (λ (i : ℕ). i / 2 ^ z % 2 ^ w) e ∙ ap (λ (i : ℕ). i % 2 ^ w) (high (a * 2 ^ w + f) z (bitField-lt s (o + r + w) z)) ∙ low a w (bitField-lt s (o + r) w))
 
   module _ (bs : Bytes s) where
-    byte : (i : ℕ) → i < length s → bitField s (8 * i) 8 ≡ getD s i 0
+    -- a byte is a field of eight bits
+    pub byte : (i : ℕ) → i < length s → bitField s (8 * i) 8 ≡ getD s i 0
     byte i h = ap (λ (o : ℕ). bitField s o 8) (sym (omega arith)) ∙ field-byte s i 0 8 0 h refl ∙ omega (arith, bs i)
 
     little2-lt : (i : ℕ) → little2 s i < 65536

@@ -1,12 +1,12 @@
--- `checks::turn_four` meets its contract.
+-- `words::turn_four` meets its contract.
 -- Assumes nothing.
 use Prim.Native.Nat.{ℕ, _+_, _*_}
 use native.Mathlib.Omega.{arith}
 use mathlib.Core.Path.{ap₂}
-use Rattle.checks.specs.Turned.{turned4}
+use Rattle.words.specs.Turned.{turned4}
 use borrow.Author.Needs.{needs}
-use Rattle.checks.proofs.turn_four.Statement.{statement}
-use Rattle.checks.proofs.turn_four.Tie as tie
+use Rattle.words.proofs.turn_four.Statement.{statement}
+use Rattle.words.proofs.turn_four.Tie as tie
 
 turn-two-requires : tie.Need-turn-two-requires
 turn-two-requires c κs = search needs
