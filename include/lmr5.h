@@ -192,7 +192,7 @@ enum lmr5_flag_value {
  */
 
 /*
- * The flags that a library permits: marks[j - 1][v - 1] is the mark of flag j and value v. 1 is yes, any other number is no.
+ * The flags that the caller permits: marks[j - 1][v - 1] is the mark of flag j and value v. 1 is yes, any other number is no.
  * A missing flag has no mark and is always permitted. A report made under one table may be refused under another.
  */
 typedef struct lmr5_flag_table {
