@@ -50,13 +50,16 @@ static int is_refused(const char *what, lmr5_answer a)
     return 1;
 }
 
+/* Every flag is permitted. */
+static lmr5_flag_table table;
+
 /* Prints each present field, and the flag of the sea surface temperature. */
 static void print_report(const uint8_t *report, size_t length)
 {
     size_t k;
-    lmr5_answer flag = lmr5_read_flag(report, length, LMR5_FLAG_SEA_SURFACE_TEMPERATURE);
+    lmr5_answer flag = lmr5_read_flag(report, length, LMR5_FLAG_SEA_SURFACE_TEMPERATURE, &table);
     for (k = LMR5_BOX10; k <= LMR5_A6; k++) {
-        lmr5_answer a = lmr5_read_field(report, length, k);
+        lmr5_answer a = lmr5_read_field(report, length, k, &table);
         if (a.given == LMR5_GIVEN_VALUE)
             printf("  %s %ld", field_names[k], (long)a.first);
     }
@@ -70,9 +73,9 @@ static void print_report(const uint8_t *report, size_t length)
 static int has_flags(uint8_t *report, size_t length)
 {
     static const uint8_t none[16] = {0};
-    lmr5_answer a = lmr5_read_flag(report, length, LMR5_FLAG_SEA_SURFACE_TEMPERATURE);
+    lmr5_answer a = lmr5_read_flag(report, length, LMR5_FLAG_SEA_SURFACE_TEMPERATURE, &table);
     if (a.refusal == LMR5_REFUSED_NO_SUCH)
-        a = lmr5_put(report, length, 1, none, sizeof none);
+        a = lmr5_put(report, length, 1, none, sizeof none, &table);
     return !is_refused("flags", a);
 }
 
@@ -125,20 +128,21 @@ int main(int argc, char **argv)
         fprintf(stderr, "correct: the temperature is a whole number of tenths, the flag a letter of %s\n", letters);
         return 2;
     }
-    if (!read_report(argv[1], buffer, &length) || is_refused("report", lmr5_judge(buffer, length)))
+    lmr5_all_flags(&table);
+    if (!read_report(argv[1], buffer, &length) || is_refused("report", lmr5_judge(buffer, length, &table)))
         return 1;
     printf("before:");
     print_report(buffer, length);
-    if (is_refused("sea surface temperature", lmr5_set_field(buffer, sizeof buffer, LMR5_S, temperature)))
+    if (is_refused("sea surface temperature", lmr5_set_field(buffer, sizeof buffer, LMR5_S, temperature, &table)))
         return 1;
     if (!has_flags(buffer, sizeof buffer))
         return 1;
-    a = lmr5_set_flag(buffer, sizeof buffer, LMR5_FLAG_SEA_SURFACE_TEMPERATURE, (size_t)(letter - letters) + 1);
+    a = lmr5_set_flag(buffer, sizeof buffer, LMR5_FLAG_SEA_SURFACE_TEMPERATURE, (size_t)(letter - letters) + 1, &table);
     if (is_refused("flag", a))
         return 1;
     printf("after: ");
     print_report(buffer, sizeof buffer);
-    a = lmr5_judge(buffer, sizeof buffer);
+    a = lmr5_judge(buffer, sizeof buffer, &table);
     if (is_refused("report", a) || !write_report(argv[2], buffer, (size_t)a.first))
         return 1;
     printf("%s: %ld bytes\n", argv[2], (long)a.first);

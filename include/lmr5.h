@@ -10,10 +10,16 @@
  * no state: when a call returns, every buffer is the caller's alone. A call may be made from any thread. What the caller
  * sees to, since the library cannot:
  *   - A length is the true length of the memory behind its pointer, and at most PTRDIFF_MAX bytes. NULL is allowed where
- *     the length is 0. `contents` points to 6 numbers, `table` to 256. Pointers are aligned as their type asks, as C's own are.
+ *     the length is 0. `contents` points to 6 numbers, `table` of lmr5_character_table to 256, every other `table` to the 140
+ *     marks of an lmr5_flag_table. Pointers are aligned as their type asks, as C's own are.
  *   - All memory that a call gets is initialised, outputs too: a call may leave part of an output as it was.
- *   - A buffer that a call may write (not `const`) overlaps no other buffer of that call. Two `const` buffers may overlap.
+ *   - A buffer that a call may write (not `const`) overlaps no other buffer of that call. Two `const` buffers may overlap. A
+ *     table is a buffer too.
  *   - While a call runs no other thread writes its buffers, nor reads those that it may write.
+ *
+ * Which flags are permitted is for the caller to say. Every call that takes a report or a content takes the caller's table of
+ * permitted flags as its last argument; the library keeps none. Only lmr5_all_flags and lmr5_load_flags write a table. A
+ * program that permits all flags calls lmr5_all_flags once and lends that table to each call.
  *
  * A report stands at the front of its buffer; the buffer may be longer. A report takes 38 to LMR5_LONGEST_REPORT bytes, and a
  * longer buffer leaves room for attachments. Bytes behind the report are the caller's; a put that makes the report longer
@@ -21,12 +27,13 @@
  * more is then refused.
  *
  * WHAT A CALL ANSWERS
- * An lmr5_answer. Two refuse nothing themselves: lmr5_replay answers an lmr5_performed, lmr5_character_table nothing.
+ * An lmr5_answer. Three refuse nothing themselves: lmr5_replay answers an lmr5_performed, lmr5_character_table and
+ * lmr5_all_flags nothing.
  * Accepted: `refusal` and `place` are 0, and `given` says what numbers there are. Refused: `refusal` is one of enum
  * lmr5_refusal, `place` says where, all else is 0, and no byte of any buffer has changed.
  *
- * THE REPORT IS CHECKED FIRST by every call that takes one, whatever its arguments are. The first of these that applies is
- * the refusal, "the report's refusals" below:
+ * THE REPORT IS CHECKED FIRST by every call that takes one, under the table, whatever its other arguments are. The first of
+ * these that applies is the refusal, "the report's refusals" below:
  *   1, place 0, under 38 bytes; 2 or 3, fields ascending; 4; attachment by attachment: 1 (its header does not fit), 5, 1 (its
  *   content does not fit), 6; 7.
  * Then come the call's own refusals, in the order in which they are named.
@@ -81,16 +88,18 @@ enum lmr5_refusal {
     LMR5_REFUSED_MISSING = 3,     /* a required field is missing; place: the field */
     LMR5_REFUSED_CHECKSUM = 4,    /* the checksum differs */
     LMR5_REFUSED_ATTACHMENT = 5,  /* an attachment of no nibbles, with id 0 or a repeated id; place: its position */
-    LMR5_REFUSED_BODY = 6,        /* invalid flags (id 1) or ship text (id 4); place: the attachment's position */
+    LMR5_REFUSED_BODY = 6,        /* flags (id 1) or text (id 4) invalid, or a flag not permitted; place: its position */
     LMR5_REFUSED_PADDING = 7,     /* the padding nibble is not 0 */
     /* by an argument */
     LMR5_REFUSED_NUMBER = 8,      /* no such field (1 to 46), flag (1 to 14) or id (1 to 15); a wrong bit of a presence word */
-    LMR5_REFUSED_VALUE = 9,       /* value out of range; place: the field or flag */
+    LMR5_REFUSED_VALUE = 9,       /* value out of range, or a flag not permitted; place: the field or flag */
     LMR5_REFUSED_REQUIRED = 10,   /* required field cleared, or absent in pack; place: the field */
     LMR5_REFUSED_NO_SUCH = 11,    /* no such attachment */
     LMR5_REFUSED_LENGTH = 12,     /* a content without nibbles, or with over 255 */
     LMR5_REFUSED_ROOM = 13,       /* no room: for the new report, for what is written to an output, for 46 values */
-    LMR5_REFUSED_CONTENT = 14     /* a byte over 15 in a content or tail, or a content that is invalid */
+    LMR5_REFUSED_CONTENT = 14,    /* a byte over 15 in a content or tail; a content invalid or with a flag not permitted */
+    /* by a table of flags; there is no 15 yet */
+    LMR5_REFUSED_TABLE = 16       /* not 140 bytes, a byte other than 0 or 1, or a row without a 1 */
 };
 
 /* The longest report, in bytes. */
@@ -178,13 +187,36 @@ enum lmr5_flag_value {
     LMR5_VALUE_S = 10 /* missing, in the words of LMR.5: a value like the others, and not a missing flag */
 };
 
+/*
+ * ---- the table of permitted flags
+ */
+
+/*
+ * The flags that the caller permits: marks[j - 1][v - 1] is the mark of flag j and value v. 1 is yes, any other number is no.
+ * A missing flag has no mark and is always permitted. A report made under one table may be refused under another.
+ */
+typedef struct lmr5_flag_table {
+    uint8_t marks[14][10];
+} lmr5_flag_table;
+
+/* Makes every mark 1: the table before any is loaded. */
+void lmr5_all_flags(lmr5_flag_table *table);
+
+/*
+ * Loads the table that is lent as `marks`: row after row from flag 1, each row from value 1, a byte a mark, 1 for yes and 0
+ * for no. Writes it to `table`. Gives nothing.
+ * Refusals: 16, place 0, where `marks` is not 140 bytes, has a byte other than 0 or 1, or a row without a 1. The former
+ * table, which `table` holds, then stays.
+ */
+lmr5_answer lmr5_load_flags(const uint8_t *marks, size_t marks_length, lmr5_flag_table *table);
+
 /* ---- whole reports */
 
 /*
  * Judges the report that the buffer begins with.
  * Gives the report's size in bytes. Refusals: the report's refusals. Changes nothing.
  */
-lmr5_answer lmr5_judge(const uint8_t *report, size_t report_length);
+lmr5_answer lmr5_judge(const uint8_t *report, size_t report_length, const lmr5_flag_table *table);
 
 /*
  * Writes the report of these five values, all else missing and RPTIN 0, to the first 38 bytes of `out`.
@@ -209,18 +241,19 @@ enum lmr5_contents {
  * A tail of 3631 bytes always does. The report and the rest of `values` and `tail` stay.
  */
 lmr5_answer lmr5_unpack(const uint8_t *report, size_t report_length, int64_t *values, size_t values_length, uint8_t *tail,
-                        size_t tail_length, uint64_t contents[6]);
+                        size_t tail_length, uint64_t contents[6], const lmr5_flag_table *table);
 
 /*
  * Writes the report of the values whose bits are set in `word`, of RPTIN and of such a tail, to the front of `out`. The
  * checksum and AC are worked out. Of `values` the first 46 count, and those of missing fields are ignored. `rptin` has 16
  * bits: of a wider number C hands on the low 16 before the library sees it, and no refusal tells of it.
  * Gives the report's size in bytes. Refusals: 13 where `values` is under 46; 8; fields ascending, 10 or 9; 14 for a byte of
- * the tail over 15; 1, 5, 6 for the tail's attachments, as in a report; 13 where `out` is shorter than the report.
+ * the tail over 15; 1, 5, 6 for the tail's attachments, as in a report under the table; 13 where `out` is shorter than the
+ * report.
  * The rest of `out` stays.
  */
 lmr5_answer lmr5_pack(const int64_t *values, size_t values_length, uint64_t word, uint16_t rptin, const uint8_t *tail,
-                      size_t tail_length, uint8_t *out, size_t out_length);
+                      size_t tail_length, uint8_t *out, size_t out_length, const lmr5_flag_table *table);
 
 /*
  * ---- the eleven calls on the report that a buffer begins with
@@ -230,41 +263,44 @@ lmr5_answer lmr5_pack(const int64_t *values, size_t values_length, uint64_t word
  */
 
 /* Gives the value of a field, or that it is missing. Refusals: the report's refusals; 8. */
-lmr5_answer lmr5_read_field(const uint8_t *report, size_t report_length, size_t field);
+lmr5_answer lmr5_read_field(const uint8_t *report, size_t report_length, size_t field, const lmr5_flag_table *table);
 
 /* Sets a field. Gives nothing. Refusals: the report's refusals; 8; 9. */
-lmr5_answer lmr5_set_field(uint8_t *report, size_t report_length, size_t field, int64_t value);
+lmr5_answer lmr5_set_field(uint8_t *report, size_t report_length, size_t field, int64_t value, const lmr5_flag_table *table);
 
 /* Makes a field missing; one that is missing already stays so. Gives nothing. Refusals: the report's refusals; 8; 10. */
-lmr5_answer lmr5_clear_field(uint8_t *report, size_t report_length, size_t field);
+lmr5_answer lmr5_clear_field(uint8_t *report, size_t report_length, size_t field, const lmr5_flag_table *table);
 
 /* Gives the value of a flag, 1 to 10, or that it is missing. Refusals: the report's refusals; 8; 11 without id 1. */
-lmr5_answer lmr5_read_flag(const uint8_t *report, size_t report_length, size_t flag);
+lmr5_answer lmr5_read_flag(const uint8_t *report, size_t report_length, size_t flag, const lmr5_flag_table *table);
 
 /*
  * Sets a flag to 1 to 10, and the quality code. Gives nothing.
- * Refusals: the report's refusals; 8; 9, place the flag; 11 without id 1.
+ * Refusals: the report's refusals; 8; 9, place the flag, also for a value that the table does not permit; 11 without id 1.
  */
-lmr5_answer lmr5_set_flag(uint8_t *report, size_t report_length, size_t flag, size_t value);
+lmr5_answer lmr5_set_flag(uint8_t *report, size_t report_length, size_t flag, size_t value, const lmr5_flag_table *table);
 
 /* Makes a flag missing, and sets the quality code. Gives nothing. Refusals: the report's refusals; 8; 11. */
-lmr5_answer lmr5_clear_flag(uint8_t *report, size_t report_length, size_t flag);
+lmr5_answer lmr5_clear_flag(uint8_t *report, size_t report_length, size_t flag, const lmr5_flag_table *table);
 
 /*
  * Puts an attachment: replaces the content where the id stands, else appends it. `content` has a nibble a byte, as many as
  * its length says. Gives nothing.
- * Refusals: the report's refusals; 8; 12; 14; 13 where the buffer is shorter than the new report.
+ * Refusals: the report's refusals; 8; 12; 14, also for flags that the table does not permit; 13 where the buffer is shorter
+ * than the new report.
  */
-lmr5_answer lmr5_put(uint8_t *report, size_t report_length, size_t id, const uint8_t *content, size_t content_length);
+lmr5_answer lmr5_put(uint8_t *report, size_t report_length, size_t id, const uint8_t *content, size_t content_length,
+                     const lmr5_flag_table *table);
 
 /*
  * Writes an attachment's nibbles, one a byte, to the front of `out`. Gives how many. The rest of `out` stays.
  * Refusals: the report's refusals; 8; 11; 13 where `out` is shorter. 255 bytes always do.
  */
-lmr5_answer lmr5_fetch(const uint8_t *report, size_t report_length, size_t id, uint8_t *out, size_t out_length);
+lmr5_answer lmr5_fetch(const uint8_t *report, size_t report_length, size_t id, uint8_t *out, size_t out_length,
+                       const lmr5_flag_table *table);
 
 /* Drops an attachment; the others keep their order. Gives nothing. Refusals: the report's refusals; 8; 11. */
-lmr5_answer lmr5_drop(uint8_t *report, size_t report_length, size_t id);
+lmr5_answer lmr5_drop(uint8_t *report, size_t report_length, size_t id, const lmr5_flag_table *table);
 
 /*
  * Puts the ship text, which is id 4. The text is bytes, none refused, with no 0 at its end; spaces at its end are
@@ -272,13 +308,15 @@ lmr5_answer lmr5_drop(uint8_t *report, size_t report_length, size_t id);
  * Refusals: the report's refusals; 12 where it has no nibble or over 255; 13 where the buffer is shorter than the new
  * report.
  */
-lmr5_answer lmr5_put_text(uint8_t *report, size_t report_length, const uint8_t *text, size_t text_length);
+lmr5_answer lmr5_put_text(uint8_t *report, size_t report_length, const uint8_t *text, size_t text_length,
+                          const lmr5_flag_table *table);
 
 /*
  * Writes the ship text to the front of `out`, with no 0 at its end. Gives its length. The rest of `out` stays.
  * Refusals: the report's refusals; 11 without id 4; 13 where `out` is shorter. 2295 bytes always do.
  */
-lmr5_answer lmr5_fetch_text(const uint8_t *report, size_t report_length, uint8_t *out, size_t out_length);
+lmr5_answer lmr5_fetch_text(const uint8_t *report, size_t report_length, uint8_t *out, size_t out_length,
+                            const lmr5_flag_table *table);
 
 /*
  * ---- the characters of the ship text
@@ -348,12 +386,12 @@ typedef struct lmr5_performed {
 } lmr5_performed;
 
 /*
- * Performs the entries of a script in their order, each on the report as the one before left it, and writes their records to
- * the front of the log. A refused call changes nothing of the report, and the next is performed. Ends before the first entry
- * that is cut off, of another kind, or whose record does not fit the log. The rest of the log stays.
+ * Performs the entries of a script in their order, each on the report as the one before left it and all under one table, and
+ * writes their records to the front of the log. A refused call changes nothing of the report, and the next is performed. Ends
+ * before the first entry that is cut off, of another kind, or whose record does not fit the log. The rest of the log stays.
  */
 lmr5_performed lmr5_replay(uint8_t *report, size_t report_length, const uint8_t *script, size_t script_length, uint8_t *log,
-                           size_t log_length);
+                           size_t log_length, const lmr5_flag_table *table);
 
 #ifdef __cplusplus
 }

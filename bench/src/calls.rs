@@ -3,12 +3,14 @@
 use std::cell::RefCell;
 use std::hint::black_box;
 
-use bench::fast::{calls as fast, script, whole};
-use bench::library;
+use bench::fast::{calls as fast, flags, script, whole};
 use bench::reports::{observation, remarks};
+use bench::{FlagTable, library};
 use reference::attachment::Attachment;
 use reference::call::Call;
-use reference::cases::material::{random_flags, random_value, tail_of, values_and_word};
+use reference::cases::material::{
+    random_flag_table, random_flags, random_value, tail_of, values_and_word,
+};
 use reference::gate::script::script as script_of;
 use reference::observation::Observation;
 use reference::prng::Prng;
@@ -20,6 +22,8 @@ use crate::measure::{Line, measure};
 const ROOM: usize = 256;
 /// Arguments are taken in turn from a row of so many.
 const ROW: usize = 64;
+/// The table that both sides are lent: every flag is permitted.
+static TABLE: FlagTable = [[1; 10]; 14];
 
 struct Bed {
     size: usize,
@@ -53,8 +57,8 @@ impl Bed {
         &self,
         name: &'static str,
         row: &[A; ROW],
-        here: impl Fn(&mut [u8], &A),
-        rust: impl Fn(&mut [u8], &A),
+        here: impl Fn(&mut [u8], &A, &FlagTable),
+        rust: impl Fn(&mut [u8], &A, &FlagTable),
     ) -> Line {
         let mut ours = self.report.clone();
         let mut theirs = self.report.clone();
@@ -66,6 +70,7 @@ impl Bed {
                     here(
                         black_box(&mut ours).as_mut_slice(),
                         black_box(&row[i % ROW]),
+                        black_box(&TABLE),
                     );
                 }
             },
@@ -74,6 +79,7 @@ impl Bed {
                     rust(
                         black_box(&mut theirs).as_mut_slice(),
                         black_box(&row[i % ROW]),
+                        black_box(&TABLE),
                     );
                 }
             },
@@ -86,20 +92,20 @@ impl Bed {
         &self,
         name: &'static str,
         row: &[A; ROW],
-        here: impl Fn(&mut [u8], &A),
-        rust: impl Fn(&mut [u8], &A),
+        here: impl Fn(&mut [u8], &A, &FlagTable),
+        rust: impl Fn(&mut [u8], &A, &FlagTable),
     ) -> Line {
         let report = &self.report[..];
         self.steady(
             name,
             row,
-            |s, a| {
+            |s, a, t| {
                 s.copy_from_slice(report);
-                here(black_box(s), a);
+                here(black_box(s), a, t);
             },
-            |s, a| {
+            |s, a, t| {
                 s.copy_from_slice(report);
-                rust(black_box(s), a);
+                rust(black_box(s), a, t);
             },
         )
     }
@@ -114,11 +120,11 @@ fn judge(bed: &mut Bed) -> Line {
     bed.steady(
         "judge",
         &[(); ROW],
-        |s, _| {
-            black_box(library::judge(s));
+        |s, _, t| {
+            black_box(library::judge(s, t));
         },
-        |s, _| {
-            black_box(fast::judge(s)).ok();
+        |s, _, t| {
+            black_box(fast::judge(s, t)).ok();
         },
     )
 }
@@ -132,11 +138,61 @@ fn fresh(bed: &mut Bed) -> Option<Line> {
     Some(bed.steady(
         "fresh",
         &row,
-        |s, v| {
+        |s, v, _| {
             black_box(library::fresh(*v, s));
         },
-        |s, v| {
+        |s, v, _| {
             black_box(whole::fresh(*v, s)).ok();
+        },
+    ))
+}
+
+/// Takes no report, so that it is measured once.
+fn all_flags(bed: &mut Bed) -> Option<Line> {
+    if bed.size > 38 {
+        return None;
+    }
+    let mut ours = [[0; 10]; 14];
+    let mut theirs = [[0; 10]; 14];
+    Some(measure(
+        "all_flags",
+        bed.size,
+        &mut |turns| {
+            for _ in 0..turns {
+                library::all_flags(black_box(&mut ours));
+            }
+        },
+        &mut |turns| {
+            for _ in 0..turns {
+                flags::all_flags(black_box(&mut theirs));
+            }
+        },
+    ))
+}
+
+/// Takes no report, so that it is measured once. Every table is accepted. Of the answer only one
+/// number is looked at: an answer stored just before is read as words of 16 bytes, which waits.
+fn load_flags(bed: &mut Bed) -> Option<Line> {
+    if bed.size > 38 {
+        return None;
+    }
+    let row = bed.row(|prng| random_flag_table(prng).marks());
+    let mut ours = TABLE;
+    let mut theirs = TABLE;
+    Some(measure(
+        "load_flags",
+        bed.size,
+        &mut |turns| {
+            for i in 0..turns {
+                let marks = black_box(&row[i % ROW]);
+                black_box(library::load_flags(marks, black_box(&mut ours)).refusal);
+            }
+        },
+        &mut |turns| {
+            for i in 0..turns {
+                let marks = black_box(&row[i % ROW]);
+                black_box(flags::load_flags(marks, black_box(&mut theirs)).is_ok());
+            }
         },
     ))
 }
@@ -171,16 +227,16 @@ fn unpack(bed: &mut Bed) -> Line {
     bed.steady(
         "unpack",
         &[(); ROW],
-        |s, _| {
+        |s, _, t| {
             let (values, tail) = &mut *ours.borrow_mut();
             let mut contents = [0; 6];
-            black_box(library::unpack(s, values, tail, &mut contents));
+            black_box(library::unpack(s, values, tail, &mut contents, t));
             black_box((contents, values, tail));
         },
-        |s, _| {
+        |s, _, t| {
             let (values, tail) = &mut *theirs.borrow_mut();
             let mut contents = whole::Contents::default();
-            black_box(whole::unpack(s, values, tail, &mut contents)).ok();
+            black_box(whole::unpack(s, values, tail, &mut contents, t)).ok();
             black_box((contents, values, tail));
         },
     )
@@ -192,22 +248,24 @@ fn pack(bed: &mut Bed) -> Line {
     bed.steady(
         "pack",
         &[(); ROW],
-        |s, _| {
+        |s, _, t| {
             black_box(library::pack(
                 black_box(&values),
                 word,
                 0x1234,
                 black_box(&tail),
                 s,
+                t,
             ));
         },
-        |s, _| {
+        |s, _, t| {
             black_box(whole::pack(
                 black_box(&values),
                 word,
                 0x1234,
                 black_box(&tail),
                 s,
+                t,
             ))
             .ok();
         },
@@ -219,11 +277,11 @@ fn read_field(bed: &mut Bed) -> Line {
     bed.steady(
         "read_field",
         &row,
-        |s, k| {
-            black_box(library::read_field(s, *k));
+        |s, k, t| {
+            black_box(library::read_field(s, *k, t));
         },
-        |s, k| {
-            black_box(fast::read_field(s, *k)).ok();
+        |s, k, t| {
+            black_box(fast::read_field(s, *k, t)).ok();
         },
     )
 }
@@ -236,11 +294,11 @@ fn set_field(bed: &mut Bed) -> Line {
     bed.steady(
         "set_field",
         &row,
-        |s, (k, v)| {
-            black_box(library::set_field(s, *k, *v));
+        |s, (k, v), t| {
+            black_box(library::set_field(s, *k, *v, t));
         },
-        |s, (k, v)| {
-            black_box(fast::set_field(s, *k, *v)).ok();
+        |s, (k, v), t| {
+            black_box(fast::set_field(s, *k, *v, t)).ok();
         },
     )
 }
@@ -250,11 +308,11 @@ fn clear_field(bed: &mut Bed) -> Line {
     bed.steady(
         "clear_field",
         &row,
-        |s, k| {
-            black_box(library::clear_field(s, *k));
+        |s, k, t| {
+            black_box(library::clear_field(s, *k, t));
         },
-        |s, k| {
-            black_box(fast::clear_field(s, *k)).ok();
+        |s, k, t| {
+            black_box(fast::clear_field(s, *k, t)).ok();
         },
     )
 }
@@ -264,11 +322,11 @@ fn read_flag(bed: &mut Bed) -> Line {
     bed.steady(
         "read_flag",
         &row,
-        |s, j| {
-            black_box(library::read_flag(s, *j));
+        |s, j, t| {
+            black_box(library::read_flag(s, *j, t));
         },
-        |s, j| {
-            black_box(fast::read_flag(s, *j)).ok();
+        |s, j, t| {
+            black_box(fast::read_flag(s, *j, t)).ok();
         },
     )
 }
@@ -278,11 +336,11 @@ fn set_flag(bed: &mut Bed) -> Line {
     bed.steady(
         "set_flag",
         &row,
-        |s, (j, v)| {
-            black_box(library::set_flag(s, *j, *v));
+        |s, (j, v), t| {
+            black_box(library::set_flag(s, *j, *v, t));
         },
-        |s, (j, v)| {
-            black_box(fast::set_flag(s, *j, *v)).ok();
+        |s, (j, v), t| {
+            black_box(fast::set_flag(s, *j, *v, t)).ok();
         },
     )
 }
@@ -292,11 +350,11 @@ fn clear_flag(bed: &mut Bed) -> Line {
     bed.steady(
         "clear_flag",
         &row,
-        |s, j| {
-            black_box(library::clear_flag(s, *j));
+        |s, j, t| {
+            black_box(library::clear_flag(s, *j, t));
         },
-        |s, j| {
-            black_box(fast::clear_flag(s, *j)).ok();
+        |s, j, t| {
+            black_box(fast::clear_flag(s, *j, t)).ok();
         },
     )
 }
@@ -304,11 +362,11 @@ fn clear_flag(bed: &mut Bed) -> Line {
 type Content = (usize, Vec<u8>);
 
 fn put_line(bed: &Bed, name: &'static str, row: &[Content; ROW], restored: bool) -> Line {
-    let here = |s: &mut [u8], (id, content): &Content| {
-        black_box(library::put(s, *id, content));
+    let here = |s: &mut [u8], (id, content): &Content, t: &FlagTable| {
+        black_box(library::put(s, *id, content, t));
     };
-    let rust = |s: &mut [u8], (id, content): &Content| {
-        black_box(fast::put(s, *id, content)).ok();
+    let rust = |s: &mut [u8], (id, content): &Content, t: &FlagTable| {
+        black_box(fast::put(s, *id, content, t)).ok();
     };
     if restored {
         bed.restored(name, row, here, rust)
@@ -380,11 +438,16 @@ fn fetch(bed: &mut Bed) -> Line {
     bed.steady(
         "fetch",
         &row,
-        |s, id| {
-            black_box(library::fetch(s, *id, black_box(&mut *ours.borrow_mut())));
+        |s, id, t| {
+            black_box(library::fetch(
+                s,
+                *id,
+                black_box(&mut *ours.borrow_mut()),
+                t,
+            ));
         },
-        |s, id| {
-            black_box(fast::fetch(s, *id, black_box(&mut *theirs.borrow_mut()))).ok();
+        |s, id, t| {
+            black_box(fast::fetch(s, *id, black_box(&mut *theirs.borrow_mut()), t)).ok();
         },
     )
 }
@@ -398,11 +461,11 @@ fn drop_line(bed: &mut Bed) -> Line {
     bed.restored(
         "drop",
         &row,
-        |s, id| {
-            black_box(library::remove(s, *id));
+        |s, id, t| {
+            black_box(library::remove(s, *id, t));
         },
-        |s, id| {
-            black_box(fast::remove(s, *id)).ok();
+        |s, id, t| {
+            black_box(fast::remove(s, *id, t)).ok();
         },
     )
 }
@@ -418,11 +481,11 @@ fn put_text(bed: &mut Bed) -> Line {
         }
         text
     });
-    let here = |s: &mut [u8], text: &Vec<u8>| {
-        black_box(library::put_text(s, text));
+    let here = |s: &mut [u8], text: &Vec<u8>, t: &FlagTable| {
+        black_box(library::put_text(s, text, t));
     };
-    let rust = |s: &mut [u8], text: &Vec<u8>| {
-        black_box(fast::put_text(s, text)).ok();
+    let rust = |s: &mut [u8], text: &Vec<u8>, t: &FlagTable| {
+        black_box(fast::put_text(s, text, t)).ok();
     };
     if stands {
         bed.steady("put_text", &row, here, rust)
@@ -436,11 +499,15 @@ fn fetch_text(bed: &mut Bed) -> Line {
     bed.steady(
         "fetch_text",
         &[(); ROW],
-        |s, _| {
-            black_box(library::fetch_text(s, black_box(&mut *ours.borrow_mut())));
+        |s, _, t| {
+            black_box(library::fetch_text(
+                s,
+                black_box(&mut *ours.borrow_mut()),
+                t,
+            ));
         },
-        |s, _| {
-            black_box(fast::fetch_text(s, black_box(&mut *theirs.borrow_mut()))).ok();
+        |s, _, t| {
+            black_box(fast::fetch_text(s, black_box(&mut *theirs.borrow_mut()), t)).ok();
         },
     )
 }
@@ -495,18 +562,18 @@ fn replay(bed: &mut Bed) -> Line {
     bed.steady(
         "replay_20",
         &[(); ROW],
-        |s, _| {
-            black_box(library::replay(s, &entries, &mut ours.borrow_mut()));
+        |s, _, t| {
+            black_box(library::replay(s, &entries, &mut ours.borrow_mut(), t));
         },
-        |s, _| {
-            black_box(script::replay(s, &entries, &mut theirs.borrow_mut()));
+        |s, _, t| {
+            black_box(script::replay(s, &entries, &mut theirs.borrow_mut(), t));
         },
     )
 }
 
 type Measured = fn(&mut Bed) -> Option<Line>;
 
-const CALLS: [(&str, Measured); 19] = [
+const CALLS: [(&str, Measured); 21] = [
     ("judge", |bed| Some(judge(bed))),
     ("fresh", fresh),
     ("unpack", |bed| Some(unpack(bed))),
@@ -525,6 +592,8 @@ const CALLS: [(&str, Measured); 19] = [
     ("put_text", |bed| Some(put_text(bed))),
     ("fetch_text", |bed| Some(fetch_text(bed))),
     ("characters", characters),
+    ("all_flags", all_flags),
+    ("load_flags", load_flags),
     ("replay_20", |bed| Some(replay(bed))),
 ];
 

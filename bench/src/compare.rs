@@ -2,18 +2,16 @@
 //! implementation.
 
 use reference::call::Call;
-use reference::cases::random::random_call;
-use reference::cases::{Case, Outcome, fixed, random};
+use reference::cases::{Case, Outcome};
 use reference::gate::script;
-use reference::judge::judge;
 use reference::number::Number;
 use reference::outside::Unpacked;
-use reference::prng::Prng;
 use reference::refusal::Refusal;
-use reference::step::step;
 
-use crate::fast::{self, calls, whole};
+use crate::FlagTable;
+use crate::fast::{self, calls, flags, whole};
 use crate::library::{self, Answer, Performed};
+use crate::trials::{ALL, Trial, permitted_of};
 
 /// One of the two sides, with its answers in the archive's form.
 #[derive(Clone, Copy, Debug, PartialEq, Eq)]
@@ -58,10 +56,24 @@ fn of_reference(answer: Result<Vec<Number>, Refusal>) -> Answer {
 }
 
 impl Side {
-    fn judge(self, s: &[u8]) -> Answer {
+    fn all_flags(self, table: &mut FlagTable) {
         match self {
-            Side::Library => library::judge(s),
-            Side::Rust => of_fast(calls::judge(s)),
+            Side::Library => library::all_flags(table),
+            Side::Rust => flags::all_flags(table),
+        }
+    }
+
+    fn load_flags(self, marks: &[u8], table: &mut FlagTable) -> Answer {
+        match self {
+            Side::Library => library::load_flags(marks, table),
+            Side::Rust => of_fast(flags::load_flags(marks, table)),
+        }
+    }
+
+    fn judge(self, s: &[u8], table: &FlagTable) -> Answer {
+        match self {
+            Side::Library => library::judge(s, table),
+            Side::Rust => of_fast(calls::judge(s, table)),
         }
     }
 
@@ -72,16 +84,22 @@ impl Side {
         }
     }
 
-    fn unpack(self, s: &[u8], values: &mut [i64], tail: &mut [u8]) -> (Answer, [u64; 6]) {
+    fn unpack(
+        self,
+        s: &[u8],
+        values: &mut [i64],
+        tail: &mut [u8],
+        table: &FlagTable,
+    ) -> (Answer, [u64; 6]) {
         match self {
             Side::Library => {
                 let mut contents = [0; 6];
-                let answer = library::unpack(s, values, tail, &mut contents);
+                let answer = library::unpack(s, values, tail, &mut contents, table);
                 (answer, contents)
             }
             Side::Rust => {
                 let mut c = whole::Contents::default();
-                let answer = whole::unpack(s, values, tail, &mut c);
+                let answer = whole::unpack(s, values, tail, &mut c, table);
                 let contents = [
                     c.word,
                     c.present.into(),
@@ -95,10 +113,18 @@ impl Side {
         }
     }
 
-    fn pack(self, values: &[i64], word: u64, rptin: u16, tail: &[u8], out: &mut [u8]) -> Answer {
+    fn pack(
+        self,
+        values: &[i64],
+        word: u64,
+        rptin: u16,
+        tail: &[u8],
+        out: &mut [u8],
+        table: &FlagTable,
+    ) -> Answer {
         match self {
-            Side::Library => library::pack(values, word, rptin, tail, out),
-            Side::Rust => of_fast(whole::pack(values, word, rptin, tail, out)),
+            Side::Library => library::pack(values, word, rptin, tail, out, table),
+            Side::Rust => of_fast(whole::pack(values, word, rptin, tail, out, table)),
         }
     }
 
@@ -109,43 +135,49 @@ impl Side {
         }
     }
 
-    fn call(self, s: &mut [u8], call: &Call, out: &mut [u8]) -> Answer {
+    fn call(self, s: &mut [u8], call: &Call, out: &mut [u8], table: &FlagTable) -> Answer {
         let size = |n: u64| n as usize;
         match self {
             Side::Library => match call {
-                Call::ReadField { field } => library::read_field(s, size(*field)),
-                Call::SetField { field, value } => library::set_field(s, size(*field), *value),
-                Call::ClearField { field } => library::clear_field(s, size(*field)),
-                Call::ReadFlag { flag } => library::read_flag(s, size(*flag)),
-                Call::SetFlag { flag, value } => library::set_flag(s, size(*flag), *value as usize),
-                Call::ClearFlag { flag } => library::clear_flag(s, size(*flag)),
-                Call::Put { id, content } => library::put(s, size(*id), content),
-                Call::Fetch { id, .. } => library::fetch(s, size(*id), out),
-                Call::Drop { id } => library::remove(s, size(*id)),
-                Call::PutText { text } => library::put_text(s, text),
-                Call::FetchText { .. } => library::fetch_text(s, out),
+                Call::ReadField { field } => library::read_field(s, size(*field), table),
+                Call::SetField { field, value } => {
+                    library::set_field(s, size(*field), *value, table)
+                }
+                Call::ClearField { field } => library::clear_field(s, size(*field), table),
+                Call::ReadFlag { flag } => library::read_flag(s, size(*flag), table),
+                Call::SetFlag { flag, value } => {
+                    library::set_flag(s, size(*flag), *value as usize, table)
+                }
+                Call::ClearFlag { flag } => library::clear_flag(s, size(*flag), table),
+                Call::Put { id, content } => library::put(s, size(*id), content, table),
+                Call::Fetch { id, .. } => library::fetch(s, size(*id), out, table),
+                Call::Drop { id } => library::remove(s, size(*id), table),
+                Call::PutText { text } => library::put_text(s, text, table),
+                Call::FetchText { .. } => library::fetch_text(s, out, table),
             },
             Side::Rust => of_fast(match call {
-                Call::ReadField { field } => calls::read_field(s, size(*field)),
-                Call::SetField { field, value } => calls::set_field(s, size(*field), *value),
-                Call::ClearField { field } => calls::clear_field(s, size(*field)),
-                Call::ReadFlag { flag } => calls::read_flag(s, size(*flag)),
-                Call::SetFlag { flag, value } => calls::set_flag(s, size(*flag), *value as usize),
-                Call::ClearFlag { flag } => calls::clear_flag(s, size(*flag)),
-                Call::Put { id, content } => calls::put(s, size(*id), content),
-                Call::Fetch { id, .. } => calls::fetch(s, size(*id), out),
-                Call::Drop { id } => calls::remove(s, size(*id)),
-                Call::PutText { text } => calls::put_text(s, text),
-                Call::FetchText { .. } => calls::fetch_text(s, out),
+                Call::ReadField { field } => calls::read_field(s, size(*field), table),
+                Call::SetField { field, value } => calls::set_field(s, size(*field), *value, table),
+                Call::ClearField { field } => calls::clear_field(s, size(*field), table),
+                Call::ReadFlag { flag } => calls::read_flag(s, size(*flag), table),
+                Call::SetFlag { flag, value } => {
+                    calls::set_flag(s, size(*flag), *value as usize, table)
+                }
+                Call::ClearFlag { flag } => calls::clear_flag(s, size(*flag), table),
+                Call::Put { id, content } => calls::put(s, size(*id), content, table),
+                Call::Fetch { id, .. } => calls::fetch(s, size(*id), out, table),
+                Call::Drop { id } => calls::remove(s, size(*id), table),
+                Call::PutText { text } => calls::put_text(s, text, table),
+                Call::FetchText { .. } => calls::fetch_text(s, out, table),
             }),
         }
     }
 
-    fn replay(self, s: &mut [u8], script: &[u8], log: &mut [u8]) -> Performed {
+    fn replay(self, s: &mut [u8], script: &[u8], log: &mut [u8], table: &FlagTable) -> Performed {
         match self {
-            Side::Library => library::replay(s, script, log),
+            Side::Library => library::replay(s, script, log, table),
             Side::Rust => {
-                let p = fast::script::replay(s, script, log);
+                let p = fast::script::replay(s, script, log, table);
                 Performed {
                     calls: p.calls as u64,
                     taken: p.taken as u64,
@@ -175,12 +207,23 @@ fn contents_of(result: Result<Unpacked, Refusal>) -> (Answer, [u64; 6]) {
 
 /// Runs a case on a side; whether answer and bytes are the independent implementation's.
 /// Cases of the lister, of same and of the trips have no call here.
-pub fn agrees(side: Side, case: &Case) -> bool {
-    let outcome = case.run();
-    match (case, outcome) {
+pub fn agrees(side: Side, trial: &Trial) -> bool {
+    let table = &trial.table;
+    let mut permitted = permitted_of(table);
+    let outcome = trial.case.run(&mut permitted);
+    match (&trial.case, outcome) {
+        (Case::Load { marks }, Outcome::Load { result, table: due }) => {
+            let mut loaded = *table;
+            let answer = side.load_flags(marks, &mut loaded);
+            let mut all = *table;
+            side.all_flags(&mut all);
+            answer == of_reference(result.map(|()| Vec::new()))
+                && loaded.as_flattened() == due.marks()
+                && all == ALL
+        }
         (Case::Judge { report }, Outcome::Judge(judged)) => {
             let due = judged.map(|report| vec![Number::bytes(report.bytes)]);
-            side.judge(report) == of_reference(due)
+            side.judge(report, table) == of_reference(due)
         }
         (
             Case::Fresh { required, output },
@@ -206,7 +249,7 @@ pub fn agrees(side: Side, case: &Case) -> bool {
             },
         ) => {
             let (mut values, mut tail) = (values.clone(), tail.clone());
-            let answer = side.unpack(report, &mut values, &mut tail);
+            let answer = side.unpack(report, &mut values, &mut tail, table);
             answer == contents_of(result) && values == due_values && tail == due_tail
         }
         (
@@ -223,7 +266,7 @@ pub fn agrees(side: Side, case: &Case) -> bool {
             },
         ) => {
             let mut output = output.clone();
-            let answer = side.pack(values, *word, *rptin, tail, &mut output);
+            let answer = side.pack(values, *word, *rptin, tail, &mut output, table);
             let result = result.map(|bytes| vec![Number::bytes(bytes)]);
             answer == of_reference(result) && output == due
         }
@@ -232,19 +275,20 @@ pub fn agrees(side: Side, case: &Case) -> bool {
             side.characters(&mut table);
             table == due
         }
-        (Case::Calls { buffer, calls }, _) => list_agrees(side, buffer, calls),
+        (Case::Calls { buffer, calls }, _) => list_agrees(side, buffer, calls, table),
         _ => true,
     }
 }
 
 /// Each call of a list, and the list as a script.
-fn list_agrees(side: Side, start: &[u8], calls: &[Call]) -> bool {
+fn list_agrees(side: Side, start: &[u8], calls: &[Call], table: &FlagTable) -> bool {
+    let permitted = permitted_of(table);
     let mut ours = start.to_vec();
     let mut theirs = start.to_vec();
     for call in calls {
         let mut output = call.output().unwrap_or_default();
-        let answer = side.call(&mut ours, call, &mut output);
-        let due = call.run(&mut theirs);
+        let answer = side.call(&mut ours, call, &mut output, table);
+        let due = call.run(&mut theirs, &permitted);
         if answer != of_reference(due.result)
             || output != due.output.unwrap_or_default()
             || ours != theirs
@@ -256,15 +300,15 @@ fn list_agrees(side: Side, start: &[u8], calls: &[Call]) -> bool {
     let rooms = [4096, 100, 73, 40, 36, 19];
     rooms
         .iter()
-        .all(|&room| script_agrees(side, start, &entries, room))
+        .all(|&room| script_agrees(side, start, &entries, room, table))
 }
 
-fn script_agrees(side: Side, start: &[u8], entries: &[u8], room: usize) -> bool {
+fn script_agrees(side: Side, start: &[u8], entries: &[u8], room: usize, table: &FlagTable) -> bool {
     let mut ours = start.to_vec();
     let mut theirs = start.to_vec();
     let mut log = vec![0xA5; room];
-    let done = side.replay(&mut ours, entries, &mut log);
-    let due = script::run(&mut theirs, entries, room);
+    let done = side.replay(&mut ours, entries, &mut log, table);
+    let due = script::run(&mut theirs, entries, room, &permitted_of(table));
     let written = due.log.len();
     done.calls == due.calls.len() as u64
         && done.taken == due.taken as u64
@@ -272,51 +316,4 @@ fn script_agrees(side: Side, start: &[u8], entries: &[u8], room: usize) -> bool 
         && log[..written] == due.log
         && log[written..].iter().all(|&b| b == 0xA5)
         && ours == theirs
-}
-
-/// Random calls on a report, behind which the buffer has room.
-pub fn calls_on(report: &[u8], room: usize, prng: &mut Prng) -> Case {
-    let mut buffer = report.to_vec();
-    buffer.extend(prng.bytes(room));
-    let mut observation = judge(report).expect("a sound report").observation;
-    let mut calls = Vec::new();
-    for _ in 0..12 {
-        let call = random_call(prng, &observation, buffer.len());
-        observation = step(&observation, buffer.len(), &call).0;
-        calls.push(call);
-    }
-    Case::Calls { buffer, calls }
-}
-
-/// A report with a bit changed or its end cut.
-fn damaged(report: &[u8], prng: &mut Prng) -> Vec<u8> {
-    let mut report = report.to_vec();
-    if prng.one_in(4) {
-        report.truncate(prng.below(report.len() + 1));
-    } else {
-        let index = prng.below(report.len());
-        report[index] ^= 1 << prng.below(8);
-    }
-    report
-}
-
-/// The cases that both sides are tried on: fixed ones, random ones, and those on these reports.
-pub fn cases(seed: u64, count: usize, reports: &[Vec<u8>]) -> Vec<Case> {
-    let mut prng = Prng::new(seed);
-    let mut all = fixed();
-    all.extend(random::cases(seed, count));
-    for report in reports {
-        for _ in 0..count / 40 {
-            let room = prng.pick(&[0, 1, 20, 300]);
-            all.push(calls_on(report, room, &mut prng));
-            let damaged = damaged(report, &mut prng);
-            all.push(Case::Unpack {
-                report: damaged.clone(),
-                values: vec![-77; 48],
-                tail: vec![0xA5; 4000],
-            });
-            all.push(Case::Judge { report: damaged });
-        }
-    }
-    all
 }

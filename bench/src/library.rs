@@ -1,5 +1,7 @@
 //! The archive's calls.
 
+use crate::FlagTable;
+
 /// What a call answers: the refusal's number and place, both 0 where it is
 /// accepted; the labels of the numbers that are given, the first one's in the lowest
 /// byte; the numbers.
@@ -23,10 +25,12 @@ pub struct Performed {
 }
 
 mod symbols {
-    use super::{Answer, Performed};
+    use super::{Answer, FlagTable, Performed};
 
     unsafe extern "C" {
-        pub fn lmr5_judge(report: *const u8, n: usize) -> Answer;
+        pub fn lmr5_all_flags(table: *mut FlagTable);
+        pub fn lmr5_load_flags(marks: *const u8, n: usize, table: *mut FlagTable) -> Answer;
+        pub fn lmr5_judge(report: *const u8, n: usize, table: *const FlagTable) -> Answer;
         pub fn lmr5_fresh(b: i64, y: i64, m: i64, x: i64, z: i64, out: *mut u8, n: usize)
         -> Answer;
         pub fn lmr5_unpack(
@@ -37,6 +41,7 @@ mod symbols {
             tail: *mut u8,
             tail_n: usize,
             contents: *mut u64,
+            table: *const FlagTable,
         ) -> Answer;
         pub fn lmr5_pack(
             values: *const i64,
@@ -47,19 +52,53 @@ mod symbols {
             tail_n: usize,
             out: *mut u8,
             n: usize,
+            table: *const FlagTable,
         ) -> Answer;
-        pub fn lmr5_read_field(report: *const u8, n: usize, field: usize) -> Answer;
-        pub fn lmr5_set_field(report: *mut u8, n: usize, field: usize, value: i64) -> Answer;
-        pub fn lmr5_clear_field(report: *mut u8, n: usize, field: usize) -> Answer;
-        pub fn lmr5_read_flag(report: *const u8, n: usize, flag: usize) -> Answer;
-        pub fn lmr5_set_flag(report: *mut u8, n: usize, flag: usize, value: usize) -> Answer;
-        pub fn lmr5_clear_flag(report: *mut u8, n: usize, flag: usize) -> Answer;
+        pub fn lmr5_read_field(
+            report: *const u8,
+            n: usize,
+            field: usize,
+            table: *const FlagTable,
+        ) -> Answer;
+        pub fn lmr5_set_field(
+            report: *mut u8,
+            n: usize,
+            field: usize,
+            value: i64,
+            table: *const FlagTable,
+        ) -> Answer;
+        pub fn lmr5_clear_field(
+            report: *mut u8,
+            n: usize,
+            field: usize,
+            table: *const FlagTable,
+        ) -> Answer;
+        pub fn lmr5_read_flag(
+            report: *const u8,
+            n: usize,
+            flag: usize,
+            table: *const FlagTable,
+        ) -> Answer;
+        pub fn lmr5_set_flag(
+            report: *mut u8,
+            n: usize,
+            flag: usize,
+            value: usize,
+            table: *const FlagTable,
+        ) -> Answer;
+        pub fn lmr5_clear_flag(
+            report: *mut u8,
+            n: usize,
+            flag: usize,
+            table: *const FlagTable,
+        ) -> Answer;
         pub fn lmr5_put(
             report: *mut u8,
             n: usize,
             id: usize,
             content: *const u8,
             content_n: usize,
+            table: *const FlagTable,
         ) -> Answer;
         pub fn lmr5_fetch(
             report: *const u8,
@@ -67,10 +106,23 @@ mod symbols {
             id: usize,
             out: *mut u8,
             out_n: usize,
+            table: *const FlagTable,
         ) -> Answer;
-        pub fn lmr5_drop(report: *mut u8, n: usize, id: usize) -> Answer;
-        pub fn lmr5_put_text(report: *mut u8, n: usize, text: *const u8, text_n: usize) -> Answer;
-        pub fn lmr5_fetch_text(report: *const u8, n: usize, out: *mut u8, out_n: usize) -> Answer;
+        pub fn lmr5_drop(report: *mut u8, n: usize, id: usize, table: *const FlagTable) -> Answer;
+        pub fn lmr5_put_text(
+            report: *mut u8,
+            n: usize,
+            text: *const u8,
+            text_n: usize,
+            table: *const FlagTable,
+        ) -> Answer;
+        pub fn lmr5_fetch_text(
+            report: *const u8,
+            n: usize,
+            out: *mut u8,
+            out_n: usize,
+            table: *const FlagTable,
+        ) -> Answer;
         pub fn lmr5_character_table(table: *mut u16);
         pub fn lmr5_replay(
             report: *mut u8,
@@ -79,6 +131,7 @@ mod symbols {
             script_n: usize,
             log: *mut u8,
             log_n: usize,
+            table: *const FlagTable,
         ) -> Performed;
     }
 }
@@ -87,8 +140,18 @@ mod symbols {
 // has the length that is asked for, and the archive reads and writes within them only.
 
 #[inline(always)]
-pub fn judge(s: &[u8]) -> Answer {
-    unsafe { symbols::lmr5_judge(s.as_ptr(), s.len()) }
+pub fn all_flags(table: &mut FlagTable) {
+    unsafe { symbols::lmr5_all_flags(table) }
+}
+
+#[inline(always)]
+pub fn load_flags(marks: &[u8], table: &mut FlagTable) -> Answer {
+    unsafe { symbols::lmr5_load_flags(marks.as_ptr(), marks.len(), table) }
+}
+
+#[inline(always)]
+pub fn judge(s: &[u8], table: &FlagTable) -> Answer {
+    unsafe { symbols::lmr5_judge(s.as_ptr(), s.len(), table) }
 }
 
 #[inline(always)]
@@ -97,7 +160,13 @@ pub fn fresh(v: [i64; 5], out: &mut [u8]) -> Answer {
 }
 
 #[inline(always)]
-pub fn unpack(s: &[u8], values: &mut [i64], tail: &mut [u8], contents: &mut [u64; 6]) -> Answer {
+pub fn unpack(
+    s: &[u8],
+    values: &mut [i64],
+    tail: &mut [u8],
+    contents: &mut [u64; 6],
+    table: &FlagTable,
+) -> Answer {
     unsafe {
         symbols::lmr5_unpack(
             s.as_ptr(),
@@ -107,12 +176,20 @@ pub fn unpack(s: &[u8], values: &mut [i64], tail: &mut [u8], contents: &mut [u64
             tail.as_mut_ptr(),
             tail.len(),
             contents.as_mut_ptr(),
+            table,
         )
     }
 }
 
 #[inline(always)]
-pub fn pack(values: &[i64], word: u64, rptin: u16, tail: &[u8], out: &mut [u8]) -> Answer {
+pub fn pack(
+    values: &[i64],
+    word: u64,
+    rptin: u16,
+    tail: &[u8],
+    out: &mut [u8],
+    table: &FlagTable,
+) -> Answer {
     unsafe {
         symbols::lmr5_pack(
             values.as_ptr(),
@@ -123,63 +200,73 @@ pub fn pack(values: &[i64], word: u64, rptin: u16, tail: &[u8], out: &mut [u8]) 
             tail.len(),
             out.as_mut_ptr(),
             out.len(),
+            table,
         )
     }
 }
 
 #[inline(always)]
-pub fn read_field(s: &[u8], k: usize) -> Answer {
-    unsafe { symbols::lmr5_read_field(s.as_ptr(), s.len(), k) }
+pub fn read_field(s: &[u8], k: usize, table: &FlagTable) -> Answer {
+    unsafe { symbols::lmr5_read_field(s.as_ptr(), s.len(), k, table) }
 }
 
 #[inline(always)]
-pub fn set_field(s: &mut [u8], k: usize, v: i64) -> Answer {
-    unsafe { symbols::lmr5_set_field(s.as_mut_ptr(), s.len(), k, v) }
+pub fn set_field(s: &mut [u8], k: usize, v: i64, table: &FlagTable) -> Answer {
+    unsafe { symbols::lmr5_set_field(s.as_mut_ptr(), s.len(), k, v, table) }
 }
 
 #[inline(always)]
-pub fn clear_field(s: &mut [u8], k: usize) -> Answer {
-    unsafe { symbols::lmr5_clear_field(s.as_mut_ptr(), s.len(), k) }
+pub fn clear_field(s: &mut [u8], k: usize, table: &FlagTable) -> Answer {
+    unsafe { symbols::lmr5_clear_field(s.as_mut_ptr(), s.len(), k, table) }
 }
 
 #[inline(always)]
-pub fn read_flag(s: &[u8], j: usize) -> Answer {
-    unsafe { symbols::lmr5_read_flag(s.as_ptr(), s.len(), j) }
+pub fn read_flag(s: &[u8], j: usize, table: &FlagTable) -> Answer {
+    unsafe { symbols::lmr5_read_flag(s.as_ptr(), s.len(), j, table) }
 }
 
 #[inline(always)]
-pub fn set_flag(s: &mut [u8], j: usize, v: usize) -> Answer {
-    unsafe { symbols::lmr5_set_flag(s.as_mut_ptr(), s.len(), j, v) }
+pub fn set_flag(s: &mut [u8], j: usize, v: usize, table: &FlagTable) -> Answer {
+    unsafe { symbols::lmr5_set_flag(s.as_mut_ptr(), s.len(), j, v, table) }
 }
 
 #[inline(always)]
-pub fn clear_flag(s: &mut [u8], j: usize) -> Answer {
-    unsafe { symbols::lmr5_clear_flag(s.as_mut_ptr(), s.len(), j) }
+pub fn clear_flag(s: &mut [u8], j: usize, table: &FlagTable) -> Answer {
+    unsafe { symbols::lmr5_clear_flag(s.as_mut_ptr(), s.len(), j, table) }
 }
 
 #[inline(always)]
-pub fn put(s: &mut [u8], id: usize, content: &[u8]) -> Answer {
-    unsafe { symbols::lmr5_put(s.as_mut_ptr(), s.len(), id, content.as_ptr(), content.len()) }
+pub fn put(s: &mut [u8], id: usize, content: &[u8], table: &FlagTable) -> Answer {
+    unsafe {
+        symbols::lmr5_put(
+            s.as_mut_ptr(),
+            s.len(),
+            id,
+            content.as_ptr(),
+            content.len(),
+            table,
+        )
+    }
 }
 
 #[inline(always)]
-pub fn fetch(s: &[u8], id: usize, out: &mut [u8]) -> Answer {
-    unsafe { symbols::lmr5_fetch(s.as_ptr(), s.len(), id, out.as_mut_ptr(), out.len()) }
+pub fn fetch(s: &[u8], id: usize, out: &mut [u8], table: &FlagTable) -> Answer {
+    unsafe { symbols::lmr5_fetch(s.as_ptr(), s.len(), id, out.as_mut_ptr(), out.len(), table) }
 }
 
 #[inline(always)]
-pub fn remove(s: &mut [u8], id: usize) -> Answer {
-    unsafe { symbols::lmr5_drop(s.as_mut_ptr(), s.len(), id) }
+pub fn remove(s: &mut [u8], id: usize, table: &FlagTable) -> Answer {
+    unsafe { symbols::lmr5_drop(s.as_mut_ptr(), s.len(), id, table) }
 }
 
 #[inline(always)]
-pub fn put_text(s: &mut [u8], text: &[u8]) -> Answer {
-    unsafe { symbols::lmr5_put_text(s.as_mut_ptr(), s.len(), text.as_ptr(), text.len()) }
+pub fn put_text(s: &mut [u8], text: &[u8], table: &FlagTable) -> Answer {
+    unsafe { symbols::lmr5_put_text(s.as_mut_ptr(), s.len(), text.as_ptr(), text.len(), table) }
 }
 
 #[inline(always)]
-pub fn fetch_text(s: &[u8], out: &mut [u8]) -> Answer {
-    unsafe { symbols::lmr5_fetch_text(s.as_ptr(), s.len(), out.as_mut_ptr(), out.len()) }
+pub fn fetch_text(s: &[u8], out: &mut [u8], table: &FlagTable) -> Answer {
+    unsafe { symbols::lmr5_fetch_text(s.as_ptr(), s.len(), out.as_mut_ptr(), out.len(), table) }
 }
 
 #[inline(always)]
@@ -188,7 +275,7 @@ pub fn characters(table: &mut [u16; 256]) {
 }
 
 #[inline(always)]
-pub fn replay(s: &mut [u8], script: &[u8], log: &mut [u8]) -> Performed {
+pub fn replay(s: &mut [u8], script: &[u8], log: &mut [u8], table: &FlagTable) -> Performed {
     unsafe {
         symbols::lmr5_replay(
             s.as_mut_ptr(),
@@ -197,6 +284,7 @@ pub fn replay(s: &mut [u8], script: &[u8], log: &mut [u8]) -> Performed {
             script.len(),
             log.as_mut_ptr(),
             log.len(),
+            table,
         )
     }
 }

@@ -5,8 +5,9 @@
 mod calls;
 mod measure;
 
-use bench::compare::{SIDES, agrees, cases};
+use bench::compare::{SIDES, agrees};
 use bench::reports::{SIZES, observation};
+use bench::trials::trials;
 use measure::{ALL_ROUNDS, Line, PASSES};
 
 /// Calls whose ratio at 38 bytes has a bar of 1.2.
@@ -23,19 +24,18 @@ fn machine() -> String {
 }
 
 fn check() {
-    let reports = SIZES.map(|size| observation(size).packing());
-    let cases = cases(11, 4000, &reports);
-    for (index, case) in cases.iter().enumerate() {
+    let trials = trials(11, 4000, &SIZES.map(observation));
+    for (index, trial) in trials.iter().enumerate() {
         for side in SIDES {
-            if !agrees(side, case) {
-                eprintln!("bench: {side:?} differs in case {index}: {case:?}");
+            if !agrees(side, trial) {
+                eprintln!("bench: {side:?} differs in case {index}: {trial:?}");
                 std::process::exit(1);
             }
         }
     }
     println!(
         "same answers and bytes on both sides: {} cases",
-        cases.len()
+        trials.len()
     );
 }
 
@@ -78,6 +78,7 @@ fn main() {
     let only = std::env::args().nth(1).filter(|name| !name.is_empty());
     check();
     println!("machine: {}; both sides for baseline x86-64", machine());
+    println!("table of flags: every flag is permitted; lent to both sides");
     println!(
         "buffers: not cleared first, warm in the cache; least of {ALL_ROUNDS} interleaved rounds"
     );

@@ -19,12 +19,13 @@ fn number(name: &str) -> String {
         "usize" => "size_t",
         "Answer" => "lmr5_answer",
         "Performed" => "lmr5_performed",
+        "FlagTable" => "lmr5_flag_table",
         other => panic!("crates/lmr5: the type {other} is not known here"),
     }
     .to_string()
 }
 
-/// A parameter as C takes it: one, or a pointer and a length.
+/// A parameter as C takes it: one, or for a slice a pointer and a length.
 fn parameter(text: &str) -> Vec<String> {
     let (name, kind) = text.split_once(':').expect("a name and a type");
     let (name, kind) = (name.trim(), kind.trim());
@@ -35,7 +36,12 @@ fn parameter(text: &str) -> Vec<String> {
         Some(inner) => ("", inner),
         None => ("const ", reference),
     };
-    let inner = inner.trim_start_matches('[').trim_end_matches(']');
+    let Some(inner) = inner.strip_prefix('[') else {
+        return vec![format!("{mark}{} * {name}", number(inner))];
+    };
+    let inner = inner
+        .strip_suffix(']')
+        .expect("a slice's or an array's end");
     match inner.split_once(';') {
         Some((element, count)) => vec![format!(
             "{mark}{} {name} [ {} ]",
@@ -93,6 +99,21 @@ fn structs(text: &str, declared: &mut Declared) {
             fields.collect(),
         );
     }
+}
+
+/// The table of flags, which C takes as a struct: `pub type FlagTable = [[u8; 10]; 14];`.
+fn flag_table(types: &str) -> Vec<String> {
+    let found = types
+        .lines()
+        .find_map(|line| line.strip_prefix("pub type FlagTable = [["));
+    let found = found.expect("the type of the table of flags");
+    let (element, counts) = found.split_once("; ").expect("a row's length");
+    let (columns, counts) = counts.split_once("]; ").expect("the number of rows");
+    let (rows, _) = counts.split_once("];").expect("the type's end");
+    vec![format!(
+        "{} marks [ {rows} ] [ {columns} ]",
+        number(element)
+    )]
 }
 
 /// The entries of the field table, by the comment at each: its number and name.
@@ -212,6 +233,7 @@ fn longest(sizes: &str) -> Vec<String> {
 /// The texts that the header has to agree with.
 pub struct Sources<'a> {
     pub exports: &'a str,
+    pub types: &'a str,
     pub table: &'a str,
     pub script: &'a str,
     pub labels: &'a str,
@@ -223,6 +245,9 @@ pub fn declared(sources: &Sources) -> Declared {
     let mut declared = Declared::default();
     functions(&text, &mut declared);
     structs(&text, &mut declared);
+    declared
+        .structs
+        .insert(number("FlagTable"), flag_table(sources.types));
     let enums = [
         ("lmr5_field", fields(sources.table)),
         ("lmr5_contents", contents(&text)),

@@ -1,7 +1,8 @@
-//! Compares include/lmr5.h with the functions and structs that crates/lmr5 exports, and its numbers with the definitions:
-//! fields, contents, kinds of a script's entries, the log's first bytes, labels, the longest report. Compares the field table
-//! of docs/FORMAT.md with the definitions. Says each difference, and fails if there is one. Its argument is the repository's
-//! folder. refusals.c tries the numbers of refusals and flags, and the table of the characters.
+//! Compares include/lmr5.h with the functions and structs that crates/lmr5 exports, its table of flags with the type of
+//! crates/format, and its numbers with the definitions: fields, contents, kinds of a script's entries, the log's first bytes,
+//! labels, the longest report. Compares the field table of docs/FORMAT.md with the definitions. Says each difference, and
+//! fails if there is one. Its argument is the repository's folder. refusals.c tries the numbers of refusals and flags, the
+//! table of flags and the table of the characters.
 mod code;
 mod header;
 mod page;
@@ -77,6 +78,7 @@ fn main() -> ExitCode {
     let table = read(&root, "crates/format/specs/Field.antt");
     let code = code::declared(&Sources {
         exports: &read(&root, "crates/lmr5/src/lib.rt"),
+        types: &read(&root, "crates/format/src/lib.rt"),
         table: &table,
         script: &read(&root, "crates/script/specs/Script.antt"),
         labels: &read(&root, "crates/script/specs/Labels.antt"),
@@ -115,7 +117,11 @@ mod tests {
     const CODE: &str = "#[repr(C)]\npub struct Answer {\n    pub refusal: u32,\n}\n\
         fn store() {\n    contents[0] = c.word;\n}\n\
         #[no_mangle]\npub extern \"C\" fn lmr5_f(\n    report: &[u8], // read\n    n: usize,\n    to: &mut [u64; 6],\n) -> Answer\n{}\n\
-        #[no_mangle]\npub extern \"C\" fn lmr5_t(table: &mut [u16; 256])\n{}\n";
+        #[no_mangle]\npub extern \"C\" fn lmr5_t(table: &mut [u16; 256])\n{}\n\
+        #[no_mangle]\npub extern \"C\" fn lmr5_m(table: &mut FlagTable)\n{}\n\
+        #[no_mangle]\npub extern \"C\" fn lmr5_j(\n    log: &mut [u8],\n    table: &FlagTable,\n) -> Answer\n{}\n";
+    const TYPES: &str =
+        "pub struct Coded(pub u16);\n// A table.\npub type FlagTable = [[u8; 10]; 14];\n";
     const TABLE: &str = "    field 648 (pos 0) 10 ∷  -- 1 BOX10\n    []\n";
     const SCRIPT: &str = "unfoldable pub scriptEntry : Entry → List ℕ\n\
         scriptEntry (edits (setField k v)) = 2 ∷ (bytes8 k)\nscriptEntry (edits (remove i)) = 9 ∷ bytes8 i\n\
@@ -132,11 +138,14 @@ mod tests {
         enum lmr5_given { LMR5_GIVEN_NOTHING = 0, LMR5_GIVEN_VALUE = 1, LMR5_GIVEN_COUNT = 3, LMR5_GIVEN_MISSING = 128 };\n\
         enum lmr5_longest { LMR5_LONGEST_REPORT = 1853 };\n\
         lmr5_answer lmr5_f(const uint8_t *report, size_t report_length, size_t n, uint64_t to[6]);\n\
-        void lmr5_t(uint16_t table[256]);\n}\n";
+        typedef struct lmr5_flag_table {\n    uint8_t marks[14][10];\n} lmr5_flag_table;\n\
+        void lmr5_t(uint16_t table[256]);\nvoid lmr5_m(lmr5_flag_table *table);\n\
+        lmr5_answer lmr5_j(uint8_t *log, size_t log_length,\n                   const lmr5_flag_table *table);\n}\n";
 
     fn sources() -> Sources<'static> {
         Sources {
             exports: CODE,
+            types: TYPES,
             table: TABLE,
             script: SCRIPT,
             labels: LABELS,
@@ -166,6 +175,20 @@ mod tests {
             ("to[6]", "to[5]"),
             ("table[256]", "table[255]"),
             ("void lmr5_t", "uint32_t lmr5_t"),
+            ("m(lmr5_flag_table *table", "m(const lmr5_flag_table *table"),
+            ("m(lmr5_flag_table *table", "m(lmr5_flag_table table"),
+            ("m(lmr5_flag_table *table", "m(uint8_t *table"),
+            (
+                "m(lmr5_flag_table *table",
+                "m(lmr5_flag_table *table, size_t table_length",
+            ),
+            ("const lmr5_flag_table *", "lmr5_flag_table *"),
+            ("const lmr5_flag_table *", "const lmr5_answer *"),
+            (",\n                   const lmr5_flag_table *table", ""),
+            ("marks[14][10]", "marks[10][14]"),
+            ("marks[14][10]", "marks[140]"),
+            ("marks[14][10]", "marks[14][11]"),
+            ("uint8_t marks", "uint16_t marks"),
             ("uint32_t refusal", "uint64_t refusal"),
             ("LMR5_BOX10 = 1", "LMR5_BOX10 = 2"),
             ("LMR5_BOX10 = 1", "LMR5_BOX = 1"),
@@ -205,6 +228,28 @@ mod tests {
         );
         let missing = LABELS.replace("missingLabel = 128", "missingLabel = 64");
         assert_eq!(said_of(&sources_of(&missing), HEADER).len(), 1);
+        for new in ["[[u8; 10]; 13]", "[[u8; 11]; 14]", "[[u16; 10]; 14]"] {
+            let types = &TYPES.replace("[[u8; 10]; 14]", new);
+            let sources = Sources { types, ..sources() };
+            assert_eq!(said_of(&sources, HEADER).len(), 1, "{new}");
+        }
+        for (old, new) in [
+            ("table: &FlagTable", "table: &mut FlagTable"),
+            ("table: &mut FlagTable", "table: &FlagTable"),
+            ("\n    table: &FlagTable,", ""),
+            (
+                "log: &mut [u8],\n    table: &FlagTable",
+                "table: &FlagTable,\n    log: &mut [u8]",
+            ),
+        ] {
+            assert_eq!(CODE.matches(old).count(), 1, "{old}");
+            let exports = &CODE.replace(old, new);
+            let sources = Sources {
+                exports,
+                ..sources()
+            };
+            assert_eq!(said_of(&sources, HEADER).len(), 1, "{old}");
+        }
         let kind = format!("{SCRIPT}scriptEntry (edits (putText t)) = 10 ∷ bytes8 t\n");
         let head = SCRIPT.replace("headOf (accepted gs) = 1", "headOf (accepted gs) = 3");
         for script in [&kind, &head] {

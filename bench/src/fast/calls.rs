@@ -1,8 +1,9 @@
 //! The eleven calls on a buffer.
 
 use super::card::{CARD, REQUIRED, ROWS, code, replace};
-use super::report::{Report, card_of, content_valid, inspect, quality, sixteen};
-use super::{Answer, Given, Label, given, nibbles, refused, text};
+use super::report::{Report, card_of, content_valid, inspect, sixteen};
+use super::{Answer, Given, Label, flags, given, nibbles, refused, text};
+use crate::FlagTable;
 
 #[inline(always)]
 fn card_mut(s: &mut [u8]) -> &mut [u8; CARD] {
@@ -10,14 +11,14 @@ fn card_mut(s: &mut [u8]) -> &mut [u8; CARD] {
 }
 
 #[inline(never)]
-pub fn judge(s: &[u8]) -> Answer {
-    let r = inspect(s, 0)?;
+pub fn judge(s: &[u8], table: &FlagTable) -> Answer {
+    let r = inspect(s, 0, table)?;
     Ok(given(Label::Bytes, r.size() as i64))
 }
 
 #[inline(never)]
-pub fn read_field(s: &[u8], k: usize) -> Answer {
-    inspect(s, 0)?;
+pub fn read_field(s: &[u8], k: usize, table: &FlagTable) -> Answer {
+    inspect(s, 0, table)?;
     if k.wrapping_sub(1) >= 46 {
         return refused(8, 0);
     }
@@ -29,8 +30,8 @@ pub fn read_field(s: &[u8], k: usize) -> Answer {
 }
 
 #[inline(never)]
-pub fn set_field(s: &mut [u8], k: usize, v: i64) -> Answer {
-    let r = inspect(s, 0)?;
+pub fn set_field(s: &mut [u8], k: usize, v: i64, table: &FlagTable) -> Answer {
+    let r = inspect(s, 0, table)?;
     if k.wrapping_sub(1) >= 46 {
         return refused(8, 0);
     }
@@ -44,8 +45,8 @@ pub fn set_field(s: &mut [u8], k: usize, v: i64) -> Answer {
 }
 
 #[inline(never)]
-pub fn clear_field(s: &mut [u8], k: usize) -> Answer {
-    let r = inspect(s, 0)?;
+pub fn clear_field(s: &mut [u8], k: usize, table: &FlagTable) -> Answer {
+    let r = inspect(s, 0, table)?;
     if k.wrapping_sub(1) >= 46 {
         return refused(8, 0);
     }
@@ -57,8 +58,8 @@ pub fn clear_field(s: &mut [u8], k: usize) -> Answer {
 }
 
 #[inline(never)]
-pub fn read_flag(s: &[u8], j: usize) -> Answer {
-    let r = inspect(s, 1)?;
+pub fn read_flag(s: &[u8], j: usize, table: &FlagTable) -> Answer {
+    let r = inspect(s, 1, table)?;
     if j.wrapping_sub(1) >= 14 {
         return refused(8, 0);
     }
@@ -76,20 +77,20 @@ pub fn read_flag(s: &[u8], j: usize) -> Answer {
 #[inline(always)]
 fn store_flag(s: &mut [u8], at: usize, j: usize, v: u8) {
     let z = 64 - 4 * j as u32;
-    let flags = sixteen(s, at) & !(15 << z) | u64::from(v) << z;
-    let q = quality(flags).unwrap_or(0) as u8;
+    let body = sixteen(s, at) & !(15 << z) | u64::from(v) << z;
+    let q = flags::quality(body).unwrap_or(0) as u8;
     nibbles::put(s, at + j - 1, v);
     nibbles::put(s, at + 14, q >> 4);
     nibbles::put(s, at + 15, q & 15);
 }
 
 #[inline(never)]
-pub fn set_flag(s: &mut [u8], j: usize, v: usize) -> Answer {
-    let r = inspect(s, 1)?;
+pub fn set_flag(s: &mut [u8], j: usize, v: usize, table: &FlagTable) -> Answer {
+    let r = inspect(s, 1, table)?;
     if j.wrapping_sub(1) >= 14 {
         return refused(8, 0);
     }
-    if v.wrapping_sub(1) >= 10 {
+    if !flags::in_range(j, v, table) {
         return refused(9, j);
     }
     if r.place == 0 {
@@ -100,8 +101,8 @@ pub fn set_flag(s: &mut [u8], j: usize, v: usize) -> Answer {
 }
 
 #[inline(never)]
-pub fn clear_flag(s: &mut [u8], j: usize) -> Answer {
-    let r = inspect(s, 1)?;
+pub fn clear_flag(s: &mut [u8], j: usize, table: &FlagTable) -> Answer {
+    let r = inspect(s, 1, table)?;
     if j.wrapping_sub(1) >= 14 {
         return refused(8, 0);
     }
@@ -151,23 +152,23 @@ fn put_nibbles(s: &mut [u8], r: &Report, id: usize, content: &[u8]) -> Answer {
 }
 
 #[inline(never)]
-pub fn put(s: &mut [u8], id: usize, content: &[u8]) -> Answer {
-    let r = inspect(s, id)?;
+pub fn put(s: &mut [u8], id: usize, content: &[u8], table: &FlagTable) -> Answer {
+    let r = inspect(s, id, table)?;
     if id.wrapping_sub(1) >= 15 {
         return refused(8, 0);
     }
     if content.len().wrapping_sub(1) >= 255 {
         return refused(12, 0);
     }
-    if !nibbles::all(content) || !content_valid(id, content) {
+    if !nibbles::all(content) || !content_valid(id, content, table) {
         return refused(14, 0);
     }
     put_nibbles(s, &r, id, content)
 }
 
 #[inline(never)]
-pub fn fetch(s: &[u8], id: usize, out: &mut [u8]) -> Answer {
-    let r = inspect(s, id)?;
+pub fn fetch(s: &[u8], id: usize, out: &mut [u8], table: &FlagTable) -> Answer {
+    let r = inspect(s, id, table)?;
     if id.wrapping_sub(1) >= 15 {
         return refused(8, 0);
     }
@@ -182,8 +183,8 @@ pub fn fetch(s: &[u8], id: usize, out: &mut [u8]) -> Answer {
 }
 
 #[inline(never)]
-pub fn remove(s: &mut [u8], id: usize) -> Answer {
-    let r = inspect(s, id)?;
+pub fn remove(s: &mut [u8], id: usize, table: &FlagTable) -> Answer {
+    let r = inspect(s, id, table)?;
     if id.wrapping_sub(1) >= 15 {
         return refused(8, 0);
     }
@@ -196,8 +197,8 @@ pub fn remove(s: &mut [u8], id: usize) -> Answer {
 }
 
 #[inline(never)]
-pub fn put_text(s: &mut [u8], t: &[u8]) -> Answer {
-    let r = inspect(s, 4)?;
+pub fn put_text(s: &mut [u8], t: &[u8], table: &FlagTable) -> Answer {
+    let r = inspect(s, 4, table)?;
     let mut ns = [0; 260];
     match text::write(t, &mut ns) {
         None | Some(0) => refused(12, 0),
@@ -206,8 +207,8 @@ pub fn put_text(s: &mut [u8], t: &[u8]) -> Answer {
 }
 
 #[inline(never)]
-pub fn fetch_text(s: &[u8], out: &mut [u8]) -> Answer {
-    let r = inspect(s, 4)?;
+pub fn fetch_text(s: &[u8], out: &mut [u8], table: &FlagTable) -> Answer {
+    let r = inspect(s, 4, table)?;
     if r.place == 0 {
         return refused(11, 0);
     }

@@ -4,6 +4,7 @@
 
 pub mod calls;
 mod card;
+pub mod flags;
 mod nibbles;
 mod report;
 pub mod script;

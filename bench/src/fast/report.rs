@@ -1,7 +1,8 @@
 //! A report judged in one walk.
 
 use super::card::{CARD, check, words};
-use super::{Refusal, nibbles, refused, text};
+use super::{Refusal, flags, nibbles, refused, text};
+use crate::FlagTable;
 
 /// What an accepted report shows: its checksum, AC, its end in nibbles, and the
 /// place and AL of the id asked for, both 0 where it does not stand.
@@ -38,60 +39,24 @@ pub fn sixteen(s: &[u8], at: usize) -> u64 {
     }
 }
 
-const ONES: u64 = 0x0101_0101_0101_0101;
-
-/// In each byte, which is under 16: bit 7 where it is at least n.
-#[inline(always)]
-fn reach(x: u64, n: u64) -> u64 {
-    (x + ONES * (128 - n)) & (ONES << 7)
-}
-
-/// The quality code of fourteen flags, the high nibbles of a word; none if a
-/// flag is over 10.
-#[inline(always)]
-pub fn quality(flags: u64) -> Option<u64> {
-    const NIBBLES: u64 = ONES * 15;
-    let flags = flags & !0xff;
-    let a = flags & NIBBLES;
-    let b = flags >> 4 & NIBBLES;
-    if reach(a, 11) | reach(b, 11) != 0 {
-        return None;
-    }
-    if flags == 0 {
-        return Some(0);
-    }
-    let weights = (reach(a, 2) >> 7)
-        + (reach(a, 4) >> 7)
-        + (reach(a, 7) >> 7)
-        + (reach(b, 2) >> 7)
-        + (reach(b, 4) >> 7)
-        + (reach(b, 7) >> 7);
-    Some(1 + (weights.wrapping_mul(ONES) >> 56))
-}
-
-#[inline(always)]
-fn flags_valid(body: u64) -> bool {
-    quality(body) == Some(body & 0xff)
-}
-
 /// The walk's body check.
 #[inline(always)]
-fn body_valid(s: &[u8], at: usize, al: usize, id: usize) -> bool {
+fn body_valid(s: &[u8], at: usize, al: usize, id: usize, table: &FlagTable) -> bool {
     match id {
-        1 => al == 16 && flags_valid(sixteen(s, at)),
+        1 => al == 16 && flags::valid(sixteen(s, at), table),
         4 => text::valid(s, at, al),
         _ => true,
     }
 }
 
-/// Whether nibbles, one a byte and each under 16, may stand under an id.
+/// Whether nibbles, one a byte and each under 16, may stand under an id and a table.
 #[inline(always)]
-pub fn content_valid(id: usize, ns: &[u8]) -> bool {
+pub fn content_valid(id: usize, ns: &[u8], table: &FlagTable) -> bool {
     match id {
         1 => {
             ns.len() == 16 && {
                 let word = ns.iter().fold(0, |a, &n| a << 4 | u64::from(n));
-                flags_valid(word)
+                flags::valid(word, table)
             }
         }
         4 => text::valid_nibbles(ns),
@@ -99,9 +64,9 @@ pub fn content_valid(id: usize, ns: &[u8]) -> bool {
     }
 }
 
-/// Judges the report, and says where an id stands in it.
+/// Judges the report under a table, and says where an id stands in it.
 #[inline(always)]
-pub fn inspect(s: &[u8], want: usize) -> Result<Report, Refusal> {
+pub fn inspect(s: &[u8], want: usize, table: &FlagTable) -> Result<Report, Refusal> {
     let Some(card) = s.first_chunk::<CARD>() else {
         return refused(1, 0);
     };
@@ -137,7 +102,7 @@ pub fn inspect(s: &[u8], want: usize) -> Result<Report, Refusal> {
         if end.div_ceil(2) > s.len() {
             return refused(1, position);
         }
-        if !body_valid(s, at + 3, al, id) {
+        if !body_valid(s, at + 3, al, id, table) {
             return refused(6, position);
         }
         if want != 0 && id == want {
@@ -152,9 +117,10 @@ pub fn inspect(s: &[u8], want: usize) -> Result<Report, Refusal> {
     Ok(r)
 }
 
-/// Checks a tail, one nibble a byte and each under 16; gives the number of attachments.
+/// Checks a tail, one nibble a byte and each under 16, under a table; gives the number of
+/// attachments.
 #[inline(always)]
-pub fn walk_nibbles(ns: &[u8]) -> Result<usize, Refusal> {
+pub fn walk_nibbles(ns: &[u8], table: &FlagTable) -> Result<usize, Refusal> {
     let mut seen = 1u32;
     let mut position = 0;
     let mut rest = ns;
@@ -172,7 +138,7 @@ pub fn walk_nibbles(ns: &[u8]) -> Result<usize, Refusal> {
         let Some((body, behind)) = body.split_at_checked(al) else {
             return refused(1, position);
         };
-        if !content_valid(id, body) {
+        if !content_valid(id, body, table) {
             return refused(6, position);
         }
         rest = behind;

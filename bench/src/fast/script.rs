@@ -1,6 +1,7 @@
 //! A script of calls performed on one buffer, and the log of their answers.
 
 use super::{Answer, calls};
+use crate::FlagTable;
 
 #[derive(Clone, Copy, Debug, Default, PartialEq, Eq)]
 pub struct Performed {
@@ -42,44 +43,53 @@ fn record(front: &mut [u8; FRONT], answer: Answer) {
 
 /// Performs the entry at the head of a script; what is left of it, and how much was written.
 #[inline(always)]
-fn perform<'a>(b: &mut [u8], script: &'a [u8], log: &mut [u8]) -> Option<(&'a [u8], usize)> {
+fn perform<'a>(
+    b: &mut [u8],
+    script: &'a [u8],
+    log: &mut [u8],
+    table: &FlagTable,
+) -> Option<(&'a [u8], usize)> {
     let (&kind, rest) = script.split_first()?;
     let (front, behind) = log.split_first_chunk_mut::<FRONT>()?;
     let (k, after) = number(rest)?;
     let k = k as usize;
     let (answer, rest, written) = match kind {
-        1 => (calls::read_field(b, k), after, FRONT),
+        1 => (calls::read_field(b, k, table), after, FRONT),
         2 => {
             let (v, after) = number(after)?;
-            (calls::set_field(b, k, v as i64), after, FRONT)
+            (calls::set_field(b, k, v as i64, table), after, FRONT)
         }
-        3 => (calls::clear_field(b, k), after, FRONT),
-        4 => (calls::read_flag(b, k), after, FRONT),
+        3 => (calls::clear_field(b, k, table), after, FRONT),
+        4 => (calls::read_flag(b, k, table), after, FRONT),
         5 => {
             let (v, after) = number(after)?;
-            (calls::set_flag(b, k, v as usize), after, FRONT)
+            (calls::set_flag(b, k, v as usize, table), after, FRONT)
         }
-        6 => (calls::clear_flag(b, k), after, FRONT),
+        6 => (calls::clear_flag(b, k, table), after, FRONT),
         7 => {
             let (content, after) = counted(after)?;
-            (calls::put(b, k, content), after, FRONT)
+            (calls::put(b, k, content, table), after, FRONT)
         }
         8 => {
             let (output, after) = counted(after)?;
             let out = behind.get_mut(..output.len())?;
             out.copy_from_slice(output);
-            (calls::fetch(b, k, out), after, FRONT + output.len())
+            (calls::fetch(b, k, out, table), after, FRONT + output.len())
         }
-        9 => (calls::remove(b, k), after, FRONT),
+        9 => (calls::remove(b, k, table), after, FRONT),
         10 => {
             let (text, after) = counted(rest)?;
-            (calls::put_text(b, text), after, FRONT)
+            (calls::put_text(b, text, table), after, FRONT)
         }
         11 => {
             let (output, after) = counted(rest)?;
             let out = behind.get_mut(..output.len())?;
             out.copy_from_slice(output);
-            (calls::fetch_text(b, out), after, FRONT + output.len())
+            (
+                calls::fetch_text(b, out, table),
+                after,
+                FRONT + output.len(),
+            )
         }
         _ => return None,
     };
@@ -88,10 +98,10 @@ fn perform<'a>(b: &mut [u8], script: &'a [u8], log: &mut [u8]) -> Option<(&'a [u
 }
 
 #[inline(never)]
-pub fn replay(b: &mut [u8], script: &[u8], log: &mut [u8]) -> Performed {
+pub fn replay(b: &mut [u8], script: &[u8], log: &mut [u8], table: &FlagTable) -> Performed {
     let mut done = Performed::default();
     let mut rest = script;
-    while let Some((behind, written)) = perform(b, rest, &mut log[done.written..]) {
+    while let Some((behind, written)) = perform(b, rest, &mut log[done.written..], table) {
         done.calls += 1;
         done.written += written;
         rest = behind;

@@ -5,6 +5,7 @@ use super::card::{
 };
 use super::report::{inspect, walk_nibbles};
 use super::{Answer, Given, Label, Refusal, given, nibbles, refused};
+use crate::FlagTable;
 
 /// What unpack gives beside the values and the tail.
 #[derive(Clone, Copy, Debug, Default, PartialEq, Eq)]
@@ -23,8 +24,9 @@ pub fn unpack(
     values: &mut [i64],
     tail: &mut [u8],
     contents: &mut Contents,
+    table: &FlagTable,
 ) -> Result<(), Refusal> {
-    let r = inspect(s, 0)?;
+    let r = inspect(s, 0, table)?;
     let n = r.end - 75;
     let Some(values) = values.first_chunk_mut::<46>() else {
         return refused(13, 0);
@@ -151,7 +153,14 @@ fn first_fault(values: &[i64; 46], word: u64) -> Refusal {
 }
 
 #[inline(never)]
-pub fn pack(values: &[i64], word: u64, rptin: u16, tail: &[u8], out: &mut [u8]) -> Answer {
+pub fn pack(
+    values: &[i64],
+    word: u64,
+    rptin: u16,
+    tail: &[u8],
+    out: &mut [u8],
+    table: &FlagTable,
+) -> Answer {
     let Some(values) = values.first_chunk::<46>() else {
         return refused(13, 0);
     };
@@ -178,7 +187,7 @@ pub fn pack(values: &[i64], word: u64, rptin: u16, tail: &[u8], out: &mut [u8]) 
     if !nibbles::all(tail) {
         return refused(14, 0);
     }
-    let count = walk_nibbles(tail)?;
+    let count = walk_nibbles(tail, table)?;
     let n = 75 + tail.len();
     let size = n.div_ceil(2);
     let Some(out) = out.get_mut(..size) else {

@@ -1,0 +1,196 @@
+//! What both sides are tried on: cases, each with the table of flags that it runs under.
+
+use std::array::from_fn;
+
+use reference::call::Call;
+use reference::cases::material::{
+    forbid_flag, permit_flags, random_flag_table, random_flags, random_observation, tail_of,
+    values_and_word,
+};
+use reference::cases::random::random_call;
+use reference::cases::{Case, fixed, random};
+use reference::flag_table::FlagTable as Permitted;
+use reference::flags::{self, FLAGS};
+use reference::observation::Observation;
+use reference::prng::Prng;
+use reference::step::step;
+
+use crate::FlagTable;
+
+/// A case, and the table that it runs under. A load begins with it.
+#[derive(Clone, Debug)]
+pub struct Trial {
+    pub table: FlagTable,
+    pub case: Case,
+}
+
+/// The table that permits everything.
+pub const ALL: FlagTable = [[1; 10]; 14];
+
+/// A table as the independent implementation has it.
+pub fn permitted_of(table: &FlagTable) -> Permitted {
+    let marks = table.as_flattened().try_into();
+    Permitted::of(marks.expect("a table has 140 marks"))
+}
+
+fn rows_of(table: &Permitted) -> FlagTable {
+    let marks = table.marks();
+    from_fn(|row| from_fn(|column| marks[10 * row + column]))
+}
+
+/// A table that permits everything or most of it, often with a few marks that no load gives.
+pub fn random_table(prng: &mut Prng) -> FlagTable {
+    let sound = rows_of(&random_flag_table(prng));
+    let mut table = prng.pick(&[ALL, sound]);
+    for _ in 0..prng.pick(&[0, 0, 1, 2, 5, 40]) {
+        let byte = prng.next_u64() as u8;
+        table[prng.below(14)][prng.below(10)] = prng.pick(&[0, 0, 2, 255, byte]);
+    }
+    table
+}
+
+/// Random flags that a table permits. One time in four it forbids one of them, if it forbids any.
+fn random_body(prng: &mut Prng, table: &FlagTable) -> Vec<u8> {
+    let permitted = permitted_of(table);
+    let mut flags = random_flags(prng)[..FLAGS].to_vec();
+    permit_flags(prng, &permitted, &mut flags);
+    if prng.one_in(4) {
+        forbid_flag(prng, &permitted, &mut flags);
+    }
+    flags::body_of(&flags)
+}
+
+/// A call of any kind, often one on flags.
+fn call_on(prng: &mut Prng, observation: &Observation, n: usize, table: &FlagTable) -> Call {
+    match prng.below(8) {
+        0 => Call::Put {
+            id: flags::ID.into(),
+            content: random_body(prng, table),
+        },
+        1 => Call::SetFlag {
+            flag: 1 + prng.below(14) as u64,
+            value: prng.below(12) as i64,
+        },
+        _ => random_call(prng, observation, n),
+    }
+}
+
+/// Random calls on a report, behind which the buffer has room.
+fn calls_on(observation: &Observation, prng: &mut Prng, table: &FlagTable) -> Case {
+    let room = prng.pick(&[0, 1, 20, 300]);
+    let mut buffer = observation.packing();
+    buffer.extend(prng.bytes(room));
+    let mut observation = observation.clone();
+    let mut calls = Vec::new();
+    for _ in 0..12 {
+        let call = call_on(prng, &observation, buffer.len(), table);
+        observation = step(&observation, buffer.len(), &call, &permitted_of(table)).0;
+        calls.push(call);
+    }
+    Case::Calls { buffer, calls }
+}
+
+/// A report with a bit changed or its end cut.
+fn damaged(report: &[u8], prng: &mut Prng) -> Vec<u8> {
+    let mut report = report.to_vec();
+    if prng.one_in(4) {
+        report.truncate(prng.below(report.len() + 1));
+    } else {
+        let index = prng.below(report.len());
+        report[index] ^= 1 << prng.below(8);
+    }
+    report
+}
+
+fn unpack_of(report: Vec<u8>) -> Case {
+    Case::Unpack {
+        report,
+        values: vec![-77; 48],
+        tail: vec![0xA5; 4000],
+    }
+}
+
+fn pack_of(observation: &Observation) -> Case {
+    let (values, word) = values_and_word(observation, 0);
+    Case::Pack {
+        values,
+        word,
+        rptin: observation.rptin,
+        tail: tail_of(observation),
+        output: vec![0xA5; 1900],
+    }
+}
+
+/// The fixed cases. A load among them is in force for those behind it.
+fn fixed_trials() -> Vec<Trial> {
+    let mut permitted = Permitted::all();
+    let trial = |case| {
+        let table = rows_of(&permitted);
+        if let Case::Load { marks } = &case {
+            permitted.load(marks).ok();
+        }
+        Trial { table, case }
+    };
+    fixed().into_iter().map(trial).collect()
+}
+
+/// Calls on an observation, and its report damaged.
+fn trials_on(observation: &Observation, prng: &mut Prng) -> Vec<Trial> {
+    let damaged = damaged(&observation.packing(), prng);
+    let cases = [
+        calls_on(observation, prng, &ALL),
+        unpack_of(damaged.clone()),
+        Case::Judge { report: damaged },
+    ];
+    cases.map(|case| Trial { table: ALL, case }).to_vec()
+}
+
+/// An observation under a table: judged, unpacked, packed, and calls on it.
+fn trials_under(table: FlagTable, prng: &mut Prng) -> Vec<Trial> {
+    let mut observation = random_observation(prng);
+    for attachment in &mut observation.attachments {
+        if attachment.id == flags::ID {
+            attachment.nibbles = random_body(prng, &table);
+        }
+    }
+    let report = observation.packing();
+    let cases = [
+        calls_on(&observation, prng, &table),
+        pack_of(&observation),
+        unpack_of(report.clone()),
+        Case::Judge { report },
+    ];
+    cases.map(|case| Trial { table, case }).to_vec()
+}
+
+/// A lent table, beside a former one: sound, of another length, with another byte or an empty row.
+fn load_trial(prng: &mut Prng) -> Trial {
+    let table = random_table(prng);
+    let mut marks = random_flag_table(prng).marks().to_vec();
+    match prng.below(6) {
+        0 => marks.resize(prng.pick(&[0, 10, 139, 141, 150, 280]), 1),
+        1 => marks[prng.below(140)] = 2 + prng.below(254) as u8,
+        2 => marks[10 * prng.below(14)..][..10].fill(0),
+        _ => {}
+    }
+    let case = Case::Load { marks };
+    Trial { table, case }
+}
+
+/// Fixed trials, random ones, some of them under random tables, and those on these observations.
+pub fn trials(seed: u64, count: usize, observations: &[Observation]) -> Vec<Trial> {
+    let mut prng = Prng::new(seed);
+    let mut all = fixed_trials();
+    all.extend(random::cases(seed, count).map(|case| Trial { table: ALL, case }));
+    for _ in 0..count / 10 {
+        let table = random_table(&mut prng);
+        all.extend(trials_under(table, &mut prng));
+        all.push(load_trial(&mut prng));
+    }
+    for observation in observations {
+        for _ in 0..count / 40 {
+            all.extend(trials_on(observation, &mut prng));
+        }
+    }
+    all
+}
