@@ -9,8 +9,8 @@ use mathlib.Core.Bool.{Bool, true, false, cond, not, _&&_, _||_}
 use mathlib.Core.List.{List, [], _∷_, _++_, append-assoc}
 use lib.ListN.{length, getD, take, drop, length-append, length-drop}
 use lib.Seq.{take-at, take-suc, take-add, take-all, drop-cons, drop-drop, getD-drop, getD-append-add}
-use lib.Dec.{eqb, leb}
-use borrow.Author.Tests.{le-leb, lt-leb, ne-eqb, eqb-true, eqb-false, leb-true, not-true}
+use lib.Dec.{eqb, leb, ltb}
+use borrow.Author.Tests.{le-leb, lt-leb, ne-eqb, eqb-true, eqb-false, leb-true, ltb-true, not-true}
 use Rattle.format.specs.Order.{between}
 use Rattle.format.specs.Bits.{bitField, Bytes}
 use Rattle.format.specs.Nibbles.{nibbles}
@@ -21,7 +21,7 @@ use Rattle.words.proofs.Turned.{join, byte}
 use Rattle.laws.proofs.Order.{between-in}
 use Rattle.laws.proofs.Flags.{missing-fits, flag-set-valid}
 use Rattle.laws.proofs.Characters.{allBelow, at-below}
-use Rattle.flags.specs.Word.{nibblesIn, Column}
+use Rattle.flags.specs.Word.{nibblesIn, columnOf, faultOf}
 use Rattle.flags.specs.Missing.{MissingPermitted}
 
 and-true-right : (t : Bool) → t && true ≡ t
@@ -31,14 +31,6 @@ and-true-right false = refl
 and-false-right : (t : Bool) → t && false ≡ false
 and-false-right true = refl
 and-false-right false = refl
-
-or-true-right : (t : Bool) → t || true ≡ true
-or-true-right true = refl
-or-true-right false = refl
-
-or-false-right : (t : Bool) → t || false ≡ t
-or-false-right true = refl
-or-false-right false = refl
 
 and-assoc : (a b c : Bool) → a && (b && c) ≡ (a && b) && c
 and-assoc true b c = refl
@@ -279,53 +271,79 @@ inside v r e n = between-in 1 10 v r e n
 pub by-mark : (marks : FlagTable) (j v : ℕ) (r : Bool) → r ≡ between 1 10 v → not r ≡ false → eqb (getD (getD marks (j - 1) []) (v - 1) 0) 1 ≡ flagInRange marks j v
 by-mark marks j v r e n = let h = inside v r e n in rw (le-leb 1 v (h .0), le-leb v 10 (h .1))
 
+-- the columns, by one computed test
+pub column-bits : (v : ℕ) → v < 16 → (0x9999998765432109 / 2 ^ (4 * v) % 16 ≡ columnOf v) × (0x9999998765432109 / 2 ^ (4 * v) % 16 < 10)
+unfolding columnOf allBelow
+column-bits v h = (
+  eqb-true _ _ (at-below 16 (λ k. eqb (0x9999998765432109 / 2 ^ (4 * k) % 16) (columnOf k)) v refl h),
+  ltb-true _ _ (at-below 16 (λ k. ltb (0x9999998765432109 / 2 ^ (4 * k) % 16) 10) v refl h),
+)
+
+-- what a value and its mark show
+pub fault-missing : (v mark : ℕ) → v ≡ 0 → 0 ≡ faultOf v mark
+unfolding faultOf
+fault-missing v mark e = rw e
+
+pub fault-over : (v mark : ℕ) → (v ≡ 0 → ⊥) → 10 < v → 1 ≡ faultOf v mark
+unfolding faultOf
+fault-over v mark n h = rw (ne-eqb v 0 n, le-leb 1 v (omega arith), lt-leb v 10 h)
+
+pub fault-mark : (v mark : ℕ) → (v ≡ 0 → ⊥) → v ≤ 10 → (t : Bool) → eqb mark 1 ≡ t → cond t 0 1 ≡ faultOf v mark
+unfolding faultOf
+fault-mark v mark n h t e = rw (ne-eqb v 0 n, le-leb 1 v (omega arith), le-leb v 10 h, e)
+
+-- the mark in the value's column decides
+fault-is : (marks : FlagTable) (j v : ℕ) → faultOf v (getD (getD marks (j - 1) []) (columnOf v) 0) ≡ cond (flagFits marks j v) 0 1
+unfolding faultOf columnOf
+fault-is marks j v =
+    test-case (eqb v 0) (λ e. rw e)
+    (λ e. rw e (test-case (between 1 10 v) (λ b. rw b) (λ b. rw b)))
+
 -- n flags are left to be looked at
-pub record Fitting (marks : FlagTable) (flags n left : ℕ) : Type 0 where
+pub record Fitting (marks : FlagTable) (flags n left faults : ℕ) : Type 0 where
   pub few : n ≤ 14
-  pub same : flagsFit marks 1 (nibblesIn n left) ≡ flagsFit marks 1 (nibblesIn 14 flags)
+  pub small : faults + n ≤ 14
+  pub sound : faults ≡ 0 → flagsFit marks 1 (nibblesIn n left) ≡ flagsFit marks 1 (nibblesIn 14 flags)
+  pub broken : (faults ≡ 0 → ⊥) → flagsFit marks 1 (nibblesIn 14 flags) ≡ false
 
-pub fit-none : (marks : FlagTable) (flags : ℕ) → Fitting marks flags 14 flags
-fit-none marks flags = record { few = omega arith; same = refl }
+pub fit-none : (marks : FlagTable) (flags : ℕ) → Fitting marks flags 14 flags 0
+fit-none marks flags = record { few = omega arith; small = omega arith; sound = λ e. refl; broken = λ n. absurd (n refl) }
 
-module _ (marks : FlagTable) (flags n left : ℕ) (h : 0 < n) (k : Fitting marks flags n left) where
-  last-fits : flagsFit marks 1 (nibblesIn 14 flags) ≡ flagsFit marks 1 (nibblesIn (n - 1) (left / 16)) && flagFits marks n (left % 16)
-  last-fits =
+module _ (marks : FlagTable) (flags n left faults : ℕ) (h : 0 < n) (k : Fitting marks flags n left faults) where
+  last-fits : faults ≡ 0 → flagsFit marks 1 (nibblesIn 14 flags) ≡ flagsFit marks 1 (nibblesIn (n - 1) (left / 16)) && flagFits marks n (left % 16)
+  last-fits z =
       let e : 1 + length (nibblesIn (n - 1) (left / 16)) ≡ n = omega (arith, in-length (n - 1) (left / 16)) in
-      sym (k .same) ∙ ap (flagsFit marks 1) (in-last n left h) ∙ fit-more marks 1 (nibblesIn (n - 1) (left / 16)) (left % 16)
+      sym (k .sound z) ∙ ap (flagsFit marks 1) (in-last n left h) ∙ fit-more marks 1 (nibblesIn (n - 1) (left / 16)) (left % 16)
       ∙ ap (λ (j : ℕ). flagsFit marks 1 (nibblesIn (n - 1) (left / 16)) && flagFits marks j (left % 16)) e
 
-  -- a value over ten
-  pub fit-over : 10 < left % 16 → false ≡ flagsFit marks 1 (nibblesIn 14 flags)
-  fit-over o =
-      let f : flagFits marks n (left % 16) ≡ false = rw (ne-eqb (left % 16) 0 (λ z. omega arith), le-leb 1 (left % 16) (omega arith), lt-leb (left % 16) 10 o) in
-      sym (last-fits ∙ ap (λ (t : Bool). flagsFit marks 1 (nibblesIn (n - 1) (left / 16)) && t) f ∙ and-false-right (flagsFit marks 1 (nibblesIn (n - 1) (left / 16))))
+  pub fit-next : (column fault : ℕ) → column ≡ columnOf (left % 16)
+      → (fault ≡ faultOf (left % 16) (getD (getD marks (n - 1) []) column 0)) × (fault ≤ 1) → Fitting marks flags (n - 1) (left / 16) (faults + fault)
+  fit-next column fault ec ef =
+      let is : fault ≡ cond (flagFits marks n (left % 16)) 0 1 =
+      ef .0 ∙ ap (λ (i : ℕ). faultOf (left % 16) (getD (getD marks (n - 1) []) i 0)) ec ∙ fault-is marks n (left % 16) in
+      let rest = flagsFit marks 1 (nibblesIn (n - 1) (left / 16)) in
+      record {
+        few = omega (arith, k .few);
+        small = omega (arith, k .small, ef .1);
+        sound = λ z. test-case (flagFits marks n (left % 16))
+            (λ t. sym (last-fits (omega arith) ∙ ap (λ (b : Bool). rest && b) t ∙ and-true-right rest))
+            (λ t. let one : fault ≡ 1 = is ∙ rw t in absurd (omega arith));
+        broken = λ m. test-case (eqb faults 0) (λ z. go m (eqb-true faults 0 z) is) (λ z. k .broken (eqb-false faults 0 z));
+      }
+    where
+      go : (faults + fault ≡ 0 → ⊥) → faults ≡ 0 → fault ≡ cond (flagFits marks n (left % 16)) 0 1 → flagsFit marks 1 (nibblesIn 14 flags) ≡ false
+      go m z is =
+          test-case (flagFits marks n (left % 16))
+          (λ t. let none : fault ≡ 0 = is ∙ rw t in absurd (m (omega arith)))
+          (λ t. last-fits z ∙ ap (λ (b : Bool). flagsFit marks 1 (nibblesIn (n - 1) (left / 16)) && b) t ∙ and-false-right (flagsFit marks 1 (nibblesIn (n - 1) (left / 16))))
 
-  -- the mark in the value's column decides, but for a missing flag
-  module _ (u : left % 16 ≤ 10) (column : ℕ) (at : Column (left % 16) column) where
-    stood : (v : ℕ) → v ≤ 10 → Column v column → eqb (getD (getD marks (n - 1) []) column 0) 1 || eqb v 0 ≡ flagFits marks n v
-    stood zero l c = or-true-right (eqb (getD (getD marks (n - 1) []) column 0) 1)
-    stood (suc v) l c =
-        let z = ne-eqb (suc v) 0 (λ e. omega arith) in
-        let f : flagFits marks n (suc v) ≡ eqb (getD (getD marks (n - 1) []) (suc v - 1) 0) 1 = rw (z, le-leb 1 (suc v) (omega arith), le-leb (suc v) 10 l) in
-        rw z (or-false-right (eqb (getD (getD marks (n - 1) []) column 0) 1)) ∙ ap (λ (i : ℕ). eqb (getD (getD marks (n - 1) []) i 0) 1) (c .is (λ e. omega arith)) ∙ sym f
-
-    pub fit-next : (r : Bool) → r ≡ (eqb (getD (getD marks (n - 1) []) column 0) 1 || eqb (left % 16) 0) → r ≡ true → Fitting marks flags (n - 1) (left / 16)
-    fit-next r e t =
-        let f : flagFits marks n (left % 16) ≡ true = sym (stood (left % 16) u at) ∙ sym e ∙ t in
-        record {
-          few = omega (arith, k .few);
-          same = sym (last-fits ∙ ap (λ (b : Bool). flagsFit marks 1 (nibblesIn (n - 1) (left / 16)) && b) f ∙ and-true-right (flagsFit marks 1 (nibblesIn (n - 1) (left / 16))));
-        }
-
-    pub fit-not : (r : Bool) → r ≡ (eqb (getD (getD marks (n - 1) []) column 0) 1 || eqb (left % 16) 0) → r ≡ false → false ≡ flagsFit marks 1 (nibblesIn 14 flags)
-    fit-not r e t =
-        let f : flagFits marks n (left % 16) ≡ false = sym (stood (left % 16) u at) ∙ sym e ∙ t in
-        sym (last-fits ∙ ap (λ (b : Bool). flagsFit marks 1 (nibblesIn (n - 1) (left / 16)) && b) f ∙ and-false-right (flagsFit marks 1 (nibblesIn (n - 1) (left / 16))))
-
-pub fit-all : (marks : FlagTable) (flags n left : ℕ) → n ≤ 0 → Fitting marks flags n left → true ≡ flagsFit marks 1 (nibblesIn 14 flags)
+pub fit-all : (marks : FlagTable) (flags n left faults : ℕ) → n ≤ 0 → Fitting marks flags n left faults → eqb faults 0 ≡ flagsFit marks 1 (nibblesIn 14 flags)
 unfolding nibblesIn flagsFit
-fit-all marks flags zero left h k = k .same
-fit-all marks flags (suc n) left h k = absurd (omega arith)
+fit-all marks flags zero left faults h k =
+    test-case (eqb faults 0)
+    (λ t. t ∙ k .sound (eqb-true faults 0 t))
+    (λ t. t ∙ sym (k .broken (eqb-false faults 0 t)))
+fit-all marks flags (suc n) left faults h k = absurd (omega arith)
 
 -- ---- a body
 
@@ -360,6 +378,11 @@ module _ (row : List ℕ) (w : ℕ) (e : nibblesIn 16 w ≡ row) where
 
   pub body-unfit : (marks : FlagTable) → false ≡ flagsFit marks 1 (nibblesIn 14 (w / 256)) → false ≡ flagsValid marks row
   body-unfit marks f = sym (body-is marks ∙ rw (sym f))
+
+-- no flag, and quality code 0
+pub body-none : (marks : FlagTable) (row : List ℕ) (w : ℕ) → nibblesIn 16 w ≡ row → w ≡ 0 → true ≡ flagsValid marks row
+unfolding nibblesIn flagsValid flagsFit qualityCode allMissing
+body-none marks row w e z = ap (flagsValid marks) (ap (nibblesIn 16) (sym z) ∙ e)
 
 pub other-length : (marks : FlagTable) (row : List ℕ) (n : ℕ) → length row ≡ n → (n ≡ 16 → ⊥) → false ≡ flagsValid marks row
 unfolding flagsValid

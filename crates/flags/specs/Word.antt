@@ -1,14 +1,19 @@
--- Nibbles held in one number, and the column of a flag's value.
-use Prim.Native.Nat.{ℕ, zero, suc, _-_, _/_, _%_, _<_}
-use mathlib.Core.Path.{_≡_}
+-- Nibbles held in one number; the column of a flag's value, and what its mark says of it.
+use Prim.Native.Nat.{ℕ, zero, suc, _-_, _/_, _%_}
+use mathlib.Core.Bool.{cond, _&&_}
 use mathlib.Core.List.{List, [], _∷_, _++_}
+use lib.Dec.{eqb}
+use Rattle.format.specs.Order.{between}
 
 -- the n low nibbles of a number, the highest first
 unfoldable pub nibblesIn : ℕ → ℕ → List ℕ
 nibblesIn zero w = []
 nibblesIn (suc n) w = nibblesIn n (w / 16) ++ (w % 16 ∷ [])
 
--- a column, which is that of the value v where v is not 0
-pub record Column (v column : ℕ) : Type 0 where
-  pub within : column < 10
-  pub is : (v ≡ 0 → ⊥) → column ≡ v - 1
+-- the column of a flag's value in its row of the table; the last for a number that is no value
+unfoldable pub columnOf : ℕ → ℕ
+columnOf v = cond (between 1 10 v) (v - 1) 9
+
+-- 0 where a flag is missing, or has a value and the mark 1; else 1
+unfoldable pub faultOf : ℕ → ℕ → ℕ
+faultOf v mark = cond (eqb v 0) 0 (cond (between 1 10 v && eqb mark 1) 0 1)

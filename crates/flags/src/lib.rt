@@ -1,13 +1,11 @@
 // The flags of attachment 1: whether a body is valid under a table of permitted flags, and the quality code of fourteen flags.
 ghost use mathlib.Core.Path.{_≡_};
-ghost use mathlib.Core.Bool.{_||_};
 ghost use Prim.Native.Nat.{_+_, _*_, _≤_, _<_, _^_};
 ghost use lib.ListN.{length, take, drop};
-ghost use lib.Dec.{eqb};
 ghost use Rattle.format.specs.Nibbles.{nibbles, Nibbles};
 ghost use Rattle.format.specs.Flags.{weight, totalWeight, flagInRange, flagsFit, flagsValid, qualityCode};
 ghost use Rattle.nibble.specs.View.{view, part};
-ghost use Rattle.flags.specs.Word.{nibblesIn, Column};
+ghost use Rattle.flags.specs.Word.{nibblesIn, columnOf, faultOf};
 ghost use Rattle.flags.specs.Missing.{MissingPermitted};
 use format::FlagTable;
 use nibble::Cursor;
@@ -111,48 +109,48 @@ pub fn in_range(j: usize, v: usize, marks: FlagTable) -> bool
     marks[j - 1][v - 1] == 1
 }
 
-// The column of a value. A missing flag has none and gets the last, so that its mark is looked up without a branch and then
-// not heeded.
+// The column of a value, four bits for each. A value that has none gets the last column, so that a mark is looked up for every
+// value without a branch.
 fn column(v: u64) -> usize
-    requires { ⌜ v ≤ 10 ⌝ }
-    ensures { λ r. ⌜ Column v r ⌝ }
+    requires { ⌜ v < 16 ⌝ }
+    ensures { λ r. ⌜ (r ≡ columnOf v) × (r < 10) ⌝ }
+{
+    (0x9999998765432109u64 >> (4 * v)) as usize % 16
+}
+
+// 0 where a flag of this value may stand, given its mark, else 1. A missing one needs no mark.
+fn fault(v: u64, mark: u8) -> u64
+    ensures { λ r. ⌜ (r ≡ faultOf v mark) × (r ≤ 1) ⌝ }
 {
     if v == 0 {
-        return 9;
+        return 0;
     }
-    (v - 1) as usize
-}
-
-// Whether a flag of this value may stand, given its mark, which a missing one does not need.
-fn stands(v: u64, mark: u8) -> bool
-    ensures { λ r. ⌜ r ≡ (eqb mark 1 || eqb v 0) ⌝ }
-{
+    if 10 < v {
+        return 1;
+    }
     if mark == 1 {
-        return true;
+        return 0;
     }
-    v == 0
+    1
 }
 
-// Whether the fourteen flags that a number holds may stand under a table.
+// Whether the fourteen flags that a number holds may stand under a table. It looks at all, since a branch for each is often
+// guessed wrong.
 fn fit(flags: u64, marks: &FlagTable) -> bool
     ensures { λ r. ⌜ r ≡ flagsFit (now (marks .entry)) 1 (nibblesIn 14 flags) ⌝ }
 {
     let mut left = flags;
+    let mut faults = 0;
     let mut n: usize = 14;
     while 0 < n {
         let v = left % 16;
-        if 10 < v {
-            return false;
-        }
         let row = n - 1;
         let k = column(v);
-        if !stands(v, marks[row][k]) {
-            return false;
-        }
+        faults += fault(v, marks[row][k]);
         left /= 16;
         n = row;
     }
-    true
+    faults == 0
 }
 
 // Whether len nibbles from a place on are a body of attachment 1.
@@ -164,6 +162,9 @@ pub fn valid(s: &[u8], c: Cursor, len: usize, marks: FlagTable) -> bool
         return false;
     }
     let w = sixteen(s, c);
+    if w == 0 {
+        return true;
+    }
     if fit(w / 256, &marks) {
         return w % 256 == code_of(w / 256);
     }
