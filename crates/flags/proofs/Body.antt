@@ -10,7 +10,7 @@ use mathlib.Core.List.{List, [], _∷_, _++_, append-assoc}
 use lib.ListN.{length, getD, take, drop, length-append, length-drop}
 use lib.Seq.{take-at, take-suc, take-add, take-all, drop-cons, drop-drop, getD-drop, getD-append-add}
 use lib.Dec.{eqb, leb, ltb}
-use borrow.Author.Tests.{le-leb, lt-leb, ne-eqb, eqb-true, eqb-false, leb-true, ltb-true, not-true}
+use borrow.Author.Tests.{le-leb, leb-false, eq-eqb, ne-eqb, eqb-true, eqb-false, leb-true, ltb-true, not-true}
 use Rattle.format.specs.Order.{between}
 use Rattle.format.specs.Bits.{bitField, Bytes}
 use Rattle.format.specs.Nibbles.{nibbles}
@@ -21,7 +21,7 @@ use Rattle.words.proofs.Turned.{join, byte}
 use Rattle.laws.proofs.Order.{between-in}
 use Rattle.laws.proofs.Flags.{missing-fits, flag-set-valid}
 use Rattle.laws.proofs.Characters.{allBelow, at-below}
-use Rattle.flags.specs.Word.{nibblesIn, columnOf, faultOf}
+use Rattle.flags.specs.Word.{nibblesIn, columnOf, stands, Fault}
 use Rattle.flags.specs.Missing.{MissingPermitted}
 
 and-true-right : (t : Bool) → t && true ≡ t
@@ -279,30 +279,51 @@ column-bits v h = (
   ltb-true _ _ (at-below 16 (λ k. ltb (0x9999998765432109 / 2 ^ (4 * k) % 16) 10) v refl h),
 )
 
--- what a value and its mark show
-pub fault-missing : (v mark : ℕ) → v ≡ 0 → 0 ≡ faultOf v mark
-unfolding faultOf
-fault-missing v mark e = rw e
+-- the bits of the values that are given, and of those over 10
+given-bits : (v : ℕ) → v < 16 → 0xfffe / 2 ^ v % 2 ≡ cond (eqb v 0) 0 1
+unfolding allBelow
+given-bits v h = eqb-true _ _ (at-below 16 (λ k. eqb (0xfffe / 2 ^ k % 2) (cond (eqb k 0) 0 1)) v refl h)
 
-pub fault-over : (v mark : ℕ) → (v ≡ 0 → ⊥) → 10 < v → 1 ≡ faultOf v mark
-unfolding faultOf
-fault-over v mark n h = rw (ne-eqb v 0 n, le-leb 1 v (omega arith), lt-leb v 10 h)
+over-bits : (v : ℕ) → v < 16 → 0xf800 / 2 ^ v % 2 ≡ cond (leb v 10) 0 1
+unfolding allBelow
+over-bits v h = eqb-true _ _ (at-below 16 (λ k. eqb (0xf800 / 2 ^ k % 2) (cond (leb k 10) 0 1)) v refl h)
 
-pub fault-mark : (v mark : ℕ) → (v ≡ 0 → ⊥) → v ≤ 10 → (t : Bool) → eqb mark 1 ≡ t → cond t 0 1 ≡ faultOf v mark
-unfolding faultOf
-fault-mark v mark n h t e = rw (ne-eqb v 0 n, le-leb 1 v (omega arith), le-leb v 10 h, e)
+-- a mark's distance from 1, kept or not
+pub kept-small : (x b : ℕ) → b < 2 → x % 256 * b ≤ 255
+kept-small x zero h = omega arith
+kept-small x (suc zero) h = omega arith
+kept-small x (suc (suc b)) h = absurd (omega arith)
+
+-- the sum is 0 exactly where a flag may stand
+fault-by : (v mark x : ℕ) → x ≡ mark → x < 256 → (t u : Bool) → eqb v 0 ≡ t → leb v 10 ≡ u
+    → Fault v mark ((x + 255) % 256 * cond t 0 1 + cond u 0 1)
+unfolding stands
+fault-by v mark x e h true true z b = let q = eqb-true v 0 z in record { none = λ _. rw z; some = λ n. absurd (n (omega arith)); small = omega arith }
+fault-by v mark x e h true false z b = let q = eqb-true v 0 z in let p = leb-false v 10 b in absurd (omega arith)
+fault-by v mark x e h false true z b =
+    let n = eqb-false v 0 z in
+    let low = le-leb 1 v (omega arith) in
+    record {
+      none = λ r. let m : mark ≡ 1 = omega arith in rw (z, low, b, eq-eqb mark 1 m);
+      some = λ r. rw (z, low, b, ne-eqb mark 1 (λ m. r (omega arith)));
+      small = omega arith;
+    }
+fault-by v mark x e h false false z b = record { none = λ r. absurd (omega arith); some = λ _. rw (z, b, and-false-right (leb 1 v)); small = omega arith }
+
+pub fault-is : (v mark x : ℕ) → v < 16 → x ≡ mark → x < 256 → Fault v mark ((x + 255) % 256 * (0xfffe / 2 ^ v % 2) + 0xf800 / 2 ^ v % 2)
+fault-is v mark x h e l = rw (given-bits v h, over-bits v h) (fault-by v mark x e l (eqb v 0) (leb v 10) refl refl)
 
 -- the mark in the value's column decides
-fault-is : (marks : FlagTable) (j v : ℕ) → faultOf v (getD (getD marks (j - 1) []) (columnOf v) 0) ≡ cond (flagFits marks j v) 0 1
-unfolding faultOf columnOf
-fault-is marks j v =
+stands-fits : (marks : FlagTable) (j v : ℕ) → stands v (getD (getD marks (j - 1) []) (columnOf v) 0) ≡ flagFits marks j v
+unfolding stands columnOf
+stands-fits marks j v =
     test-case (eqb v 0) (λ e. rw e)
     (λ e. rw e (test-case (between 1 10 v) (λ b. rw b) (λ b. rw b)))
 
 -- n flags are left to be looked at
 pub record Fitting (marks : FlagTable) (flags n left faults : ℕ) : Type 0 where
   pub few : n ≤ 14
-  pub small : faults + n ≤ 14
+  pub small : faults + 256 * n ≤ 3584
   pub sound : faults ≡ 0 → flagsFit marks 1 (nibblesIn n left) ≡ flagsFit marks 1 (nibblesIn 14 flags)
   pub broken : (faults ≡ 0 → ⊥) → flagsFit marks 1 (nibblesIn 14 flags) ≡ false
 
@@ -317,25 +338,20 @@ module _ (marks : FlagTable) (flags n left faults : ℕ) (h : 0 < n) (k : Fittin
       ∙ ap (λ (j : ℕ). flagsFit marks 1 (nibblesIn (n - 1) (left / 16)) && flagFits marks j (left % 16)) e
 
   pub fit-next : (column fault : ℕ) → column ≡ columnOf (left % 16)
-      → (fault ≡ faultOf (left % 16) (getD (getD marks (n - 1) []) column 0)) × (fault ≤ 1) → Fitting marks flags (n - 1) (left / 16) (faults + fault)
-  fit-next column fault ec ef =
-      let is : fault ≡ cond (flagFits marks n (left % 16)) 0 1 =
-      ef .0 ∙ ap (λ (i : ℕ). faultOf (left % 16) (getD (getD marks (n - 1) []) i 0)) ec ∙ fault-is marks n (left % 16) in
+      → Fault (left % 16) (getD (getD marks (n - 1) []) column 0) fault → Fitting marks flags (n - 1) (left / 16) (faults + fault)
+  fit-next column fault ec f =
+      let is : stands (left % 16) (getD (getD marks (n - 1) []) column 0) ≡ flagFits marks n (left % 16) =
+      ap (λ (i : ℕ). stands (left % 16) (getD (getD marks (n - 1) []) i 0)) ec ∙ stands-fits marks n (left % 16) in
       let rest = flagsFit marks 1 (nibblesIn (n - 1) (left / 16)) in
       record {
         few = omega (arith, k .few);
-        small = omega (arith, k .small, ef .1);
-        sound = λ z. test-case (flagFits marks n (left % 16))
-            (λ t. sym (last-fits (omega arith) ∙ ap (λ (b : Bool). rest && b) t ∙ and-true-right rest))
-            (λ t. let one : fault ≡ 1 = is ∙ rw t in absurd (omega arith));
-        broken = λ m. test-case (eqb faults 0) (λ z. go m (eqb-true faults 0 z) is) (λ z. k .broken (eqb-false faults 0 z));
+        small = omega (arith, k .small, f .small);
+        sound = λ z. sym (last-fits (omega arith) ∙ ap (λ (b : Bool). rest && b) (sym is ∙ f .none (omega arith)) ∙ and-true-right rest);
+        broken = λ m.
+            test-case (eqb faults 0)
+            (λ z. let e = eqb-true faults 0 z in last-fits e ∙ ap (λ (b : Bool). rest && b) (sym is ∙ f .some (λ q. m (omega arith))) ∙ and-false-right rest)
+            (λ z. k .broken (eqb-false faults 0 z));
       }
-    where
-      go : (faults + fault ≡ 0 → ⊥) → faults ≡ 0 → fault ≡ cond (flagFits marks n (left % 16)) 0 1 → flagsFit marks 1 (nibblesIn 14 flags) ≡ false
-      go m z is =
-          test-case (flagFits marks n (left % 16))
-          (λ t. let none : fault ≡ 0 = is ∙ rw t in absurd (m (omega arith)))
-          (λ t. last-fits z ∙ ap (λ (b : Bool). flagsFit marks 1 (nibblesIn (n - 1) (left / 16)) && b) t ∙ and-false-right (flagsFit marks 1 (nibblesIn (n - 1) (left / 16))))
 
 pub fit-all : (marks : FlagTable) (flags n left faults : ℕ) → n ≤ 0 → Fitting marks flags n left faults → eqb faults 0 ≡ flagsFit marks 1 (nibblesIn 14 flags)
 unfolding nibblesIn flagsFit

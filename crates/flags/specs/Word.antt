@@ -1,6 +1,7 @@
 -- Nibbles held in one number; the column of a flag's value, and what its mark says of it.
-use Prim.Native.Nat.{ℕ, zero, suc, _-_, _/_, _%_}
-use mathlib.Core.Bool.{cond, _&&_}
+use Prim.Native.Nat.{ℕ, zero, suc, _-_, _/_, _%_, _≤_}
+use mathlib.Core.Path.{_≡_}
+use mathlib.Core.Bool.{Bool, true, false, cond, _&&_}
 use mathlib.Core.List.{List, [], _∷_, _++_}
 use lib.Dec.{eqb}
 use Rattle.format.specs.Order.{between}
@@ -14,6 +15,12 @@ nibblesIn (suc n) w = nibblesIn n (w / 16) ++ (w % 16 ∷ [])
 unfoldable pub columnOf : ℕ → ℕ
 columnOf v = cond (between 1 10 v) (v - 1) 9
 
--- 0 where a flag is missing, or has a value and the mark 1; else 1
-unfoldable pub faultOf : ℕ → ℕ → ℕ
-faultOf v mark = cond (eqb v 0) 0 (cond (between 1 10 v && eqb mark 1) 0 1)
+-- a flag is missing, or has a value and the mark 1
+unfoldable pub stands : ℕ → ℕ → Bool
+stands v mark = cond (eqb v 0) true (between 1 10 v && eqb mark 1)
+
+-- 0 exactly where that is so
+pub record Fault (v mark r : ℕ) : Type 0 where
+  pub none : r ≡ 0 → stands v mark ≡ true
+  pub some : (r ≡ 0 → ⊥) → stands v mark ≡ false
+  pub small : r ≤ 256

@@ -5,7 +5,7 @@ ghost use lib.ListN.{length, take, drop};
 ghost use Rattle.format.specs.Nibbles.{nibbles, Nibbles};
 ghost use Rattle.format.specs.Flags.{weight, totalWeight, flagInRange, flagsFit, flagsValid, qualityCode};
 ghost use Rattle.nibble.specs.View.{view, part};
-ghost use Rattle.flags.specs.Word.{nibblesIn, columnOf, faultOf};
+ghost use Rattle.flags.specs.Word.{nibblesIn, columnOf, Fault};
 ghost use Rattle.flags.specs.Missing.{MissingPermitted};
 use format::FlagTable;
 use nibble::Cursor;
@@ -118,24 +118,16 @@ fn column(v: u64) -> usize
     (0x9999998765432109u64 >> (4 * v)) as usize % 16
 }
 
-// 0 where a flag of this value may stand, given its mark, else 1. A missing one needs no mark.
+// 0 where a flag of this value may stand, given its mark. A bit for each value says that it is given, and one that it is over 10.
 fn fault(v: u64, mark: u8) -> u64
-    ensures { λ r. ⌜ (r ≡ faultOf v mark) × (r ≤ 1) ⌝ }
+    requires { ⌜ v < 16 ⌝ }
+    ensures { λ r. ⌜ Fault v mark r ⌝ }
 {
-    if v == 0 {
-        return 0;
-    }
-    if 10 < v {
-        return 1;
-    }
-    if mark == 1 {
-        return 0;
-    }
-    1
+    (numbers::wide(mark) + 255) % 256 * ((0xfffe >> v) % 2) + (0xf800 >> v) % 2
 }
 
-// Whether the fourteen flags that a number holds may stand under a table. It looks at all, since a branch for each is often
-// guessed wrong.
+// Whether the fourteen flags that a number holds may stand under a table. It looks at all of them and has no branch for a flag,
+// which the processor would often guess wrong.
 fn fit(flags: u64, marks: &FlagTable) -> bool
     ensures { λ r. ⌜ r ≡ flagsFit (now (marks .entry)) 1 (nibblesIn 14 flags) ⌝ }
 {

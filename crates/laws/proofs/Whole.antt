@@ -342,7 +342,12 @@ pub pack-unpacked : (marks : FlagTable) (b : List ℕ) (s : Observation) (vs : L
 pack-unpacked marks b s vs ns out bs j hv hn ho =
     let t = pack-after-unpack marks b s out bs j ho in
     let l = values-out marks s (judged marks b s bs j .good) in
-    rw (unpack-accepted marks b s vs ns j hv hn, take-append-seam (tail s) (drop (length (tail s)) ns), pack-more marks (map valueOrZero (s .values)) _ (presence s) (s .rptin) (tail s) out (omega arith), ← t .1)
+    rw (
+      unpack-accepted marks b s vs ns j hv hn,
+      take-append-seam (tail s) (drop (length (tail s)) ns),
+      pack-more marks (map valueOrZero (s .values)) _ (presence s) (s .rptin) (tail s) out (omega arith),
+      ← t .1,
+    )
     (t .0)
 
 -- unpack after pack: what pack accepts is unpacked to what it was made of, the values of missing fields as 0

@@ -215,7 +215,9 @@ by-fine (some x) q r e = let z : _≡_ {A = ℕ} 0 1 = cc in absurd (omega arith
 
 pub judge-refused : (marks : FlagTable) (b : List ℕ) (i n p : ℕ) (x : Inspected) → x ≡ inspected marks b i → x ≡ Inspected.Refused n p → judge marks b ≡ refused (refusal n p)
 unfolding inspected judge
-judge-refused marks b i n p x is e = ap (λ (o : Option Refusal). verdict o (observationOf b)) (by-refused (first (reportChecks marks b)) (reportOf b i (attachmentsOf (countOf b) (tailOf b))) n p (sym is ∙ e))
+judge-refused marks b i n p x is e =
+    ap (λ (o : Option Refusal). verdict o (observationOf b))
+    (by-refused (first (reportChecks marks b)) (reportOf b i (attachmentsOf (countOf b) (tailOf b))) n p (sym is ∙ e))
 
 pub judge-fine : (marks : FlagTable) (b : List ℕ) (i : ℕ) (r : Report) (x : Inspected) → x ≡ inspected marks b i → x ≡ Inspected.Fine r
     → (judge marks b ≡ accepted (observationOf b)) × (r ≡ reportOf b i (observationOf b .attachments))

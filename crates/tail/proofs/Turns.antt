@@ -106,7 +106,8 @@ module _ (marks : FlagTable) (b : List ℕ) (c : Cursor) (mask : ℕ) (seen : Li
       let list : attachmentsOf (suc n) ns ≡ attachment d (contentAt ns) ∷ more = rw (rest, p .told) in
       let size : length (contentAt ns) ≡ a = length-take-le (lengthAt ns) (drop 3 ns) (omega (arith, p .fits, p .read, length-drop 3 ns, from-length b c)) ∙ sym (p .read) in
       let new : d ≡ want → among want seen ≡ false = λ q. ap (λ (x : ℕ). among x seen) (sym q) ∙ sym (m .at d) ∙ p .new in
-      let checks : first (attachmentChecks marks (suc n) i seen ns) ≡ first (attachmentChecks marks n (suc i) (d ∷ seen) (from b next)) = look-checks marks b c mask seen n i m ∙ rw (e, rest, p .told) in
+      let checks : first (attachmentChecks marks (suc n) i seen ns) ≡ first (attachmentChecks marks n (suc i) (d ∷ seen) (from b next)) =
+      look-checks marks b c mask seen n i m ∙ rw (e, rest, p .told) in
       ap₂ walkedBy checks (ap (tailBehind (among want seen) place al (c .at) want) list ∙ tail-passed (among want seen) place al (c .at) want a d (contentAt ns) more size new)
 
 -- ---- the walk

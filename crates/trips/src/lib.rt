@@ -20,7 +20,8 @@ fn restore_to(
     marks: &FlagTable,
 ) -> Packed
     requires { ⌜ Holds (now marks) (now out) (now s) ⌝ }
-    ensures { λ r. ⌜ trip (packAnswer r) (now (values .exit)) (now (tail .exit)) (now (out .exit)) ≡ restored (now (marks .entry)) (now (s .entry)) (now (values .entry)) (now (tail .entry)) (now (out .entry)) ⌝ }
+    ensures { λ r. ⌜ trip (packAnswer r) (now (values .exit)) (now (tail .exit)) (now (out .exit))
+        ≡ restored (now (marks .entry)) (now (s .entry)) (now (values .entry)) (now (tail .entry)) (now (out .entry)) ⌝ }
 {
     let u = unpack::unpack(s, values, tail, marks);
     match u {
@@ -40,7 +41,8 @@ pub fn restore(
     out: &mut [u8],
     marks: &FlagTable,
 ) -> Packed
-    ensures { λ r. ⌜ trip (packAnswer r) (now (values .exit)) (now (tail .exit)) (now (out .exit)) ≡ restored (now (marks .entry)) (now (s .entry)) (now (values .entry)) (now (tail .entry)) (now (out .entry)) ⌝ }
+    ensures { λ r. ⌜ trip (packAnswer r) (now (values .exit)) (now (tail .exit)) (now (out .exit))
+        ≡ restored (now (marks .entry)) (now (s .entry)) (now (values .entry)) (now (tail .entry)) (now (out .entry)) ⌝ }
 {
     let j = report::judge(s, *marks);
     match j {

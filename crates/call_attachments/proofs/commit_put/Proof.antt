@@ -23,14 +23,17 @@ lay-attachment-requires c κs =
 
 set-count-requires : tie.Need-set-count-requires
 set-count-requires c κs =
+    let the-slice-known = c .before .before .before .before .before .before .before .before .before .before .slice-known in
+    let resize = c .before .before .before .before .before .before .before .resize in
+    let lay-attachment = c .before .before .before .lay-attachment in
     let args = c .before .before .before .before .before .before .before .before .before .before .before .args in
     let pre = c .before .before .before .before .before .before .before .before .before .before .before .pre in
-    let slice-known = c .before .before .before .before .before .before .before .before .before .before .slice-known in (
+    let slice-known = the-slice-known in (
       omega (
         arith,
         within _ (args .s .now) _ (λ j. slice-known .given j .fits) (pre .0 .edit .judged) .0,
-        c .before .before .before .before .before .before .before .resize .ensures .1,
-        c .before .before .before .lay-attachment .ensures .1,
+        resize .ensures .1,
+        lay-attachment .ensures .1,
       ),
       pre .0 .edit .count-lt,
     )

@@ -56,11 +56,17 @@ same-length c = search needs
 
 returns-4 : tie.Need-returns-4
 returns-4 c marks a =
+    let pre = c .before .before .before .before .before .before .before .before .before .before .pre in
+    let shared-slice-known = c .before .before .before .before .before .before .before .before .before .shared-slice-known in
+    let within = c .before .before .before .before .before .before .before .within in
+    let if1 = c .before .before .before .before .before .before .if1 in
+    let if2 = c .before .before .before .before .before .if2 in
+    let if3 = c .before .before .before .before .if3 in
     let args = c .before .before .before .before .before .before .before .before .before .before .args in
-    let g = c .before .before .before .before .before .before .before .before .before .shared-slice-known .given in
-    let known = number-passes 1 15 (args .id) _ (c .before .before .before .before .before .before .before .within .ensures) (c .before .before .before .before .before .before .if1 .left) in
-    let f = found-by (c .before .before .before .before .before .before .before .before .before .before .pre .1) a in
-    content-fetched _ (λ j. g j .fits) f (c .before .before .before .before .before .if2 .left) known _ _ (c .before .before .before .before .if3 .left) (c .before .before .fetch .ensures)
+    let g = shared-slice-known .given in
+    let known = number-passes 1 15 (args .id) _ (within .ensures) (if1 .left) in
+    let f = found-by (pre .1) a in
+    content-fetched _ (λ j. g j .fits) f (if2 .left) known _ _ (if3 .left) (c .before .before .fetch .ensures)
 
 pub fetch-found-spec : {M : Type 1} → statement M
 fetch-found-spec =

@@ -20,13 +20,19 @@ fetch-text-found-requires c κs = (_, inspect-found _ _ _ _ (c .before .before .
 
 returns : tie.Need-returns
 unfolding outputsOf
-returns c = inspect-refused _ _ _ _ (c .before .before .before .inspect .ensures) _ _ (fetches (fetchText (c .before .before .before .before .before .before .before .args .out .now))) (c .before .i .given .1)
+returns c =
+    let args = c .before .before .before .before .before .before .before .args in
+    let the-inspect = c .before .before .before .inspect in
+    inspect-refused _ _ _ _ (the-inspect .ensures) _ _ (fetches (fetchText (args .out .now))) (c .before .i .given .1)
 
 same-length : tie.Need-same-length
 same-length c = search needs
 
 returns-2 : tie.Need-returns-2
-returns-2 c = c .before .before .fetch-text-found .ensures _ (inspect-found _ _ _ _ (c .before .before .before .before .before .before .before .inspect .ensures) _ (c .before .before .before .before .before .i2 .given .1) .judged)
+returns-2 c =
+    let the-inspect = c .before .before .before .before .before .before .before .inspect in
+    let i2 = c .before .before .before .before .before .i2 in
+    c .before .before .fetch-text-found .ensures _ (inspect-found _ _ _ _ (the-inspect .ensures) _ (i2 .given .1) .judged)
 
 pub fetch-text-spec : {M : Type 1} → statement M
 fetch-text-spec =

@@ -23,13 +23,19 @@ same-length c = search needs
 
 returns : tie.Need-returns
 unfolding outputsOf
-returns c = inspect-refused _ _ _ _ (c .before .before .before .inspect .ensures) _ _ (edits (clearField (c .before .before .before .before .before .before .before .args .k))) (c .before .i .given .1)
+returns c =
+    let args = c .before .before .before .before .before .before .before .args in
+    let the-inspect = c .before .before .before .inspect in
+    inspect-refused _ _ _ _ (the-inspect .ensures) _ _ (edits (clearField (args .k))) (c .before .i .given .1)
 
 same-length-2 : tie.Need-same-length-2
 same-length-2 c = search needs
 
 returns-2 : tie.Need-returns-2
-returns-2 c = c .before .before .clear-field-of .ensures _ (inspect-found _ _ _ _ (c .before .before .before .before .before .before .inspect .ensures) _ (c .before .before .before .before .enum-told .given .1) .judged)
+returns-2 c =
+    let the-inspect = c .before .before .before .before .before .before .inspect in
+    let enum-told = c .before .before .before .before .enum-told in
+    c .before .before .clear-field-of .ensures _ (inspect-found _ _ _ _ (the-inspect .ensures) _ (enum-told .given .1) .judged)
 
 pub clear-field-spec : {M : Type 1} → statement M
 clear-field-spec =

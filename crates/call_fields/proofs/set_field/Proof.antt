@@ -31,7 +31,10 @@ same-length-2 : tie.Need-same-length-2
 same-length-2 c = search needs
 
 returns-2 : tie.Need-returns-2
-returns-2 c = c .before .before .set-field-of .ensures _ (inspect-found _ _ _ _ (c .before .before .before .before .before .before .inspect .ensures) _ (c .before .before .before .before .enum-told .given .1) .judged)
+returns-2 c =
+    let the-inspect = c .before .before .before .before .before .before .inspect in
+    let enum-told = c .before .before .before .before .enum-told in
+    c .before .before .set-field-of .ensures _ (inspect-found _ _ _ _ (the-inspect .ensures) _ (enum-told .given .1) .judged)
 
 pub set-field-spec : {M : Type 1} → statement M
 set-field-spec =

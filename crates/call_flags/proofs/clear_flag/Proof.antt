@@ -30,7 +30,10 @@ same-length-2 : tie.Need-same-length-2
 same-length-2 c = search needs
 
 returns-2 : tie.Need-returns-2
-returns-2 c = c .before .before .clear-flag-of .ensures _ (flags-found _ _ _ _ (c .before .before .before .before .before .before .before .inspect .ensures) (c .before .before .before .before .before .i2 .given .1) .found .judged)
+returns-2 c =
+    let the-inspect = c .before .before .before .before .before .before .before .inspect in
+    let i2 = c .before .before .before .before .before .i2 in
+    c .before .before .clear-flag-of .ensures _ (flags-found _ _ _ _ (the-inspect .ensures) (i2 .given .1) .found .judged)
 
 pub clear-flag-spec : {M : Type 1} → statement M
 clear-flag-spec =

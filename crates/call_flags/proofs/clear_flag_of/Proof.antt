@@ -42,9 +42,14 @@ add-store-flag c =
     search needs
 
 store-flag-requires : tie.Need-store-flag-requires
-store-flag-requires c κs = let w = body-within _ _ (λ i. c .before .before .before .before .slice-known .given i .fits) _ (c .before .before .before .before .before .pre .1) (c .before .if2 .left) .0 in
-    let l = body-within _ _ (λ i. c .before .before .before .before .slice-known .given i .fits) _ (c .before .before .before .before .before .pre .1) (c .before .if2 .left) .1 in
-    let h = between-in 1 14 (c .before .before .before .before .before .args .j) _ (c .before .before .before .within .ensures) (c .before .before .if1 .left) in
+store-flag-requires c κs =
+    let pre = c .before .before .before .before .before .pre in
+    let args = c .before .before .before .before .before .args in
+    let slice-known = c .before .before .before .before .slice-known in
+    let within = c .before .before .before .within in
+    let w = body-within _ _ (λ i. slice-known .given i .fits) _ (pre .1) (c .before .if2 .left) .0 in
+    let l = body-within _ _ (λ i. slice-known .given i .fits) _ (pre .1) (c .before .if2 .left) .1 in
+    let h = between-in 1 14 (args .j) _ (within .ensures) (c .before .before .if1 .left) in
     (omega arith, omega arith, h .0, h .1, omega arith)
 
 same-length : tie.Need-same-length

@@ -24,7 +24,9 @@ put-requires : tie.Need-put-requires
 put-requires c κs = search needs
 
 quality-requires : tie.Need-quality-requires
-quality-requires c κs = (nibbles-lt (c .before .before .before .put .last .0) (λ i. c .before .slice-known2 .given i .fits), omega (arith, length-nibbles (c .before .before .before .put .last .0), c .before .before .before .put .ensures .1), omega arith)
+quality-requires c κs =
+    let put = c .before .before .before .put in
+    (nibbles-lt (put .last .0) (λ i. c .before .slice-known2 .given i .fits), omega (arith, length-nibbles (put .last .0), put .ensures .1), omega arith)
 
 add-put-2 : tie.Need-add-put-2
 add-put-2 c = search needs

@@ -41,25 +41,32 @@ content-valid-requires c κs = search needs
 
 put-nibbles-requires : tie.Need-put-nibbles-requires
 put-nibbles-requires c κs =
+    let slice-known = c .before .before .before .before .before .before .before .before .slice-known in
+    let within = c .before .before .before .before .before .before .within in
+    let if1 = c .before .before .before .before .before .if1 in
+    let if2 = c .before .before .before .before .if2 in
+    let if3 = c .before .before .before .if3 in
     let args = c .before .before .before .before .before .before .before .before .before .args in
-    let g = c .before .before .before .before .before .before .before .before .slice-known .given in
-    let known = number-passes 1 15 (args .id) _ (c .before .before .before .before .before .before .within .ensures) (c .before .before .before .before .before .if1 .left) in
+    let g = slice-known .given in
+    let known = number-passes 1 15 (args .id) _ (within .ensures) (if1 .left) in
     let f = c .before .before .before .before .before .before .before .before .before .pre in
     let v = c .before .before .content-valid .ensures in
-    record { marks = _; found = f; fine = put-fineAt _ (λ j. g j .fits) f _ known (c .before .before .before .before .if2 .left) (c .before .before .before .if3 .left) (sym v ∙ c .before .if4 .taken) }
+    record { marks = _; found = f; fine = put-fineAt _ (λ j. g j .fits) f _ known (if2 .left) (if3 .left) (sym v ∙ c .before .if4 .taken) }
 
 same-length : tie.Need-same-length
 same-length c = search needs
 
 returns-4 : tie.Need-returns-4
 returns-4 c =
+    let slice-known = c .before .before .before .before .before .before .before .before .before .before .before .slice-known in
+    let content-valid = c .before .before .before .before .before .content-valid in
     let args = c .before .before .before .before .before .before .before .before .before .before .before .before .args in
-    let g = c .before .before .before .before .before .before .before .before .before .before .before .slice-known .given in
+    let g = slice-known .given in
     let tested = c .before .before .before .before .before .before .before .before .before .within in
     let if1 = c .before .before .before .before .before .before .before .before .if1 in
     let known = number-passes 1 15 (args .id) _ (tested .ensures) (if1 .left) in
     let f = c .before .before .before .before .before .before .before .before .before .before .before .before .pre in
-    let v = c .before .before .before .before .before .content-valid .ensures in
+    let v = content-valid .ensures in
     let if2 = c .before .before .before .before .before .before .before .if2 in
     let if3 = c .before .before .before .before .before .before .if3 in
     let if4 = c .before .before .before .before .if4 in

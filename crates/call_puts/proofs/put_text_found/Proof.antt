@@ -24,13 +24,19 @@ returns c marks a =
 
 put-written-requires : tie.Need-put-written-requires
 put-written-requires c κs =
-    let pre = c .before .before .before .before .before .before .before .before .before .before .pre .1 in
+    let the-pre = c .before .before .before .before .before .before .before .before .before .before .pre in
+    let the-w = c .before .before .before .before .w in
+    let pre = the-pre .1 in
     let slice-known = c .before .before .before .before .before .before .before .before .before .slice-known in
     let shared-slice-known = c .before .before .before .before .before .before .before .before .shared-slice-known in
     let write = c .before .before .before .before .before .before .write in
-    let w = c .before .before .before .before .w in (
+    let w = the-w in (
       text-within _ (λ j. slice-known .given j .fits) pre (λ j. shared-slice-known .given j .fits) (write .ensures) (w .given .1),
-      record { marks = _; found = pre; fine = text-fineAt _ (λ j. slice-known .given j .fits) pre (λ j. shared-slice-known .given j .fits) (write .ensures) (w .given .1) (c .before .before .if1 .left) },
+      record {
+        marks = _;
+        found = pre;
+        fine = text-fineAt _ (λ j. slice-known .given j .fits) pre (λ j. shared-slice-known .given j .fits) (write .ensures) (w .given .1) (c .before .before .if1 .left);
+      },
     )
 
 returns-2 : tie.Need-returns-2
@@ -43,13 +49,17 @@ same-length c = search needs
 
 returns-3 : tie.Need-returns-3
 returns-3 c marks a =
-    let pre = found-by (c .before .before .before .before .before .before .before .before .before .before .before .before .before .pre .1) a in
+    let the-pre = c .before .before .before .before .before .before .before .before .before .before .before .before .before .pre in
+    let write = c .before .before .before .before .before .before .before .before .before .write in
+    let w = c .before .before .before .before .before .before .before .w in
+    let if1 = c .before .before .before .before .before .if1 in
+    let pre = found-by (the-pre .1) a in
     let slice-known = c .before .before .before .before .before .before .before .before .before .before .before .before .slice-known in
     let shared-slice-known = c .before .before .before .before .before .before .before .before .before .before .before .shared-slice-known in
     c .before .before .put-written .ensures
     ∙ text-effect _ (λ j. slice-known .given j .fits) pre (λ j. shared-slice-known .given j .fits)
-    (c .before .before .before .before .before .before .before .before .before .write .ensures) (c .before .before .before .before .before .before .before .w .given .1)
-    (c .before .before .before .before .before .if1 .left)
+    (write .ensures) (w .given .1)
+    (if1 .left)
 
 pub put-text-found-spec : {M : Type 1} → statement M
 put-text-found-spec =

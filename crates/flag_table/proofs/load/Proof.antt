@@ -16,7 +16,10 @@ loadable-requires : tie.Need-loadable-requires
 loadable-requires c κs = search needs
 
 returns-2 : tie.Need-returns-2
-returns-2 c = (c .before .before .rows .ensures ∙ force-by _ (c .before .before .before .before .before .args .former) _ (load-accepted _ (c .before .before .before .if1 .left) _ (c .before .loadable .ensures) (c .if2 .taken)), row-by-row _)
+returns-2 c =
+    let args = c .before .before .before .before .before .args in
+    let if1 = c .before .before .before .if1 in
+    (c .before .before .rows .ensures ∙ force-by _ (args .former) _ (load-accepted _ (if1 .left) _ (c .before .loadable .ensures) (c .if2 .taken)), row-by-row _)
 
 returns-3 : tie.Need-returns-3
 returns-3 c = (force-by _ _ _ (load-refused _ (c .before .before .before .if1 .left) _ (c .before .loadable .ensures) (c .if2 .left)), row-by-row _)

@@ -15,7 +15,9 @@ every-row-requires : tie.Need-every-row-requires
 every-row-requires c κs = search needs
 
 returns : tie.Need-returns
-returns c = c .every-row .ensures ∙ ap (λ (t : Bool). t && everyRow (tableOf (now (c .before .before .before .before .args .lent)))) (sym (c .before .if1 .taken) ∙ c .before .before .all-marks .ensures)
+returns c =
+    let args = c .before .before .before .before .args in
+    c .every-row .ensures ∙ ap (λ (t : Bool). t && everyRow (tableOf (now (args .lent)))) (sym (c .before .if1 .taken) ∙ c .before .before .all-marks .ensures)
 
 returns-2 : tie.Need-returns-2
 returns-2 c = ap (λ (t : Bool). t && everyRow (tableOf (now (c .before .before .before .args .lent)))) (sym (c .if1 .left) ∙ c .before .all-marks .ensures)

@@ -63,7 +63,9 @@ shared-slice-read-t31 : tie.Need-shared-slice-read-t31
 shared-slice-read-t31 c = search needs
 
 returns : tie.Need-returns
-returns c = row-is _ _ (c .before .before .before .before .before .before .before .before .before .before .pre .0)
+returns c =
+    let pre = c .before .before .before .before .before .before .before .before .before .before .pre in
+    row-is _ _ (pre .0)
 
 pub row-spec : {M : Type 1} → statement M
 row-spec =

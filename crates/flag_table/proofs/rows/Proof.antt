@@ -48,7 +48,37 @@ row-requires-14 : tie.Need-row-requires-14
 row-requires-14 c κs = search needs
 
 returns : tie.Need-returns
-returns c = rw (c .before .before .before .before .before .before .before .before .before .before .before .before .before .row .ensures, c .before .before .before .before .before .before .before .before .before .before .before .before .row2 .ensures, c .before .before .before .before .before .before .before .before .before .before .before .row3 .ensures, c .before .before .before .before .before .before .before .before .before .before .row4 .ensures, c .before .before .before .before .before .before .before .before .before .row5 .ensures, c .before .before .before .before .before .before .before .before .row6 .ensures, c .before .before .before .before .before .before .before .row7 .ensures, c .before .before .before .before .before .before .row8 .ensures, c .before .before .before .before .before .row9 .ensures, c .before .before .before .before .row10 .ensures, c .before .before .before .row11 .ensures, c .before .before .row12 .ensures, c .before .row13 .ensures, c .row14 .ensures) (table-is _)
+returns c =
+    let the-row = c .before .before .before .before .before .before .before .before .before .before .before .before .before .row in
+    let row2 = c .before .before .before .before .before .before .before .before .before .before .before .before .row2 in
+    let row3 = c .before .before .before .before .before .before .before .before .before .before .before .row3 in
+    let row4 = c .before .before .before .before .before .before .before .before .before .before .row4 in
+    let row5 = c .before .before .before .before .before .before .before .before .before .row5 in
+    let row6 = c .before .before .before .before .before .before .before .before .row6 in
+    let row7 = c .before .before .before .before .before .before .before .row7 in
+    let row8 = c .before .before .before .before .before .before .row8 in
+    let row9 = c .before .before .before .before .before .row9 in
+    let row10 = c .before .before .before .before .row10 in
+    let row11 = c .before .before .before .row11 in
+    let row12 = c .before .before .row12 in
+    let row13 = c .before .row13 in
+    let row14 = c .row14 in
+    rw (
+      the-row .ensures,
+      row2 .ensures,
+      row3 .ensures,
+      row4 .ensures,
+      row5 .ensures,
+      row6 .ensures,
+      row7 .ensures,
+      row8 .ensures,
+      row9 .ensures,
+      row10 .ensures,
+      row11 .ensures,
+      row12 .ensures,
+      row13 .ensures,
+      row14 .ensures,
+    ) (table-is _)
 
 pub rows-spec : {M : Type 1} → statement M
 rows-spec =

@@ -1,11 +1,12 @@
 use borrow.Author.Needs.{needs}
 use native.Mathlib.Omega.{arith}
-use Prim.Native.Nat.{_+_, _-_}
+use Prim.Native.Nat.{ℕ, _+_, _-_, _<_}
 use mathlib.Core.Path.{sym, _∙_}
 use mathlib.Core.Bool.{false}
 use lib.ListN.{take, drop}
 use denote.Ref.{now}
 use Rattle.nibble.specs.View.{part}
+use Rattle.nibble.specs.declared.Cursor.{Cursor}
 use Rattle.nibble.proofs.View.{part-length, part-at}
 use Rattle.flags.proofs.Body.{Reading, read-none, read-small, read-more, read-all}
 use Rattle.flags.proofs.gather.Statement.{statement}
@@ -42,7 +43,9 @@ wide-requires c κs = search needs
 
 -- src/lib.rt:38:13
 add-w : tie.Need-add-w Inv-loop μ-loop
-add-w c = omega (arith, read-small _ _ _ (c .before .before .loop-test .taken) (c .before .before .before .loop .inv), c .wide .ensures .0, c .before .before .before .before .before .pre .0 (c .before .before .before .before .before .args .at + c .before .before .before .loop .i))
+add-w c =
+    let at = c .before .before .before .before .before .args .at + c .before .before .before .loop .i in
+    omega (arith, read-small _ _ _ (c .before .before .loop-test .taken) (c .before .before .before .loop .inv), c .wide .ensures .0, c .before .before .before .before .before .pre .0 at)
 
 -- src/lib.rt:39:9
 add-i : tie.Need-add-i Inv-loop μ-loop
@@ -55,14 +58,21 @@ loop-less c = search needs
 -- src/lib.rt:37:5
 loop-again : tie.Need-loop-again Inv-loop μ-loop
 loop-again c =
-    let row = part (now (c .before .before .before .before .before .args .s)) (record { at = c .before .before .before .before .before .args .at; packed = false }) 16 in
-    let l = part-length (now (c .before .before .before .before .before .args .s)) (record { at = c .before .before .before .before .before .args .at; packed = false }) 16 (c .before .before .before .before .before .pre .1) in
-    let e = c .wide .ensures .0 ∙ sym (part-at (now (c .before .before .before .before .before .args .s)) (record { at = c .before .before .before .before .before .args .at; packed = false }) 16 (c .before .before .before .loop .i) (c .before .before .loop-test .taken)) in
-    read-more row (c .before .before .before .loop .i) (c .before .before .before .loop .w) (c .wide .result) l (c .before .before .loop-test .taken) (omega (arith, c .wide .ensures .0, c .before .before .before .before .before .pre .0 (c .before .before .before .before .before .args .at + c .before .before .before .loop .i))) e (c .before .before .before .loop .inv)
+    let b = now (c .before .before .before .before .before .args .s) in
+    let here : Cursor = record { at = c .before .before .before .before .before .args .at; packed = false } in
+    let i = c .before .before .before .loop .i in
+    let x : ℕ = c .wide .result in
+    let e = c .wide .ensures .0 ∙ sym (part-at b here 16 i (c .before .before .loop-test .taken)) in
+    let small : x < 16 = omega (arith, c .wide .ensures .0, c .before .before .before .before .before .pre .0 (here .at + i)) in
+    let l = part-length b here 16 (c .before .before .before .before .before .pre .1) in
+    read-more (part b here 16) i (c .before .before .before .loop .w) x l (c .before .before .loop-test .taken) small e (c .before .before .before .loop .inv)
 
 -- src/lib.rt:31:1
 returns : tie.Need-returns Inv-loop μ-loop
-returns c = read-all (take 16 (drop (c .before .before .before .args .at) (now (c .before .before .before .args .s)))) (c .before .loop .i) (c .before .loop .w) (part-length (now (c .before .before .before .args .s)) (record { at = c .before .before .before .args .at; packed = false }) 16 (c .before .before .before .pre .1)) (c .loop-test .left) (c .before .loop .inv)
+returns c =
+    let b = now (c .before .before .before .args .s) in
+    let here : Cursor = record { at = c .before .before .before .args .at; packed = false } in
+    read-all (part b here 16) (c .before .loop .i) (c .before .loop .w) (part-length b here 16 (c .before .before .before .pre .1)) (c .loop-test .left) (c .before .loop .inv)
 
 pub gather-spec : {M : Type 1} → statement M
 gather-spec =

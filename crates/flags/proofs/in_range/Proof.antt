@@ -28,7 +28,10 @@ index-2-result : tie.Need-index-2-result
 index-2-result c = omega (arith, inside (c .before .before .args .v) (c .before .within .result) (c .before .within .ensures) (c .if1 .left))
 
 returns-2 : tie.Need-returns-2
-returns-2 c = by-mark (c .before .before .before .args .t3) (c .before .before .before .args .j) (c .before .before .before .args .v) (c .before .before .within .result) (c .before .before .within .ensures) (c .before .if1 .left)
+returns-2 c =
+    let a = c .before .before .before .args in
+    let w = c .before .before .within in
+    by-mark (a .t3) (a .j) (a .v) (w .result) (w .ensures) (c .before .if1 .left)
 
 pub in-range-spec : {M : Type 1} → statement M
 in-range-spec =

@@ -22,8 +22,10 @@ cast-result c = search needs
 
 returns : tie.Need-returns
 returns c =
-    let row = part (now (c .before .before .before .args .s)) (c .before .before .before .args .c) 16 in
-    c .code-of .ensures .0 ∙ ap qualityCode (sym (body-flags row (c .before .sixteen .result) (c .before .sixteen .ensures)) ∙ part-take (now (c .before .before .before .args .s)) (c .before .before .before .args .c) 14 16 (omega arith))
+    let b = now (c .before .before .before .args .s) in
+    let here = c .before .before .before .args .c in
+    let e = body-flags (part b here 16) (c .before .sixteen .result) (c .before .sixteen .ensures) in
+    c .code-of .ensures .0 ∙ ap qualityCode (sym e ∙ part-take b here 14 16 (omega arith))
 
 pub quality-spec : {M : Type 1} → statement M
 quality-spec = tie.close (tie.spec sixteen-requires code-of-requires cast-result returns)

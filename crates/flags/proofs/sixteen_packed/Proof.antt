@@ -14,7 +14,10 @@ word-requires c κs = search needs
 
 -- src/lib.rt:25:9
 returns : tie.Need-returns
-returns c = even-place (now (c .before .before .before .args .s)) (λ i. c .before .before .shared-slice-known .given i .fits) (c .before .before .before .args .at) _ (c .before .before .before .pre .0) (c .if1 .taken) (c .before .word .ensures)
+returns c =
+    let a = c .before .before .before .args in
+    let known = c .before .before .shared-slice-known in
+    even-place (now (a .s)) (λ i. known .given i .fits) (a .at) _ (c .before .before .before .pre .0) (c .if1 .taken) (c .before .word .ensures)
 
 -- src/lib.rt:27:5
 mul-result : tie.Need-mul-result
@@ -38,7 +41,12 @@ add-result c = search needs
 
 -- src/lib.rt:18:1
 returns-2 : tie.Need-returns-2
-returns-2 c = odd-place (now (c .before .before .before .before .before .args .s)) (λ i. c .before .before .before .before .shared-slice-known .given i .fits) (c .before .before .before .before .before .args .at) _ _ (c .before .before .before .before .before .pre .0) (c .before .before .if1 .left) (c .before .before .before .word .ensures) (c .wide .ensures .0)
+returns-2 c =
+    let pre = c .before .before .before .before .before .pre in
+    let word = c .before .before .before .word in
+    let a = c .before .before .before .before .before .args in
+    let known = c .before .before .before .before .shared-slice-known in
+    odd-place (now (a .s)) (λ i. known .given i .fits) (a .at) _ _ (pre .0) (c .before .before .if1 .left) (word .ensures) (c .wide .ensures .0)
 
 pub sixteen-packed-spec : {M : Type 1} → statement M
 sixteen-packed-spec =

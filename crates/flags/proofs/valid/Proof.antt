@@ -11,8 +11,9 @@ use Rattle.flags.proofs.valid.Tie as tie
 
 returns : tie.Need-returns
 returns c =
-    let row = part (now (c .before .before .args .s)) (c .before .before .args .c) (c .before .before .args .len) in
-    (other-length (c .before .before .args .t4) row (c .before .before .args .len) (part-length (now (c .before .before .args .s)) (c .before .before .args .c) (c .before .before .args .len) (c .before .before .pre .1)) (c .if1 .taken), missing-permitted _)
+    let a = c .before .before .args in
+    let b = now (a .s) in
+    (other-length (a .t4) (part b (a .c) (a .len)) (a .len) (part-length b (a .c) (a .len) (c .before .before .pre .1)) (c .if1 .taken), missing-permitted _)
 
 sixteen-requires : tie.Need-sixteen-requires
 sixteen-requires c κs = search needs
@@ -31,16 +32,22 @@ code-of-requires c κs = search needs
 
 returns-3 : tie.Need-returns-3
 returns-3 c =
-    let row = part (now (c .before .before .before .before .before .before .before .before .args .s)) (c .before .before .before .before .before .before .before .before .args .c) in
-    let e = c .before .before .before .before .before .sixteen .ensures ∙ ap row (sym (c .before .before .before .before .before .before .if1 .left)) in
+    let args = c .before .before .before .before .before .before .before .before .args in
+    let if1 = c .before .before .before .before .before .before .if1 in
+    let sixteen = c .before .before .before .before .before .sixteen in
+    let row = part (now (args .s)) (args .c) in
+    let e = sixteen .ensures ∙ ap row (sym (if1 .left)) in
     let fits = sym (c .before .if3 .taken) ∙ c .before .before .fit .ensures in
-    (body-fits (row (c .before .before .before .before .before .before .before .before .args .len)) (c .before .before .before .before .before .sixteen .result) e (c .before .before .before .before .before .before .before .before .args .t4) (c .code-of .result) fits (c .code-of .ensures .0), missing-permitted _)
+    (body-fits (row (args .len)) (sixteen .result) e (args .t4) (c .code-of .result) fits (c .code-of .ensures .0), missing-permitted _)
 
 returns-4 : tie.Need-returns-4
 returns-4 c =
-    let row = part (now (c .before .before .before .before .before .before .before .args .s)) (c .before .before .before .before .before .before .before .args .c) in
-    let e = c .before .before .before .before .sixteen .ensures ∙ ap row (sym (c .before .before .before .before .before .if1 .left)) in
-    (body-unfit (row (c .before .before .before .before .before .before .before .args .len)) (c .before .before .before .before .sixteen .result) e (c .before .before .before .before .before .before .before .args .t4) (sym (c .if3 .left) ∙ c .before .fit .ensures), missing-permitted _)
+    let args = c .before .before .before .before .before .before .before .args in
+    let if1 = c .before .before .before .before .before .if1 in
+    let sixteen = c .before .before .before .before .sixteen in
+    let row = part (now (args .s)) (args .c) in
+    let e = sixteen .ensures ∙ ap row (sym (if1 .left)) in
+    (body-unfit (row (args .len)) (sixteen .result) e (args .t4) (sym (c .if3 .left) ∙ c .before .fit .ensures), missing-permitted _)
 
 pub valid-spec : {M : Type 1} → statement M
 valid-spec =

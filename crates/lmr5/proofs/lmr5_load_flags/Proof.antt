@@ -26,10 +26,16 @@ done-requires : tie.Need-done-requires
 done-requires c κs = search needs
 
 returns : tie.Need-returns
-returns c = (c .refused .ensures ∙ ap numbered (ap loadingAnswer (sym (c .before .before .l .given .1)) ∙ c .before .before .before .before .judge .ensures), c .before .before .before .before .before .load .ensures .0)
+returns c =
+    let load = c .before .before .before .before .before .load in
+    let the-judge = c .before .before .before .before .judge in
+    (c .refused .ensures ∙ ap numbered (ap loadingAnswer (sym (c .before .before .l .given .1)) ∙ the-judge .ensures), load .ensures .0)
 
 returns-2 : tie.Need-returns-2
-returns-2 c = (c .done .ensures ∙ ap numbered (ap loadingAnswer (sym (c .before .enum-told .given .1)) ∙ c .before .before .before .judge .ensures), c .before .before .before .before .load .ensures .0)
+returns-2 c =
+    let load = c .before .before .before .before .load in
+    let the-judge = c .before .before .before .judge in
+    (c .done .ensures ∙ ap numbered (ap loadingAnswer (sym (c .before .enum-told .given .1)) ∙ the-judge .ensures), load .ensures .0)
 
 pub lmr5-load-flags-spec : {M : Type 1} → statement M
 lmr5-load-flags-spec =

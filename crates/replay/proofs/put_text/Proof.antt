@@ -22,8 +22,9 @@ idle-requires c κs = search needs
 returns : tie.Need-returns
 unfolding kinds
 returns c =
+    let args = c .before .before .before .before .before .args in
     let pre = c .before .before .before .before .before .pre in
-    ap (leaves _ _) (c .idle .ensures) ∙ turn-cut _ _ (c .before .before .before .before .before .args .s .now) _ 10 _ (pre .of-kind) refl (omega (arith, c .before .if1 .taken, pre .number, pre .nine))
+    ap (leaves _ _) (c .idle .ensures) ∙ turn-cut _ _ (args .s .now) _ 10 _ (pre .of-kind) refl (omega (arith, c .before .if1 .taken, pre .number, pre .nine))
 
 add-e : tie.Need-add-e
 add-e c = search needs

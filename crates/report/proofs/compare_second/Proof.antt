@@ -25,7 +25,10 @@ returns : tie.Need-returns
 returns c = second-refused _ _ _ _ _ _ (c .before .before .before .before .before .before .before .pre) (sym (c .before .j .given .1) ∙ c .before .before .before .judge .ensures .0)
 
 returns-2 : tie.Need-returns-2
-returns-2 c = c .compare .ensures _ (c .before .before .before .before .before .before .before .before .pre) (sym (c .before .before .j2 .given .1) ∙ c .before .before .before .before .judge .ensures .0)
+returns-2 c =
+    let pre = c .before .before .before .before .before .before .before .before .pre in
+    let the-judge = c .before .before .before .before .judge in
+    c .compare .ensures _ pre (sym (c .before .before .j2 .given .1) ∙ the-judge .ensures .0)
 
 pub compare-second-spec : {M : Type 1} → statement M
 compare-second-spec =

@@ -24,8 +24,9 @@ shared-slice-read-if2 c = let p = c .before .before .front .ensures .passes (c .
 
 returns-2 : tie.Need-returns-2
 returns-2 c =
+    let front = c .before .before .before .front in
     let shared-slice-known = c .before .before .before .before .shared-slice-known in
-    let e = judged-fine _ _ 0 _ (card-alone _ _ _ (c .before .before .before .front .ensures .passes (c .before .before .if1 .left)) (λ i. shared-slice-known .given i .fits) (c .if2 .taken)) _ refl in
+    let e = judged-fine _ _ 0 _ (card-alone _ _ _ (front .ensures .passes (c .before .before .if1 .left)) (λ i. shared-slice-known .given i .fits) (c .if2 .taken)) _ refl in
     (e, sizes _ _ (λ i. shared-slice-known .given i .fits) _ e)
 
 inspect-tail-requires : tie.Need-inspect-tail-requires

@@ -33,7 +33,8 @@ fetch-requires c κs =
 
 rptin-requires : tie.Need-rptin-requires
 rptin-requires c κs =
-    let pre = c .before .before .before .before .before .before .before .before .before .before .before .before .pre .1 in
+    let the-pre = c .before .before .before .before .before .before .before .before .before .before .before .before .pre in
+    let pre = the-pre .1 in
     let shared-slice-known = c .before .before .before .before .before .before .before .before .before .before .before .shared-slice-known in
     end-room _ _ _ (λ i. omega (arith, shared-slice-known .given i)) pre .0
 
@@ -48,13 +49,15 @@ same-length-2 c = search needs
 
 returns-3 : tie.Need-returns-3
 returns-3 c marks a =
-    let pre = found-by (c .before .before .before .before .before .before .before .before .before .before .before .before .before .before .before .pre .1) a in
+    let the-pre = c .before .before .before .before .before .before .before .before .before .before .before .before .before .before .before .pre in
+    let fetch = c .before .before .before .before .before .fetch in
+    let pre = found-by (the-pre .1) a in
     let shared-slice-known = c .before .before .before .before .before .before .before .before .before .before .before .before .before .before .shared-slice-known in
     let if1 = c .before .before .before .before .before .before .before .before .before .before .before .if1 in
     let if2 = c .before .before .before .before .before .before .before .before .before .before .if2 in
     let show = c .before .before .before .before .before .before .before .before .show in
     all-given _ _ _ (λ i. omega (arith, shared-slice-known .given i)) pre _ _ _ _ _ _ (if1 .left) (if2 .left) (show .ensures .0) (show .ensures .1)
-    (c .before .before .before .before .before .fetch .ensures) (c .before .before .rptin .ensures)
+    (fetch .ensures) (c .before .before .rptin .ensures)
 
 pub give-spec : {M : Type 1} → statement M
 give-spec =
