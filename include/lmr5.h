@@ -3,7 +3,7 @@
  *
  * Link lib/liblmr5.a or lib/liblmr5.so, which `make lib` gives. Each function is proved, on every input, to meet its promise
  * in crates/lmr5/src/lib.rt. This header says the same in words, and docs/FORMAT.md in full; its signatures and numbers are
- * tested against the code. Later versions will add to it.
+ * tested against the code. A later version may add to it, and may give a call a further argument.
  *
  * WHAT A CALL GETS
  * A buffer is a pointer and its length, in elements. The library keeps no pointer, allocates nothing, owns nothing and has

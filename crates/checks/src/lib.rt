@@ -1,9 +1,8 @@
 // The fields of a card checked, and their checksum worked out: in five words of eight bytes, all fields of a word at once.
 ghost use mathlib.Core.Path.{_≡_};
-ghost use Prim.Native.Nat.{_+_, _*_, _%_, _≤_, _<_};
+ghost use Prim.Native.Nat.{_+_, _%_, _≤_, _<_};
 ghost use lib.ListN.{length};
 ghost use lib.Bits.{bitAnd, bitXor};
-ghost use Rattle.format.specs.Bits.{bitField};
 ghost use Rattle.checks.specs.Answers.{cardCheck};
 ghost use Rattle.checks.specs.Parts.{AllPassed, summed, atPlace};
 ghost use Rattle.checks.specs.Walk.{codeRefusal};

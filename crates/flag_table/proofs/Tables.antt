@@ -2,25 +2,21 @@
 -- Assumes nothing.
 use Prim.Native.Nat.{ℕ, zero, suc, _+_, _-_, _*_, _≤_, _<_}
 use native.Mathlib.Omega.{arith}
-use native.Mathlib.Nat.{zero-add}
 use native.Mathlib.Numerals.{add-one}
-use mathlib.Core.Path.{_≡_, refl, sym, ap, ap₂, _∙_}
-use mathlib.Core.Bool.{Bool, true, false, cond, not, _&&_, _||_}
+use mathlib.Core.Path.{_≡_, refl, sym, ap, _∙_}
+use mathlib.Core.Bool.{Bool, true, false, not, _&&_, _||_}
 use mathlib.Core.List.{List, [], _∷_}
 use mathlib.Core.Option.{Option, none, some}
 use lib.ListN.{length, getD, take, drop, replicate, drop-of-length-le, getD-replicate}
 use lib.Seq.{drop-cons, drop-drop, getD-drop, getD-take}
 use lib.Dec.{eqb, leb}
-use borrow.Author.Tests.{le-leb, lt-leb, leb-true, eq-eqb, ne-eqb, not-true, not-false}
+use borrow.Author.Tests.{le-leb, lt-leb, leb-true, eq-eqb, ne-eqb}
 use Rattle.format.specs.Order.{Refusal, first, between}
-use Rattle.format.specs.Flags.{isFlag, FlagTable, markOf, permitted, allYes, flagInRange}
+use Rattle.format.specs.Flags.{FlagTable, markOf, allYes}
 use Rattle.format.specs.Loading.{rows, tableOf, allMarks, someYes, everyRow, loadChecks, loadAnswerBy, loadAnswer, inForceBy, inForce}
-use Rattle.format.specs.Calls.{Answer}
 use Rattle.laws.proofs.Sequences.{and-true, test-case}
 use Rattle.laws.proofs.Order.{first-fits, first-skip, first-nil}
-use Rattle.flag_table.specs.Answers.{loadingAnswer}
 use Rattle.flag_table.specs.Claims.{AnyValue, RowByRow}
-use Rattle.flag_table.specs.declared.Loading.the-variants.{Refused, Loaded}
 
 -- ---- where a mark stands
 

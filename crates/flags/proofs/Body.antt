@@ -5,7 +5,7 @@ use native.Mathlib.Omega.{arith}
 use native.Mathlib.Numerals.{add-one}
 use native.Mathlib.Nat.{pow-le-pow-right, pow-suc, zero-lt-suc, mul-assoc, mul-comm, div-div-eq-div-mul, div-add-mod'}
 use mathlib.Core.Path.{_≡_, refl, sym, ap, ap₂, _∙_}
-use mathlib.Core.Bool.{Bool, true, false, cond, not, _&&_, _||_}
+use mathlib.Core.Bool.{Bool, true, false, cond, not, _&&_}
 use mathlib.Core.List.{List, [], _∷_, _++_, append-assoc}
 use lib.ListN.{length, getD, take, drop, length-append, length-drop}
 use lib.Seq.{take-at, take-suc, take-add, take-all, drop-cons, drop-drop, getD-drop, getD-append-add}
@@ -14,7 +14,7 @@ use borrow.Author.Tests.{le-leb, leb-false, eq-eqb, ne-eqb, eqb-true, eqb-false,
 use Rattle.format.specs.Order.{between}
 use Rattle.format.specs.Bits.{bitField, Bytes}
 use Rattle.format.specs.Nibbles.{nibbles}
-use Rattle.format.specs.Flags.{FlagTable, isFlag, weights, weight, totalWeight, allMissing, qualityCode, flagInRange, flagFits, flagsFit, flagsValid}
+use Rattle.format.specs.Flags.{FlagTable, weights, weight, totalWeight, allMissing, qualityCode, flagInRange, flagFits, flagsFit, flagsValid}
 use Rattle.laws.proofs.Sequences.{and-true, test-case}
 use Rattle.laws.proofs.Nibbles.{length-nibbles, nibbles-drop}
 use Rattle.words.proofs.Turned.{join, byte}
@@ -194,9 +194,6 @@ pub record Weighing (flags n left sum : ℕ) : Type 0 where
   pub few : n ≤ 14
   pub summed : totalWeight (nibblesIn n left) + sum ≡ totalWeight (nibblesIn 14 flags)
   pub small : sum + 3 * n ≤ 42
-
-pub weigh-none : (flags : ℕ) → Weighing flags 14 flags 0
-weigh-none flags = record { few = omega arith; summed = omega arith; small = omega arith }
 
 pub weigh-more : (flags n left sum w : ℕ) → 0 < n → (w ≡ weight (left % 16)) × (w ≤ 3) → Weighing flags n left sum → Weighing flags (n - 1) (left / 16) (sum + w)
 weigh-more flags n left sum w h e k =

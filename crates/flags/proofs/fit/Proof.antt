@@ -1,13 +1,9 @@
+-- `flags::fit` meets its contract.
+-- Assumes nothing.
 use borrow.Author.Needs.{needs}
-use native.Mathlib.Omega.{arith}
-use denote.Ref.{now}
 use Rattle.flags.proofs.Body.{Fitting, fit-none, fit-next, fit-all}
 use Rattle.flags.proofs.fit.Statement.{statement}
 use Rattle.flags.proofs.fit.Tie as tie
-use Rattle.flags.proofs.fit.Reads as reads
-use Rattle.flags.proofs.fit.Lts as lts
-use Rattle.flags.proofs.column.Reads as column-reads
-use Rattle.flags.proofs.fault.Reads as fault-reads
 
 abbrev Inv-loop : tie.InvT-loop
 Inv-loop flags marks left₀ faults₀ n₀ left faults n = Fitting marks flags n left faults
@@ -15,47 +11,36 @@ Inv-loop flags marks left₀ faults₀ n₀ left faults n = Fitting marks flags 
 abbrev μ-loop : tie.MeasureT-loop
 μ-loop flags marks left₀ faults₀ n₀ left faults n = n
 
--- src/lib.rt:145:5
 loop-holds : tie.Need-loop-holds Inv-loop μ-loop
 loop-holds c = fit-none _ _
 
--- src/lib.rt:147:19
 sub-row : tie.Need-sub-row Inv-loop μ-loop
 sub-row c = search needs
 
--- src/lib.rt:148:13
 column-requires : tie.Need-column-requires Inv-loop μ-loop
 column-requires c κs = search needs
 
--- src/lib.rt:149:28
 mul-fault : tie.Need-mul-fault Inv-loop μ-loop
 mul-fault c = search needs
 
--- src/lib.rt:149:28
 index-1-fault : tie.Need-index-1-fault Inv-loop μ-loop
 index-1-fault c = search needs
 
--- src/lib.rt:149:28
 index-2-fault : tie.Need-index-2-fault Inv-loop μ-loop
 index-2-fault c = search needs
 
--- src/lib.rt:149:19
 fault-requires : tie.Need-fault-requires Inv-loop μ-loop
 fault-requires c κs = search needs
 
--- src/lib.rt:149:9
 add-faults : tie.Need-add-faults Inv-loop μ-loop
 add-faults c = search needs
 
--- src/lib.rt:145:5
 loop-less : tie.Need-loop-less Inv-loop μ-loop
 loop-less c = search needs
 
--- src/lib.rt:145:5
 loop-again : tie.Need-loop-again Inv-loop μ-loop
 loop-again c = fit-next _ _ _ _ _ (c .before .before .before .loop-test .taken) (c .before .before .before .before .loop .inv) _ _ (c .before .before .column .ensures .0) (c .fault .ensures)
 
--- src/lib.rt:139:1
 returns : tie.Need-returns Inv-loop μ-loop
 returns c = fit-all _ _ _ _ _ (c .loop-test .left) (c .before .loop .inv)
 

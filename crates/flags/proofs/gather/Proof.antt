@@ -1,3 +1,5 @@
+-- `flags::gather` meets its contract.
+-- Assumes nothing.
 use borrow.Author.Needs.{needs}
 use native.Mathlib.Omega.{arith}
 use Prim.Native.Nat.{ℕ, _+_, _-_, _<_}
@@ -11,9 +13,6 @@ use Rattle.nibble.proofs.View.{part-length, part-at}
 use Rattle.flags.proofs.Body.{Reading, read-none, read-small, read-more, read-all}
 use Rattle.flags.proofs.gather.Statement.{statement}
 use Rattle.flags.proofs.gather.Tie as tie
-use Rattle.flags.proofs.gather.Reads as reads
-use Rattle.flags.proofs.gather.Lts as lts
-use Rattle.numbers.proofs.wide.Reads as wide-reads
 
 abbrev Inv-loop : tie.InvT-loop
 Inv-loop s at w₀ i₀ w i = Reading (take 16 (drop at s)) i w
@@ -21,41 +20,32 @@ Inv-loop s at w₀ i₀ w i = Reading (take 16 (drop at s)) i w
 abbrev μ-loop : tie.MeasureT-loop
 μ-loop s at w₀ i₀ w i = 16 - i
 
--- src/lib.rt:37:5
 loop-holds : tie.Need-loop-holds Inv-loop μ-loop
 loop-holds c = read-none _
 
--- src/lib.rt:38:13
 mul-w : tie.Need-mul-w Inv-loop μ-loop
 mul-w c = omega (arith, read-small _ _ _ (c .loop-test .taken) (c .before .loop .inv))
 
--- src/lib.rt:38:38
 add-wide : tie.Need-add-wide Inv-loop μ-loop
 add-wide c = search needs
 
--- src/lib.rt:38:36
 shared-slice-read-wide : tie.Need-shared-slice-read-wide Inv-loop μ-loop
 shared-slice-read-wide c = search needs
 
--- src/lib.rt:38:22
 wide-requires : tie.Need-wide-requires Inv-loop μ-loop
 wide-requires c κs = search needs
 
--- src/lib.rt:38:13
 add-w : tie.Need-add-w Inv-loop μ-loop
 add-w c =
     let at = c .before .before .before .before .before .args .at + c .before .before .before .loop .i in
     omega (arith, read-small _ _ _ (c .before .before .loop-test .taken) (c .before .before .before .loop .inv), c .wide .ensures .0, c .before .before .before .before .before .pre .0 at)
 
--- src/lib.rt:39:9
 add-i : tie.Need-add-i Inv-loop μ-loop
 add-i c = search needs
 
--- src/lib.rt:37:5
 loop-less : tie.Need-loop-less Inv-loop μ-loop
 loop-less c = search needs
 
--- src/lib.rt:37:5
 loop-again : tie.Need-loop-again Inv-loop μ-loop
 loop-again c =
     let b = now (c .before .before .before .before .before .args .s) in
@@ -67,7 +57,6 @@ loop-again c =
     let l = part-length b here 16 (c .before .before .before .before .before .pre .1) in
     read-more (part b here 16) i (c .before .before .before .loop .w) x l (c .before .before .loop-test .taken) small e (c .before .before .before .loop .inv)
 
--- src/lib.rt:31:1
 returns : tie.Need-returns Inv-loop μ-loop
 returns c =
     let b = now (c .before .before .before .args .s) in

@@ -1,3 +1,5 @@
+-- `flags::sixteen` meets its contract.
+-- Assumes nothing.
 use Prim.Native.Nat.{_+_, _≤_}
 use native.Mathlib.Omega.{arith}
 use mathlib.Core.Path.{sym, ap, subst, _∙_}
@@ -9,22 +11,15 @@ use Rattle.nibble.specs.View.{view}
 use Rattle.nibble.proofs.View.{packed-length}
 use Rattle.flags.proofs.sixteen.Statement.{statement}
 use Rattle.flags.proofs.sixteen.Tie as tie
-use Rattle.flags.proofs.sixteen.Reads as reads
-use Rattle.flags.proofs.sixteen.Lts as lts
-use Rattle.flags.proofs.gather.Reads as gather-reads
-use Rattle.flags.proofs.sixteen_packed.Reads as sixteen-packed-reads
 
--- src/lib.rt:51:9
 sixteen-packed-requires : tie.Need-sixteen-packed-requires
 sixteen-packed-requires c κs =
     let inside = subst (λ (p : Bool). c .before .before .args .c .at + 16 ≤ length (view p (now (c .before .before .args .s)))) (c .if1 .taken) (c .before .before .pre .1) in
     (omega (arith, packed-length (now (c .before .before .args .s))), c .before .before .pre .2)
 
--- src/lib.rt:51:9
 returns : tie.Need-returns
 returns c = c .sixteen-packed .ensures ∙ sym (ap (λ (p : Bool). take 16 (drop (c .before .before .before .args .c .at) (view p (now (c .before .before .before .args .s))))) (c .before .if1 .taken))
 
--- src/lib.rt:53:5
 gather-requires : tie.Need-gather-requires
 gather-requires c κs = (
   subst (λ (p : Bool). Nibbles (view p (now (c .before .before .args .s)))) (c .if1 .left) (c .before .before .pre .0),
@@ -32,7 +27,6 @@ gather-requires c κs = (
   c .before .before .pre .2,
 )
 
--- src/lib.rt:44:1
 returns-2 : tie.Need-returns-2
 returns-2 c = c .gather .ensures ∙ sym (ap (λ (p : Bool). take 16 (drop (c .before .before .before .args .c .at) (view p (now (c .before .before .before .args .s))))) (c .before .if1 .left))
 
