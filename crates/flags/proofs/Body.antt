@@ -3,80 +3,28 @@
 use Prim.Native.Nat.{ℕ, zero, suc, _+_, _-_, _*_, _/_, _%_, _^_, _≤_, _<_}
 use native.Mathlib.Omega.{arith}
 use native.Mathlib.Numerals.{add-one}
-use native.Mathlib.Nat.{pow-le-pow-right, pow-suc, zero-lt-suc, mul-assoc, mul-comm, div-div-eq-div-mul, div-add-mod'}
+use native.Mathlib.Nat.{pow-le-pow-right, pow-suc, zero-lt-suc}
 use mathlib.Core.Path.{_≡_, refl, sym, ap, ap₂, _∙_}
-use mathlib.Core.Bool.{Bool, true, false, cond, not, _&&_}
+use mathlib.Core.Bool.{Bool, true, false, not, _&&_}
 use mathlib.Core.List.{List, [], _∷_, _++_, append-assoc}
-use lib.ListN.{length, getD, take, drop, length-append, length-drop}
+use lib.ListN.{length, getD, take, drop, length-drop}
 use lib.Seq.{take-at, take-suc, take-add, take-all, drop-cons, drop-drop, getD-drop, getD-append-add}
-use lib.Dec.{eqb, leb, ltb}
-use borrow.Author.Tests.{le-leb, leb-false, eq-eqb, ne-eqb, eqb-true, eqb-false, leb-true, ltb-true, not-true}
+use lib.Dec.{eqb, leb}
+use borrow.Author.Tests.{le-leb, eq-eqb, ne-eqb, eqb-true, eqb-false, leb-true, not-true}
 use Rattle.format.specs.Order.{between}
 use Rattle.format.specs.Bits.{bitField, Bytes}
 use Rattle.format.specs.Nibbles.{nibbles}
-use Rattle.format.specs.Flags.{FlagTable, weights, weight, totalWeight, allMissing, qualityCode, flagInRange, flagFits, flagsFit, flagsValid}
+use Rattle.format.specs.Flags.{FlagTable, totalWeight, allMissing, qualityCode, flagInRange, flagFits, flagsFit, flagsValid}
 use Rattle.laws.proofs.Sequences.{and-true, test-case}
 use Rattle.laws.proofs.Nibbles.{length-nibbles, nibbles-drop}
 use Rattle.words.proofs.Turned.{join, byte}
 use Rattle.laws.proofs.Order.{between-in}
 use Rattle.laws.proofs.Flags.{missing-fits, flag-set-valid}
-use Rattle.laws.proofs.Characters.{allBelow, at-below}
+use Rattle.flags.proofs.Row.{and-true-right, and-false-right, and-assoc, in-length, in-last, in-more, in-first, in-rest, fit-more}
+use Rattle.flags.proofs.Planes.{over-last}
+use Rattle.flags.specs.Planes.{mask, overOf}
 use Rattle.flags.specs.Word.{nibblesIn, columnOf, stands, Fault}
 use Rattle.flags.specs.Missing.{MissingPermitted}
-
-and-true-right : (t : Bool) → t && true ≡ t
-and-true-right true = refl
-and-true-right false = refl
-
-and-false-right : (t : Bool) → t && false ≡ false
-and-false-right true = refl
-and-false-right false = refl
-
-and-assoc : (a b c : Bool) → a && (b && c) ≡ (a && b) && c
-and-assoc true b c = refl
-and-assoc false b c = refl
-
--- ---- nibbles in a number
-
-in-length : (n w : ℕ) → length (nibblesIn n w) ≡ n
-unfolding nibblesIn
-in-length zero w = refl
-in-length (suc n) w = omega (arith, length-append (nibblesIn n (w / 16)) (w % 16 ∷ []), in-length n (w / 16))
-
--- the lowest nibble is the last
-in-last : (n w : ℕ) → 0 < n → nibblesIn n w ≡ nibblesIn (n - 1) (w / 16) ++ (w % 16 ∷ [])
-unfolding nibblesIn
-in-last zero w h = absurd (omega arith)
-in-last (suc n) w h = let e : n ≡ suc n - 1 = omega arith in ap (λ (k : ℕ). nibblesIn k (w / 16) ++ (w % 16 ∷ [])) e
-
--- a nibble behind those of a number
-in-more : (n w x : ℕ) → x < 16 → nibblesIn (suc n) (w * 16 + x) ≡ nibblesIn n w ++ (x ∷ [])
-unfolding nibblesIn
-in-more n w x h =
-    let q : (w * 16 + x) / 16 ≡ w = omega arith in
-    let r : (w * 16 + x) % 16 ≡ x = omega arith in
-    ap₂ (λ (a b : ℕ). nibblesIn n a ++ (b ∷ [])) q r
-
--- the highest nibble is the first
-in-first : (n w : ℕ) → nibblesIn (suc n) w ≡ (w / 16 ^ n % 16) ∷ nibblesIn n w
-unfolding nibblesIn
-in-first zero w = let e : w / 1 ≡ w = omega arith in ap (λ (x : ℕ). x % 16 ∷ []) (sym e)
-in-first (suc n) w =
-    let e : w / 16 / 16 ^ n ≡ w / 16 ^ suc n = div-div-eq-div-mul w 16 (16 ^ n) ∙ ap (λ (x : ℕ). w / x) (mul-comm 16 (16 ^ n) ∙ sym (pow-suc 16 n)) in
-    ap (λ (l : List ℕ). l ++ (w % 16 ∷ [])) (in-first n (w / 16)) ∙ ap (λ (x : ℕ). (x % 16) ∷ (nibblesIn n (w / 16) ++ (w % 16 ∷ []))) e
-
--- what stands above the n nibbles is not looked at
-in-low : (n x w : ℕ) → nibblesIn n (x * 16 ^ n + w) ≡ nibblesIn n w
-unfolding nibblesIn
-in-low zero x w = refl
-in-low (suc n) x w =
-    let p = pow-suc 16 n in
-    let q : (x * 16 ^ suc n + w) / 16 ≡ x * 16 ^ n + w / 16 = ap (λ (k : ℕ). (x * k + w) / 16) p ∙ ap (λ (k : ℕ). (k + w) / 16) (sym (mul-assoc x (16 ^ n) 16)) ∙ omega arith in
-    let r : (x * 16 ^ suc n + w) % 16 ≡ w % 16 = ap (λ (k : ℕ). (x * k + w) % 16) p ∙ ap (λ (k : ℕ). (k + w) % 16) (sym (mul-assoc x (16 ^ n) 16)) ∙ omega arith in
-    ap₂ (λ (a b : ℕ). nibblesIn n a ++ (b ∷ [])) q r ∙ ap (λ (l : List ℕ). l ++ (w % 16 ∷ [])) (in-low n x (w / 16))
-
-in-rest : (n w : ℕ) → nibblesIn n (w % 16 ^ n) ≡ nibblesIn n w
-in-rest n w = sym (ap (nibblesIn n) (sym (div-add-mod' w (16 ^ n))) ∙ in-low n (w / 16 ^ n) (w % 16 ^ n))
 
 -- ---- n bytes of a packed buffer as a number
 
@@ -177,37 +125,6 @@ read-all row i w l h k =
     let e : i ≡ 16 = omega (arith, k .passed) in
     ap (λ (n : ℕ). nibblesIn n w) (sym e) ∙ k .read ∙ take-all i row (omega arith)
 
--- ---- the weights
-
--- two bits for each value, by one computed test
-pub weight-bits : (v : ℕ) → v < 16 → 0x3fea50 / 2 ^ (2 * v) % 4 ≡ weight v
-unfolding weight weights allBelow
-weight-bits v h = eqb-true _ _ (at-below 16 (λ k. eqb (0x3fea50 / 2 ^ (2 * k) % 4) (weight k)) v refl h)
-
-weights-more : (vs : List ℕ) (v : ℕ) → totalWeight (vs ++ (v ∷ [])) ≡ totalWeight vs + weight v
-unfolding totalWeight
-weights-more [] v = omega arith
-weights-more (x ∷ vs) v = omega (arith, weights-more vs v)
-
--- n flags are left to be weighed
-pub record Weighing (flags n left sum : ℕ) : Type 0 where
-  pub few : n ≤ 14
-  pub summed : totalWeight (nibblesIn n left) + sum ≡ totalWeight (nibblesIn 14 flags)
-  pub small : sum + 3 * n ≤ 42
-
-pub weigh-more : (flags n left sum w : ℕ) → 0 < n → (w ≡ weight (left % 16)) × (w ≤ 3) → Weighing flags n left sum → Weighing flags (n - 1) (left / 16) (sum + w)
-weigh-more flags n left sum w h e k =
-    record {
-      few = omega (arith, k .few);
-      summed = omega (arith, k .summed, e .0, ap totalWeight (in-last n left h), weights-more (nibblesIn (n - 1) (left / 16)) (left % 16));
-      small = omega (arith, k .small, e .1);
-    }
-
-pub weigh-all : (flags n left sum : ℕ) → n ≤ 0 → Weighing flags n left sum → (sum ≡ totalWeight (nibblesIn 14 flags)) × (sum ≤ 42)
-unfolding nibblesIn totalWeight
-weigh-all flags zero left sum h k = (omega (arith, k .summed), omega (arith, k .small))
-weigh-all flags (suc n) left sum h k = absurd (omega arith)
-
 -- ---- the quality code
 
 missing-more : (vs : List ℕ) (v : ℕ) → allMissing (vs ++ (v ∷ [])) ≡ allMissing vs && eqb v 0
@@ -250,14 +167,6 @@ code-given flags w h n e = (rw (all-missing 14 flags h, ne-eqb flags 0 n) (ap (�
 
 -- ---- the table
 
-fit-more : (marks : FlagTable) (j : ℕ) (vs : List ℕ) (v : ℕ) → flagsFit marks j (vs ++ (v ∷ [])) ≡ flagsFit marks j vs && flagFits marks (j + length vs) v
-unfolding flagsFit
-fit-more marks j [] v = let e : j + 0 ≡ j = omega arith in and-true-right (flagFits marks j v) ∙ ap (λ (k : ℕ). flagFits marks k v) (sym e)
-fit-more marks j (x ∷ vs) v =
-    let e : suc j + length vs ≡ j + suc (length vs) = omega arith in
-    ap (λ (t : Bool). flagFits marks j x && t) (fit-more marks (suc j) vs v ∙ ap (λ (k : ℕ). flagsFit marks (suc j) vs && flagFits marks k v) e)
-    ∙ and-assoc (flagFits marks j x) (flagsFit marks (suc j) vs) (flagFits marks (j + suc (length vs)) v)
-
 -- a flag set to a value of 1 to 10 is in range where its mark is 1
 pub outside : (marks : FlagTable) (j v : ℕ) (r : Bool) → r ≡ between 1 10 v → not r ≡ true → false ≡ flagInRange marks j v
 outside marks j v r e n = rw (sym e ∙ not-true r n)
@@ -268,47 +177,44 @@ inside v r e n = between-in 1 10 v r e n
 pub by-mark : (marks : FlagTable) (j v : ℕ) (r : Bool) → r ≡ between 1 10 v → not r ≡ false → eqb (getD (getD marks (j - 1) []) (v - 1) 0) 1 ≡ flagInRange marks j v
 by-mark marks j v r e n = let h = inside v r e n in rw (le-leb 1 v (h .0), le-leb v 10 (h .1))
 
--- the columns, by one computed test
-pub column-bits : (v : ℕ) → v < 16 → (0x9999998765432109 / 2 ^ (4 * v) % 16 ≡ columnOf v) × (0x9999998765432109 / 2 ^ (4 * v) % 16 < 10)
-unfolding columnOf allBelow
-column-bits v h = (
-  eqb-true _ _ (at-below 16 (λ k. eqb (0x9999998765432109 / 2 ^ (4 * k) % 16) (columnOf k)) v refl h),
-  ltb-true _ _ (at-below 16 (λ k. ltb (0x9999998765432109 / 2 ^ (4 * k) % 16) 10) v refl h),
-)
+-- the column of each value
+pub column-none : (v : ℕ) → v ≡ 0 → (9 ≡ columnOf v) × (9 < 10)
+unfolding columnOf
+column-none v e = (rw e, omega arith)
 
--- the bits of the values that are given, and of those over 10
-given-bits : (v : ℕ) → v < 16 → 0xfffe / 2 ^ v % 2 ≡ cond (eqb v 0) 0 1
-unfolding allBelow
-given-bits v h = eqb-true _ _ (at-below 16 (λ k. eqb (0xfffe / 2 ^ k % 2) (cond (eqb k 0) 0 1)) v refl h)
+pub column-some : (v : ℕ) → (v ≡ 0 → ⊥) → v ≤ 10 → (v - 1 ≡ columnOf v) × (v - 1 < 10)
+unfolding columnOf
+column-some v n h = (rw (le-leb 1 v (omega arith), le-leb v 10 h), omega arith)
 
-over-bits : (v : ℕ) → v < 16 → 0xf800 / 2 ^ v % 2 ≡ cond (leb v 10) 0 1
-unfolding allBelow
-over-bits v h = eqb-true _ _ (at-below 16 (λ k. eqb (0xf800 / 2 ^ k % 2) (cond (leb k 10) 0 1)) v refl h)
-
--- a mark's distance from 1, kept or not
-pub kept-small : (x b : ℕ) → b < 2 → x % 256 * b ≤ 255
-kept-small x zero h = omega arith
-kept-small x (suc zero) h = omega arith
-kept-small x (suc (suc b)) h = absurd (omega arith)
-
--- the sum is 0 exactly where a flag may stand
-fault-by : (v mark x : ℕ) → x ≡ mark → x < 256 → (t u : Bool) → eqb v 0 ≡ t → leb v 10 ≡ u
-    → Fault v mark ((x + 255) % 256 * cond t 0 1 + cond u 0 1)
+-- a mark's distance from 1, where the flag is given, is 0 exactly where it may stand
+pub fault-none : (v mark x : ℕ) → v ≡ 0 → Fault v mark (x % 256 * ((v + 15) / 16))
 unfolding stands
-fault-by v mark x e h true true z b = let q = eqb-true v 0 z in record { none = λ _. rw z; some = λ n. absurd (n (omega arith)); small = omega arith }
-fault-by v mark x e h true false z b = let q = eqb-true v 0 z in let p = leb-false v 10 b in absurd (omega arith)
-fault-by v mark x e h false true z b =
-    let n = eqb-false v 0 z in
-    let low = le-leb 1 v (omega arith) in
-    record {
-      none = λ r. let m : mark ≡ 1 = omega arith in rw (z, low, b, eq-eqb mark 1 m);
-      some = λ r. rw (z, low, b, ne-eqb mark 1 (λ m. r (omega arith)));
-      small = omega arith;
-    }
-fault-by v mark x e h false false z b = record { none = λ r. absurd (omega arith); some = λ _. rw (z, b, and-false-right (leb 1 v)); small = omega arith }
+fault-none v mark x e = let z : (v + 15) / 16 ≡ 0 = omega arith in rw z (record { none = λ _. rw e; some = λ n. absurd (n (omega arith)); small = omega arith })
 
-pub fault-is : (v mark x : ℕ) → v < 16 → x ≡ mark → x < 256 → Fault v mark ((x + 255) % 256 * (0xfffe / 2 ^ v % 2) + 0xf800 / 2 ^ v % 2)
-fault-is v mark x h e l = rw (given-bits v h, over-bits v h) (fault-by v mark x e l (eqb v 0) (leb v 10) refl refl)
+pub fault-some : (v mark x : ℕ) → (v ≡ 0 → ⊥) → v ≤ 10 → x ≡ mark → x < 256 → Fault v mark ((x + 255) % 256 * ((v + 15) / 16))
+unfolding stands
+fault-some v mark x n h e l =
+    let z : (v + 15) / 16 ≡ 1 = omega arith in
+    let given = ne-eqb v 0 n in
+    let low = le-leb 1 v (omega arith) in
+    let high = le-leb v 10 h in
+    rw z
+    (record {
+      none = λ r. let m : mark ≡ 1 = omega arith in rw (given, low, high, eq-eqb mark 1 m);
+      some = λ r. rw (given, low, high, ne-eqb mark 1 (λ m. r (omega arith)));
+      small = omega arith;
+    })
+
+pub fault-is : (v mark x : ℕ) → v ≤ 10 → x ≡ mark → x < 256 → Fault v mark ((x + 255) % 256 * ((v + 15) / 16))
+fault-is v mark x h e l = test-case (eqb v 0) (λ t. fault-none v mark (x + 255) (eqb-true v 0 t)) (λ t. fault-some v mark x (eqb-false v 0 t) h e l)
+
+pub kept-small : (x v : ℕ) → v ≤ 10 → x % 256 * ((v + 15) / 16) ≤ 255
+kept-small x v h = go ((v + 15) / 16) (omega arith)
+  where
+    go : (b : ℕ) → b < 2 → x % 256 * b ≤ 255
+    go zero l = omega arith
+    go (suc zero) l = omega arith
+    go (suc (suc b)) l = absurd (omega arith)
 
 -- the mark in the value's column decides
 stands-fits : (marks : FlagTable) (j v : ℕ) → stands v (getD (getD marks (j - 1) []) (columnOf v) 0) ≡ flagFits marks j v
@@ -321,13 +227,17 @@ stands-fits marks j v =
 pub record Fitting (marks : FlagTable) (flags n left faults : ℕ) : Type 0 where
   pub few : n ≤ 14
   pub small : faults + 256 * n ≤ 3584
+  pub low : overOf (mask n) left ≡ 0
   pub sound : faults ≡ 0 → flagsFit marks 1 (nibblesIn n left) ≡ flagsFit marks 1 (nibblesIn 14 flags)
   pub broken : (faults ≡ 0 → ⊥) → flagsFit marks 1 (nibblesIn 14 flags) ≡ false
 
-pub fit-none : (marks : FlagTable) (flags : ℕ) → Fitting marks flags 14 flags 0
-fit-none marks flags = record { few = omega arith; small = omega arith; sound = λ e. refl; broken = λ n. absurd (n refl) }
+pub fit-none : (marks : FlagTable) (flags : ℕ) → overOf (mask 14) flags ≡ 0 → Fitting marks flags 14 flags 0
+fit-none marks flags o = record { few = omega arith; small = omega arith; low = o; sound = λ e. refl; broken = λ n. absurd (n refl) }
 
 module _ (marks : FlagTable) (flags n left faults : ℕ) (h : 0 < n) (k : Fitting marks flags n left faults) where
+  pub left-low : left % 16 ≤ 10
+  left-low = over-last n left h (k .low) .1
+
   last-fits : faults ≡ 0 → flagsFit marks 1 (nibblesIn 14 flags) ≡ flagsFit marks 1 (nibblesIn (n - 1) (left / 16)) && flagFits marks n (left % 16)
   last-fits z =
       let e : 1 + length (nibblesIn (n - 1) (left / 16)) ≡ n = omega (arith, in-length (n - 1) (left / 16)) in
@@ -343,6 +253,7 @@ module _ (marks : FlagTable) (flags n left faults : ℕ) (h : 0 < n) (k : Fittin
       record {
         few = omega (arith, k .few);
         small = omega (arith, k .small, f .small);
+        low = over-last n left h (k .low) .0;
         sound = λ z. sym (last-fits (omega arith) ∙ ap (λ (b : Bool). rest && b) (sym is ∙ f .none (omega arith)) ∙ and-true-right rest);
         broken = λ m.
             test-case (eqb faults 0)

@@ -1,2 +1,3 @@
 pub mod Word
+pub mod Planes
 pub mod Missing

@@ -3,9 +3,10 @@ ghost use mathlib.Core.Path.{_≡_};
 ghost use Prim.Native.Nat.{_+_, _*_, _≤_, _<_, _^_};
 ghost use lib.ListN.{length, take, drop};
 ghost use Rattle.format.specs.Nibbles.{nibbles, Nibbles};
-ghost use Rattle.format.specs.Flags.{weight, totalWeight, flagInRange, flagsFit, flagsValid, qualityCode};
+ghost use Rattle.format.specs.Flags.{totalWeight, flagInRange, flagsFit, flagsValid, qualityCode};
 ghost use Rattle.nibble.specs.View.{view, part};
 ghost use Rattle.flags.specs.Word.{nibblesIn, columnOf, Fault};
+ghost use Rattle.flags.specs.Planes.{mask, planeOf, overOf, stepsOf};
 ghost use Rattle.flags.specs.Missing.{MissingPermitted};
 use format::FlagTable;
 use nibble::Cursor;
@@ -51,29 +52,44 @@ fn sixteen(s: &[u8], c: Cursor) -> u64
     gather(s, at)
 }
 
-// ---- the quality code
+// ---- fourteen flags at once: a bit of each, at the lowest place of its nibble
 
-// The weight of a flag: two bits for each.
-fn weight_of(v: u64) -> u64
-    requires { ⌜ v < 16 ⌝ }
-    ensures { λ r. ⌜ (r ≡ weight v) × (r ≤ 3) ⌝ }
+// Bit k of each flag that a number holds.
+fn plane(flags: u64, k: u64) -> u64
+    requires { ⌜ k < 4 ⌝ }
+    ensures { λ r. ⌜ (r ≡ planeOf k (mask 14) flags) × (r < 2 ^ 53) ⌝ }
 {
-    (0x3fea50 >> (2 * v)) % 4
+    (flags >> k) & 0x11111111111111
 }
+
+// A bit for each flag over 10.
+fn over_ten(flags: u64) -> u64
+    ensures { λ r. ⌜ r ≡ overOf (mask 14) flags ⌝ }
+{
+    let b = plane(flags, 2);
+    let c = plane(flags, 1);
+    let d = plane(flags, 0);
+    plane(flags, 3) & (b | (c & d))
+}
+
+// For each flag as many bits as it weighs: one from 2 on, two from 4 on, three from 7 to 10.
+fn steps(flags: u64) -> u64
+    ensures { λ r. ⌜ r ≡ stepsOf (mask 14) flags ⌝ }
+{
+    let a = plane(flags, 3);
+    let b = plane(flags, 2);
+    let c = plane(flags, 1);
+    let d = plane(flags, 0);
+    (a | b | c) + 2 * (a | b) + 4 * (a | (b & c & d)) - 7 * over_ten(flags)
+}
+
+// ---- the quality code
 
 // The weights of the fourteen flags that a number holds.
 fn weigh(flags: u64) -> u64
     ensures { λ r. ⌜ (r ≡ totalWeight (nibblesIn 14 flags)) × (r ≤ 42) ⌝ }
 {
-    let mut left = flags;
-    let mut sum = 0;
-    let mut n: usize = 14;
-    while 0 < n {
-        sum += weight_of(left % 16);
-        left /= 16;
-        n -= 1;
-    }
-    sum
+    u64::count_ones(steps(flags)) as u64
 }
 
 // Their quality code.
@@ -109,26 +125,29 @@ pub fn in_range(j: usize, v: usize, marks: FlagTable) -> bool
     marks[j - 1][v - 1] == 1
 }
 
-// The column of a value, four bits for each. A value that has none gets the last column, so that a mark is looked up for every
-// value without a branch.
+// The column of a value. A missing flag gets the last one, so that a mark is looked up for every flag without a branch.
 fn column(v: u64) -> usize
-    requires { ⌜ v < 16 ⌝ }
+    requires { ⌜ v ≤ 10 ⌝ }
     ensures { λ r. ⌜ (r ≡ columnOf v) × (r < 10) ⌝ }
 {
-    (0x9999998765432109u64 >> (4 * v)) as usize % 16
+    if v == 0 {
+        return 9;
+    }
+    (v - 1) as usize
 }
 
-// 0 where a flag of this value may stand, given its mark. A bit for each value says that it is given, and one that it is over 10.
+// 0 where a flag of this value may stand, given its mark, which does not count where the flag is missing.
 fn fault(v: u64, mark: u8) -> u64
-    requires { ⌜ v < 16 ⌝ }
+    requires { ⌜ v ≤ 10 ⌝ }
     ensures { λ r. ⌜ Fault v mark r ⌝ }
 {
-    (numbers::wide(mark) + 255) % 256 * ((0xfffe >> v) % 2) + (0xf800 >> v) % 2
+    (numbers::wide(mark) + 255) % 256 * ((v + 15) / 16)
 }
 
-// Whether the fourteen flags that a number holds may stand under a table. It looks at all of them and has no branch for a flag,
-// which the processor would often guess wrong.
-fn fit(flags: u64, marks: &FlagTable) -> bool
+// Whether fourteen flags, none over 10, may stand under a table. It looks at all of them and has no branch for a flag, which the
+// processor would often guess wrong.
+fn permitted(flags: u64, marks: &FlagTable) -> bool
+    requires { ⌜ overOf (mask 14) flags ≡ 0 ⌝ }
     ensures { λ r. ⌜ r ≡ flagsFit (now (marks .entry)) 1 (nibblesIn 14 flags) ⌝ }
 {
     let mut left = flags;
@@ -140,9 +159,19 @@ fn fit(flags: u64, marks: &FlagTable) -> bool
         let k = column(v);
         faults += fault(v, marks[row][k]);
         left /= 16;
-        n = row;
+        n -= 1;
     }
     faults == 0
+}
+
+// Whether the fourteen flags that a number holds may stand under a table.
+fn fit(flags: u64, marks: &FlagTable) -> bool
+    ensures { λ r. ⌜ r ≡ flagsFit (now (marks .entry)) 1 (nibblesIn 14 flags) ⌝ }
+{
+    if over_ten(flags) == 0 {
+        return permitted(flags, marks);
+    }
+    false
 }
 
 // Whether len nibbles from a place on are a body of attachment 1.

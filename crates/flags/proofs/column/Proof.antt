@@ -1,18 +1,18 @@
 -- `flags::column` meets its contract.
 -- Assumes nothing.
 use borrow.Author.Needs.{needs}
-use Rattle.flags.proofs.Body.{column-bits}
+use Rattle.flags.proofs.Body.{column-none, column-some}
 use Rattle.flags.proofs.column.Statement.{statement}
 use Rattle.flags.proofs.column.Tie as tie
 
-mul-result : tie.Need-mul-result
-mul-result c = search needs
-
-shr-result : tie.Need-shr-result
-shr-result c = search needs
-
 returns : tie.Need-returns
-returns c = column-bits (c .args .v) (c .pre)
+returns c = column-none _ (c .if1 .taken)
+
+sub-result : tie.Need-sub-result
+sub-result c = search needs
+
+returns-2 : tie.Need-returns-2
+returns-2 c = column-some _ (c .if1 .left) (c .before .pre)
 
 pub column-spec : {M : Type 1} → statement M
-column-spec = tie.close (tie.spec mul-result shr-result returns)
+column-spec = tie.close (tie.spec returns sub-result returns-2)

@@ -1,63 +1,22 @@
 -- `flags::fit` meets its contract.
 -- Assumes nothing.
+use mathlib.Core.Path.{sym, _∙_}
 use borrow.Author.Needs.{needs}
-use Rattle.flags.proofs.Body.{Fitting, fit-none, fit-next, fit-all}
+use Rattle.flags.proofs.Planes.{over-unfit}
 use Rattle.flags.proofs.fit.Statement.{statement}
 use Rattle.flags.proofs.fit.Tie as tie
 
-abbrev Inv-loop : tie.InvT-loop
-Inv-loop flags marks left₀ faults₀ n₀ left faults n = Fitting marks flags n left faults
+over-ten-requires : tie.Need-over-ten-requires
+over-ten-requires c κs = search needs
 
-abbrev μ-loop : tie.MeasureT-loop
-μ-loop flags marks left₀ faults₀ n₀ left faults n = n
+permitted-requires : tie.Need-permitted-requires
+permitted-requires c κs = search needs
 
-loop-holds : tie.Need-loop-holds Inv-loop μ-loop
-loop-holds c = fit-none _ _
+returns : tie.Need-returns
+returns c = search needs
 
-sub-row : tie.Need-sub-row Inv-loop μ-loop
-sub-row c = search needs
-
-column-requires : tie.Need-column-requires Inv-loop μ-loop
-column-requires c κs = search needs
-
-mul-fault : tie.Need-mul-fault Inv-loop μ-loop
-mul-fault c = search needs
-
-index-1-fault : tie.Need-index-1-fault Inv-loop μ-loop
-index-1-fault c = search needs
-
-index-2-fault : tie.Need-index-2-fault Inv-loop μ-loop
-index-2-fault c = search needs
-
-fault-requires : tie.Need-fault-requires Inv-loop μ-loop
-fault-requires c κs = search needs
-
-add-faults : tie.Need-add-faults Inv-loop μ-loop
-add-faults c = search needs
-
-loop-less : tie.Need-loop-less Inv-loop μ-loop
-loop-less c = search needs
-
-loop-again : tie.Need-loop-again Inv-loop μ-loop
-loop-again c = fit-next _ _ _ _ _ (c .before .before .before .loop-test .taken) (c .before .before .before .before .loop .inv) _ _ (c .before .before .column .ensures .0) (c .fault .ensures)
-
-returns : tie.Need-returns Inv-loop μ-loop
-returns c = fit-all _ _ _ _ _ (c .loop-test .left) (c .before .loop .inv)
+returns-2 : tie.Need-returns-2
+returns-2 c = sym (over-unfit _ 14 _ (λ z. c .if1 .left (c .before .over-ten .ensures ∙ z)))
 
 pub fit-spec : {M : Type 1} → statement M
-fit-spec =
-    tie.close
-    (tie.spec
-    Inv-loop
-    μ-loop
-    loop-holds
-    sub-row
-    column-requires
-    mul-fault
-    index-1-fault
-    index-2-fault
-    fault-requires
-    add-faults
-    loop-less
-    loop-again
-    returns)
+fit-spec = tie.close (tie.spec over-ten-requires permitted-requires returns returns-2)
