@@ -9,8 +9,9 @@ use mathlib.Core.List.{List, [], _∷_}
 use mathlib.Core.Option.{Option, none, some}
 use lib.ListN.{length, getD, take, drop, replicate, drop-of-length-le, getD-replicate}
 use lib.Seq.{drop-cons, drop-drop, getD-drop, getD-take}
+use lib.Bits.{bitOr, or-add-and, or-lt, and-le-l, and-le-r}
 use lib.Dec.{eqb, leb}
-use borrow.Author.Tests.{le-leb, lt-leb, leb-true, eq-eqb, ne-eqb}
+use borrow.Author.Tests.{le-leb, leb-true, leb-false, eq-eqb, ne-eqb}
 use Rattle.format.specs.Order.{Refusal, first, between}
 use Rattle.format.specs.Flags.{FlagTable, markOf, allYes}
 use Rattle.format.specs.Loading.{rows, tableOf, allMarks, someYes, everyRow, loadChecks, loadAnswerBy, loadAnswer, inForceBy, inForce}
@@ -70,37 +71,63 @@ row-is lent at h =
 
 -- ---- the marks of a lent table
 
--- i bytes have been looked at
-pub record Looking (test : List ℕ → Bool) (l : List ℕ) (i : ℕ) : Type 0 where
+-- the bits of i bytes are joined
+pub record Joined (l : List ℕ) (i joined : ℕ) : Type 0 where
   pub passed : i ≤ length l
-  pub same : test (drop i l) ≡ test l
+  pub sound : joined ≤ 1 → allMarks (drop i l) ≡ allMarks l
+  pub broken : 1 < joined → allMarks l ≡ false
 
-pub look-none : (test : List ℕ → Bool) (l : List ℕ) → Looking test l 0
-look-none test l = record { passed = omega arith; same = refl }
+pub join-none : (l : List ℕ) → Joined l 0 0
+join-none l = record { passed = omega arith; sound = λ h. refl; broken = λ h. absurd (omega arith) }
 
-pub marks-more : (l : List ℕ) (i : ℕ) → i < length l → getD l i 0 ≤ 1 → Looking allMarks l i → Looking allMarks l (i + 1)
+pub join-more : (l : List ℕ) (i joined : ℕ) → i < length l → Joined l i joined → Joined l (i + 1) (bitOr joined (getD l i 0))
 unfolding allMarks
-marks-more l i h m k =
-    record { passed = omega arith; same = rw (add-one i) (sym (ap allMarks (drop-cons l i 0 h) ∙ rw (le-leb (getD l i 0) 1 m)) ∙ k .same) }
+join-more l i joined h k =
+    let m = getD l i 0 in
+    let sum = or-add-and joined m in
+    let low = and-le-l joined m in
+    let high = and-le-r joined m in
+    let next : allMarks (drop i l) ≡ leb m 1 && allMarks (drop (suc i) l) = ap allMarks (drop-cons l i 0 h) in
+    record {
+      passed = omega arith;
+      sound = λ b. rw (add-one i) (sym (next ∙ rw (le-leb m 1 (omega arith))) ∙ k .sound (omega arith));
+      broken = λ b.
+          test-case (leb joined 1)
+          (λ t.
+          let small = leb-true joined 1 t in
+          sym (k .sound small) ∙ next
+          ∙ test-case (leb m 1) (λ u. absurd (over small (leb-true m 1 u) b)) (λ u. rw u))
+          (λ t. k .broken (leb-false joined 1 t));
+    }
+  where
+    over : joined ≤ 1 → getD l i 0 ≤ 1 → 1 < bitOr joined (getD l i 0) → ⊥
+    over a b c = let q = or-lt 1 joined (getD l i 0) (omega arith) (omega arith) in omega arith
 
-pub marks-not : (l : List ℕ) (i : ℕ) → i < length l → 1 < getD l i 0 → Looking allMarks l i → false ≡ allMarks l
+pub join-end : (l : List ℕ) (i joined : ℕ) → length l ≤ i → Joined l i joined → leb joined 1 ≡ allMarks l
 unfolding allMarks
-marks-not l i h m k = sym (ap allMarks (drop-cons l i 0 h) ∙ rw (lt-leb (getD l i 0) 1 m)) ∙ k .same
+join-end l i joined h k =
+    test-case (leb joined 1)
+    (λ t. t ∙ sym (ap allMarks (drop-of-length-le l h)) ∙ k .sound (leb-true joined 1 t))
+    (λ t. t ∙ sym (k .broken (leb-false joined 1 t)))
 
-pub marks-end : (l : List ℕ) (i : ℕ) → length l ≤ i → Looking allMarks l i → true ≡ allMarks l
-unfolding allMarks
-marks-end l i h k = sym (ap allMarks (drop-of-length-le l h)) ∙ k .same
+-- i marks of a row have been looked at
+pub record Looking (l : List ℕ) (i : ℕ) : Type 0 where
+  pub passed : i ≤ length l
+  pub same : someYes (drop i l) ≡ someYes l
 
-pub yes-more : (l : List ℕ) (i : ℕ) → i < length l → (getD l i 0 ≡ 1 → ⊥) → Looking someYes l i → Looking someYes l (i + 1)
+pub look-none : (l : List ℕ) → Looking l 0
+look-none l = record { passed = omega arith; same = refl }
+
+pub yes-more : (l : List ℕ) (i : ℕ) → i < length l → (getD l i 0 ≡ 1 → ⊥) → Looking l i → Looking l (i + 1)
 unfolding someYes
 yes-more l i h n k =
     record { passed = omega arith; same = rw (add-one i) (sym (ap someYes (drop-cons l i 0 h) ∙ rw (ne-eqb (getD l i 0) 1 n)) ∙ k .same) }
 
-pub yes-found : (l : List ℕ) (i : ℕ) → i < length l → getD l i 0 ≡ 1 → Looking someYes l i → true ≡ someYes l
+pub yes-found : (l : List ℕ) (i : ℕ) → i < length l → getD l i 0 ≡ 1 → Looking l i → true ≡ someYes l
 unfolding someYes
 yes-found l i h e k = sym (ap someYes (drop-cons l i 0 h) ∙ rw (eq-eqb (getD l i 0) 1 e)) ∙ k .same
 
-pub yes-end : (l : List ℕ) (i : ℕ) → length l ≤ i → Looking someYes l i → false ≡ someYes l
+pub yes-end : (l : List ℕ) (i : ℕ) → length l ≤ i → Looking l i → false ≡ someYes l
 unfolding someYes
 yes-end l i h k = sym (ap someYes (drop-of-length-le l h)) ∙ k .same
 

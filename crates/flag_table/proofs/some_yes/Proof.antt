@@ -3,19 +3,18 @@
 use borrow.Author.Needs.{needs}
 use Prim.Native.Nat.{_-_}
 use lib.ListN.{length}
-use Rattle.format.specs.Loading.{someYes}
 use Rattle.flag_table.proofs.Tables.{Looking, look-none, yes-more, yes-found, yes-end}
 use Rattle.flag_table.proofs.some_yes.Statement.{statement}
 use Rattle.flag_table.proofs.some_yes.Tie as tie
 
 abbrev Inv-loop : tie.InvT-loop
-Inv-loop row i₀ i = Looking someYes row i
+Inv-loop row i₀ i = Looking row i
 
 abbrev μ-loop : tie.MeasureT-loop
 μ-loop row i₀ i = length row - i
 
 loop-holds : tie.Need-loop-holds Inv-loop μ-loop
-loop-holds c = look-none someYes _
+loop-holds c = look-none _
 
 shared-slice-read-if1 : tie.Need-shared-slice-read-if1 Inv-loop μ-loop
 shared-slice-read-if1 c = search needs
