@@ -139,7 +139,9 @@ static void tables(void) {
     see_fenced("the loaded table", lent);
     see_that("row after row", fenced.table.marks[0][1] == 0 && fenced.table.marks[1][0] == 1 && fenced.table.marks[13][2] == 0);
     see_load_refused("no marks", NULL, 0);
+    lent[1] = 1;
     see_load_refused("139 marks", lent, 139);
+    lent[1] = 1;
     see_load_refused("141 marks", lent, 141);
     lent[1] = 2;
     see_load_refused("a second mark of 2", lent, 140);
@@ -177,18 +179,33 @@ static void see_other(const char *what, lmr5_answer answer) {
     see_that(what, memcmp(report, other, ROOM) == 0);
 }
 
+static int is_filled(const void *buffer, size_t length) {
+    const uint8_t *bytes = buffer;
+    for (size_t i = 0; i < length; i++)
+        if (bytes[i] != 0xa5)
+            return 0;
+    return 1;
+}
+
 /* Made under all flags, and refused under the other table by every call, a replayed one too. */
 static void in_every_call(const lmr5_flag_table *own) {
     const uint8_t script[9] = {LMR5_SCRIPT_DROP, 0, 0, 0, 0, 0, 0, 0, 1};
-    uint8_t tail[ROOM] = {0}, out[ROOM] = {0}, log[37] = {0};
-    int64_t values[46] = {0};
-    uint64_t contents[6] = {0};
+    uint8_t tail[ROOM], out[ROOM], log[37] = {0};
+    int64_t values[46];
+    uint64_t contents[6];
     lmr5_performed performed;
+    memset(tail, 0xa5, sizeof tail);
+    memset(out, 0xa5, sizeof out);
+    memset(values, 0xa5, sizeof values);
+    memset(contents, 0xa5, sizeof contents);
     start_flags(&all);
     see("flag 1 at A", lmr5_set_flag(report, ROOM, 1, LMR5_VALUE_A, &all), 0, 0);
     memcpy(other, report, ROOM);
     see_other("judged", lmr5_judge(report, ROOM, own));
     see_other("unpacked", lmr5_unpack(report, ROOM, values, 46, tail, ROOM, contents, own));
+    see_that("values as they were", is_filled(values, sizeof values));
+    see_that("a tail as it was", is_filled(tail, sizeof tail));
+    see_that("contents as they were", is_filled(contents, sizeof contents));
     see_other("a field read", lmr5_read_field(report, ROOM, LMR5_MONTH, own));
     see_other("a field set", lmr5_set_field(report, ROOM, LMR5_MONTH, 2, own));
     see_other("a field cleared", lmr5_clear_field(report, ROOM, LMR5_S, own));
@@ -200,11 +217,13 @@ static void in_every_call(const lmr5_flag_table *own) {
     see_other("the flags dropped", lmr5_drop(report, ROOM, 1, own));
     see_other("a text put", lmr5_put_text(report, ROOM, nibbles, 1, own));
     see_other("a text fetched", lmr5_fetch_text(report, ROOM, out, ROOM, own));
+    see_that("nothing fetched", is_filled(out, sizeof out));
     performed = lmr5_replay(report, ROOM, script, 9, log, 37, own);
     see_that("a call replayed", performed.calls == 1 && memcmp(report, other, ROOM) == 0);
     see_that("its record", log[0] == LMR5_LOG_REFUSED && log[1] == LMR5_REFUSED_BODY && log[9] == 2);
     see("unpacked under all flags", lmr5_unpack(report, ROOM, values, 46, tail, ROOM, contents, &all), 0, 0);
     see("packed", lmr5_pack(values, 46, contents[0], 0, tail, contents[5], out, ROOM, own), LMR5_REFUSED_BODY, 2);
+    see_that("nothing packed", is_filled(out, sizeof out));
     see("packed under all flags", lmr5_pack(values, 46, contents[0], 0, tail, contents[5], out, ROOM, &all), 0, 0);
     performed = lmr5_replay(report, ROOM, script, 9, log, 37, &all);
     see_that("replayed under all flags", performed.calls == 1 && log[0] == LMR5_LOG_ACCEPTED);

@@ -88,7 +88,7 @@ enum lmr5_refusal {
     LMR5_REFUSED_MISSING = 3,     /* a required field is missing; place: the field */
     LMR5_REFUSED_CHECKSUM = 4,    /* the checksum differs */
     LMR5_REFUSED_ATTACHMENT = 5,  /* an attachment of no nibbles, with id 0 or a repeated id; place: its position */
-    LMR5_REFUSED_BODY = 6,        /* flags (id 1) or text (id 4) invalid, or a flag not permitted; place: its position */
+    LMR5_REFUSED_BODY = 6,        /* an attachment's flags or text invalid, or a flag of it not permitted; place: its position */
     LMR5_REFUSED_PADDING = 7,     /* the padding nibble is not 0 */
     /* by an argument */
     LMR5_REFUSED_NUMBER = 8,      /* no such field (1 to 46), flag (1 to 14) or id (1 to 15); a wrong bit of a presence word */

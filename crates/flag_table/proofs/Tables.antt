@@ -131,7 +131,7 @@ pub yes-end : (l : List ℕ) (i : ℕ) → length l ≤ i → Looking l i → fa
 unfolding someYes
 yes-end l i h k = sym (ap someYes (drop-of-length-le l h)) ∙ k .same
 
--- i rows have been looked at
+-- the rows before a place have been looked at
 pub record Rowing (lent : List ℕ) (at : ℕ) : Type 0 where
   pub i : ℕ
   pub is : at ≡ 10 * i

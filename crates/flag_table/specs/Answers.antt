@@ -1,4 +1,4 @@
--- FORMAT 7.7, the answers of loading: a refusal's number and place for each case.
+-- FORMAT 7.7: what each case of loading's answer means.
 use mathlib.Core.List.{[]}
 use Rattle.format.specs.Calls.{Answer, accepted}
 use Rattle.format.specs.Reply.{refusal}

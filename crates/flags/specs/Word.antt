@@ -19,7 +19,7 @@ columnOf v = cond (between 1 10 v) (v - 1) 9
 unfoldable pub stands : ℕ → ℕ → Bool
 stands v mark = cond (eqb v 0) true (between 1 10 v && eqb mark 1)
 
--- 0 exactly where that is so
+-- 0 exactly where that is so, and at most 256
 pub record Fault (v mark r : ℕ) : Type 0 where
   pub none : r ≡ 0 → stands v mark ≡ true
   pub some : (r ≡ 0 → ⊥) → stands v mark ≡ false

@@ -174,7 +174,7 @@ fn fit(flags: u64, marks: &FlagTable) -> bool
     false
 }
 
-// Whether len nibbles from a place on are a body of attachment 1.
+// Whether len nibbles from a place on are a valid body of attachment 1 under a table.
 pub fn valid(s: &[u8], c: Cursor, len: usize, marks: FlagTable) -> bool
     requires { ⌜ Nibbles (view (c .packed) (now s)) × (c .at + len ≤ length (view (c .packed) (now s))) × (c .at + len ≤ 2 ^ 32) ⌝ }
     ensures { λ r. ⌜ (r ≡ flagsValid marks (part (now (s .entry)) c len)) × MissingPermitted marks ⌝ }
