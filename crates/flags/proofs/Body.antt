@@ -15,12 +15,12 @@ use Rattle.format.specs.Order.{between}
 use Rattle.format.specs.Bits.{bitField, Bytes}
 use Rattle.format.specs.Nibbles.{nibbles}
 use Rattle.format.specs.Flags.{FlagTable, totalWeight, allMissing, qualityCode, flagInRange, flagFits, flagsFit, flagsValid}
-use Rattle.laws.proofs.Sequences.{and-true, test-case}
+use Rattle.laws.proofs.Sequences.{and-true, and-right, and-assoc, test-case}
 use Rattle.laws.proofs.Nibbles.{length-nibbles, nibbles-drop}
 use Rattle.words.proofs.Turned.{join, byte}
 use Rattle.laws.proofs.Order.{between-in}
 use Rattle.laws.proofs.Flags.{missing-fits, flag-set-valid}
-use Rattle.flags.proofs.Row.{and-true-right, and-false-right, and-assoc, in-length, in-last, in-more, in-first, in-rest, fit-more}
+use Rattle.flags.proofs.Row.{and-false-right, in-length, in-last, in-more, in-first, in-rest, fit-more}
 use Rattle.flags.proofs.Planes.{over-last}
 use Rattle.flags.specs.Planes.{mask, overOf}
 use Rattle.flags.specs.Word.{nibblesIn, columnOf, stands, Fault}
@@ -129,8 +129,8 @@ read-all row i w l h k =
 
 missing-more : (vs : List ℕ) (v : ℕ) → allMissing (vs ++ (v ∷ [])) ≡ allMissing vs && eqb v 0
 unfolding allMissing
-missing-more [] v = and-true-right (eqb v 0)
-missing-more (x ∷ vs) v = ap (λ (t : Bool). eqb x 0 && t) (missing-more vs v) ∙ and-assoc (eqb x 0) (allMissing vs) (eqb v 0)
+missing-more [] v = and-right (eqb v 0)
+missing-more (x ∷ vs) v = ap (λ (t : Bool). eqb x 0 && t) (missing-more vs v) ∙ sym (and-assoc (eqb x 0) (allMissing vs) (eqb v 0))
 
 both-zero : (w : ℕ) → eqb (w / 16) 0 && eqb (w % 16) 0 ≡ eqb w 0
 both-zero w =
@@ -254,7 +254,7 @@ module _ (marks : FlagTable) (flags n left faults : ℕ) (h : 0 < n) (k : Fittin
         few = omega (arith, k .few);
         small = omega (arith, k .small, f .small);
         low = over-last n left h (k .low) .0;
-        sound = λ z. sym (last-fits (omega arith) ∙ ap (λ (b : Bool). rest && b) (sym is ∙ f .none (omega arith)) ∙ and-true-right rest);
+        sound = λ z. sym (last-fits (omega arith) ∙ ap (λ (b : Bool). rest && b) (sym is ∙ f .none (omega arith)) ∙ and-right rest);
         broken = λ m.
             test-case (eqb faults 0)
             (λ z. let e = eqb-true faults 0 z in last-fits e ∙ ap (λ (b : Bool). rest && b) (sym is ∙ f .some (λ q. m (omega arith))) ∙ and-false-right rest)

@@ -2,6 +2,7 @@
 -- Assumes nothing.
 use Prim.Native.Nat.{ℕ, zero, suc, _+_, _-_, _*_, _/_, _%_, _^_, _≤_, _<_}
 use native.Mathlib.Omega.{arith}
+use native.Mathlib.Nat.{mul-comm, div-div-eq-div-mul}
 use mathlib.Core.Path.{_≡_, refl, sym, ap, ap₂, _∙_}
 use mathlib.Core.Bool.{Bool, true, false, cond, _&&_}
 use lib.Bits.{bitAnd, bitOr, and-block, or-block, and-mask, and-lt, or-lt, and-le-r, and-zero-l, and-zero-r, or-zero-l}
@@ -11,33 +12,34 @@ use lib.Dec.{eqb, leb, ltb}
 use borrow.Author.Tests.{eqb-true, eqb-false, ne-eqb, le-leb, lt-leb, leb-true, leb-false, ltb-true}
 use Rattle.format.specs.Flags.{FlagTable, weights, weight, totalWeight, flagFits, flagsFit}
 use Rattle.laws.proofs.Sequences.{test-case}
+use Rattle.laws.proofs.Flags.{weights-le}
 use Rattle.laws.proofs.Characters.{allBelow, at-below}
-use Rattle.flags.proofs.Row.{and-false-right, weights-more, fit-more}
+use Rattle.flags.proofs.Row.{and-false-right, in-length, weights-more, fit-more}
 use Rattle.flags.specs.Word.{nibblesIn}
 use Rattle.flags.specs.Planes.{mask, planeOf, overOf, reachedOf, stepsOf}
 
 -- ---- one nibble more
 
-bit-lt : (x : ℕ) → x % 2 < 16
-bit-lt x = omega arith
+-- a bit of a nibble
+abbrev bit : ℕ → ℕ → ℕ
+bit k u = u / 2 ^ k % 2
 
-one-bit : (r : ℕ) → bitAnd r 1 ≡ r % 2
-one-bit r = and-mask r 1
+bit-lt : (k u : ℕ) → bit k u < 16
+bit-lt k u = omega arith
 
-plane-by : (k w x m : ℕ) → w / 2 ^ k ≡ w / 16 / 2 ^ k * 16 + x → x < 16 → planeOf k (m * 16 + 1) w ≡ planeOf k m (w / 16) * 16 + x % 2
-plane-by k w x m e h = ap (λ (y : ℕ). bitAnd y (m * 16 + 1)) e ∙ and-block 4 (w / 16 / 2 ^ k) m x 1 h (omega arith) ∙ ap (λ (y : ℕ). bitAnd (w / 16 / 2 ^ k) m * 16 + y) (one-bit x)
+bit-low : (k w : ℕ) → k < 4 → w / 2 ^ k % 16 % 2 ≡ bit k (w % 16)
+bit-low zero w h = let e : w / 1 % 16 % 2 ≡ w % 16 / 1 % 2 = omega arith in e
+bit-low (suc zero) w h = let e : w / 2 % 16 % 2 ≡ w % 16 / 2 % 2 = omega arith in e
+bit-low (suc (suc zero)) w h = let e : w / 4 % 16 % 2 ≡ w % 16 / 4 % 2 = omega arith in e
+bit-low (suc (suc (suc zero))) w h = let e : w / 8 % 16 % 2 ≡ w % 16 / 8 % 2 = omega arith in e
+bit-low (suc (suc (suc (suc k)))) w h = absurd (omega arith)
 
-plane-3 : (w m : ℕ) → planeOf 3 (m * 16 + 1) w ≡ planeOf 3 m (w / 16) * 16 + w % 16 / 8 % 2
-plane-3 w m = let e : w / 8 % 16 % 2 ≡ w % 16 / 8 % 2 = omega arith in plane-by 3 w (w / 8 % 16) m (omega arith) (omega arith) ∙ ap (λ (y : ℕ). planeOf 3 m (w / 16) * 16 + y) e
-
-plane-2 : (w m : ℕ) → planeOf 2 (m * 16 + 1) w ≡ planeOf 2 m (w / 16) * 16 + w % 16 / 4 % 2
-plane-2 w m = let e : w / 4 % 16 % 2 ≡ w % 16 / 4 % 2 = omega arith in plane-by 2 w (w / 4 % 16) m (omega arith) (omega arith) ∙ ap (λ (y : ℕ). planeOf 2 m (w / 16) * 16 + y) e
-
-plane-1 : (w m : ℕ) → planeOf 1 (m * 16 + 1) w ≡ planeOf 1 m (w / 16) * 16 + w % 16 / 2 % 2
-plane-1 w m = let e : w / 2 % 16 % 2 ≡ w % 16 / 2 % 2 = omega arith in plane-by 1 w (w / 2 % 16) m (omega arith) (omega arith) ∙ ap (λ (y : ℕ). planeOf 1 m (w / 16) * 16 + y) e
-
-plane-0 : (w m : ℕ) → planeOf 0 (m * 16 + 1) w ≡ planeOf 0 m (w / 16) * 16 + w % 16 % 2
-plane-0 w m = let e : w / 1 % 16 % 2 ≡ w % 16 % 2 = omega arith in plane-by 0 w (w / 1 % 16) m (omega arith) (omega arith) ∙ ap (λ (y : ℕ). planeOf 0 m (w / 16) * 16 + y) e
+plane-more : (k w m : ℕ) → k < 4 → planeOf k (m * 16 + 1) w ≡ planeOf k m (w / 16) * 16 + bit k (w % 16)
+plane-more k w m h =
+    let q : w / 2 ^ k / 16 ≡ w / 16 / 2 ^ k = div-div-eq-div-mul w (2 ^ k) 16 ∙ ap (λ (d : ℕ). w / d) (mul-comm (2 ^ k) 16) ∙ sym (div-div-eq-div-mul w 16 (2 ^ k)) in
+    let e : w / 2 ^ k ≡ w / 16 / 2 ^ k * 16 + w / 2 ^ k % 16 = omega (arith, q) in
+    ap (λ (y : ℕ). bitAnd y (m * 16 + 1)) e ∙ and-block 4 (w / 16 / 2 ^ k) m (w / 2 ^ k % 16) 1 (omega arith) (omega arith)
+    ∙ ap (λ (y : ℕ). bitAnd (w / 16 / 2 ^ k) m * 16 + y) (and-mask (w / 2 ^ k % 16) 1 ∙ bit-low k w h)
 
 and-two : (a b r s : ℕ) → r < 16 → s < 16 → bitAnd (a * 16 + r) (b * 16 + s) ≡ bitAnd a b * 16 + bitAnd r s
 and-two a b r s hr hs = and-block 4 a b r s hr hs
@@ -47,12 +49,10 @@ or-two a b r s hr hs = or-block 4 a b r s hr hs
 
 -- what a single nibble brings
 overOne : ℕ → ℕ
-overOne u = bitAnd (u / 8 % 2) (bitOr (u / 4 % 2) (bitAnd (u / 2 % 2) (u % 2)))
+overOne u = bitAnd (bit 3 u) (bitOr (bit 2 u) (bitAnd (bit 1 u) (bit 0 u)))
 
 reachedOne : ℕ → ℕ
-reachedOne u =
-    bitOr (bitOr (u / 8 % 2) (u / 4 % 2)) (u / 2 % 2) + 2 * bitOr (u / 8 % 2) (u / 4 % 2)
-    + 4 * bitOr (u / 8 % 2) (bitAnd (bitAnd (u / 4 % 2) (u / 2 % 2)) (u % 2))
+reachedOne u = bitOr (bitOr (bit 3 u) (bit 2 u)) (bit 1 u) + 2 * bitOr (bit 3 u) (bit 2 u) + 4 * bitOr (bit 3 u) (bitAnd (bitAnd (bit 2 u) (bit 1 u)) (bit 0 u))
 
 module _ (w m : ℕ) where
   abbrev u : ℕ
@@ -61,28 +61,31 @@ module _ (w m : ℕ) where
   abbrev h : ℕ
   h = w / 16
 
-  cd : bitAnd (planeOf 1 (m * 16 + 1) w) (planeOf 0 (m * 16 + 1) w) ≡ bitAnd (planeOf 1 m h) (planeOf 0 m h) * 16 + bitAnd (u / 2 % 2) (u % 2)
-  cd = ap₂ bitAnd (plane-1 w m) (plane-0 w m) ∙ and-two _ _ _ _ (bit-lt (u / 2)) (bit-lt u)
+  more : (k : ℕ) → k < 4 → planeOf k (m * 16 + 1) w ≡ planeOf k m h * 16 + bit k u
+  more k l = plane-more k w m l
 
-  ab : bitOr (planeOf 3 (m * 16 + 1) w) (planeOf 2 (m * 16 + 1) w) ≡ bitOr (planeOf 3 m h) (planeOf 2 m h) * 16 + bitOr (u / 8 % 2) (u / 4 % 2)
-  ab = ap₂ bitOr (plane-3 w m) (plane-2 w m) ∙ or-two _ _ _ _ (bit-lt (u / 8)) (bit-lt (u / 4))
+  cd : bitAnd (planeOf 1 (m * 16 + 1) w) (planeOf 0 (m * 16 + 1) w) ≡ bitAnd (planeOf 1 m h) (planeOf 0 m h) * 16 + bitAnd (bit 1 u) (bit 0 u)
+  cd = ap₂ bitAnd (more 1 (omega arith)) (more 0 (omega arith)) ∙ and-two _ _ _ _ (bit-lt 1 u) (bit-lt 0 u)
+
+  ab : bitOr (planeOf 3 (m * 16 + 1) w) (planeOf 2 (m * 16 + 1) w) ≡ bitOr (planeOf 3 m h) (planeOf 2 m h) * 16 + bitOr (bit 3 u) (bit 2 u)
+  ab = ap₂ bitOr (more 3 (omega arith)) (more 2 (omega arith)) ∙ or-two _ _ _ _ (bit-lt 3 u) (bit-lt 2 u)
 
   over-more : overOf (m * 16 + 1) w ≡ overOf m h * 16 + overOne u
   unfolding overOne
   over-more =
-      let r = ap₂ bitOr (plane-2 w m) cd ∙ or-two _ _ _ _ (bit-lt (u / 4)) (and-lt 4 (u / 2 % 2) (u % 2) (bit-lt (u / 2)) (bit-lt u)) in
-      ap₂ bitAnd (plane-3 w m) r
-      ∙ and-two _ _ _ _ (bit-lt (u / 8)) (or-lt 4 (u / 4 % 2) (bitAnd (u / 2 % 2) (u % 2)) (bit-lt (u / 4)) (and-lt 4 (u / 2 % 2) (u % 2) (bit-lt (u / 2)) (bit-lt u)))
+      let cd-small = and-lt 4 (bit 1 u) (bit 0 u) (bit-lt 1 u) (bit-lt 0 u) in
+      let r = ap₂ bitOr (more 2 (omega arith)) cd ∙ or-two _ _ _ _ (bit-lt 2 u) cd-small in
+      ap₂ bitAnd (more 3 (omega arith)) r ∙ and-two _ _ _ _ (bit-lt 3 u) (or-lt 4 (bit 2 u) (bitAnd (bit 1 u) (bit 0 u)) (bit-lt 2 u) cd-small)
 
   reached-more : reachedOf (m * 16 + 1) w ≡ reachedOf m h * 16 + reachedOne u
   unfolding reachedOne
   reached-more =
-      let small = or-lt 4 (u / 8 % 2) (u / 4 % 2) (bit-lt (u / 8)) (bit-lt (u / 4)) in
-      let one = ap₂ bitOr ab (plane-1 w m) ∙ or-two _ _ _ _ small (bit-lt (u / 2)) in
-      let bc = ap₂ bitAnd (plane-2 w m) (plane-1 w m) ∙ and-two _ _ _ _ (bit-lt (u / 4)) (bit-lt (u / 2)) in
-      let bc-small = and-lt 4 (u / 4 % 2) (u / 2 % 2) (bit-lt (u / 4)) (bit-lt (u / 2)) in
-      let bcd = ap₂ bitAnd bc (plane-0 w m) ∙ and-two _ _ _ _ bc-small (bit-lt u) in
-      let three = ap₂ bitOr (plane-3 w m) bcd ∙ or-two _ _ _ _ (bit-lt (u / 8)) (and-lt 4 (bitAnd (u / 4 % 2) (u / 2 % 2)) (u % 2) bc-small (bit-lt u)) in
+      let small = or-lt 4 (bit 3 u) (bit 2 u) (bit-lt 3 u) (bit-lt 2 u) in
+      let one = ap₂ bitOr ab (more 1 (omega arith)) ∙ or-two _ _ _ _ small (bit-lt 1 u) in
+      let bc = ap₂ bitAnd (more 2 (omega arith)) (more 1 (omega arith)) ∙ and-two _ _ _ _ (bit-lt 2 u) (bit-lt 1 u) in
+      let bc-small = and-lt 4 (bit 2 u) (bit 1 u) (bit-lt 2 u) (bit-lt 1 u) in
+      let bcd = ap₂ bitAnd bc (more 0 (omega arith)) ∙ and-two _ _ _ _ bc-small (bit-lt 0 u) in
+      let three = ap₂ bitOr (more 3 (omega arith)) bcd ∙ or-two _ _ _ _ (bit-lt 3 u) (and-lt 4 (bitAnd (bit 2 u) (bit 1 u)) (bit 0 u) bc-small (bit-lt 0 u)) in
       omega (arith, one, ab, three)
 
 -- ---- all of them
@@ -138,17 +141,8 @@ steps-weigh (suc n) w =
     ap ones (steps-more n w) ∙ ones-cat 4 (stepsOf (mask n) (w / 16)) (reachedOne (w % 16) - 7 * overOne (w % 16)) (omega arith)
     ∙ ap₂ (λ (x y : ℕ). x + y) (steps-weigh n (w / 16)) (weight-one (w % 16) (omega arith)) ∙ sym (weights-more (nibblesIn n (w / 16)) (w % 16))
 
-weight-small : (u : ℕ) → u < 16 → weight u ≤ 3
-unfolding allBelow weight weights
-weight-small u h = leb-true _ _ (at-below 16 (λ k. leb (weight k) 3) u refl h)
-
-weights-small : (n w : ℕ) → totalWeight (nibblesIn n w) ≤ 3 * n
-unfolding nibblesIn totalWeight
-weights-small zero w = omega arith
-weights-small (suc n) w = omega (arith, weights-more (nibblesIn n (w / 16)) (w % 16), weights-small n (w / 16), weight-small (w % 16) (omega arith))
-
 pub weighed : (w r : ℕ) → r ≡ stepsOf (mask 14) w → (ones r ≡ totalWeight (nibblesIn 14 w)) × (ones r ≤ 42)
-weighed w r e = let is = ap ones e ∙ steps-weigh 14 w in (is, omega (arith, is, weights-small 14 w))
+weighed w r e = let is = ap ones e ∙ steps-weigh 14 w in (is, omega (arith, is, weights-le (nibblesIn 14 w), in-length 14 w))
 
 -- ---- fourteen of them, from their planes
 

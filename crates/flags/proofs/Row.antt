@@ -8,19 +8,12 @@ use mathlib.Core.Bool.{Bool, true, false, _&&_}
 use mathlib.Core.List.{List, [], _∷_, _++_}
 use lib.ListN.{length, length-append}
 use Rattle.format.specs.Flags.{FlagTable, weight, totalWeight, flagFits, flagsFit}
+use Rattle.laws.proofs.Sequences.{and-right, and-assoc}
 use Rattle.flags.specs.Word.{nibblesIn}
-
-pub and-true-right : (t : Bool) → t && true ≡ t
-and-true-right true = refl
-and-true-right false = refl
 
 pub and-false-right : (t : Bool) → t && false ≡ false
 and-false-right true = refl
 and-false-right false = refl
-
-pub and-assoc : (a b c : Bool) → a && (b && c) ≡ (a && b) && c
-and-assoc true b c = refl
-and-assoc false b c = refl
 
 -- ---- nibbles in a number
 
@@ -73,8 +66,8 @@ weights-more (x ∷ vs) v = omega (arith, weights-more vs v)
 
 pub fit-more : (marks : FlagTable) (j : ℕ) (vs : List ℕ) (v : ℕ) → flagsFit marks j (vs ++ (v ∷ [])) ≡ flagsFit marks j vs && flagFits marks (j + length vs) v
 unfolding flagsFit
-fit-more marks j [] v = let e : j + 0 ≡ j = omega arith in and-true-right (flagFits marks j v) ∙ ap (λ (k : ℕ). flagFits marks k v) (sym e)
+fit-more marks j [] v = let e : j + 0 ≡ j = omega arith in and-right (flagFits marks j v) ∙ ap (λ (k : ℕ). flagFits marks k v) (sym e)
 fit-more marks j (x ∷ vs) v =
     let e : suc j + length vs ≡ j + suc (length vs) = omega arith in
     ap (λ (t : Bool). flagFits marks j x && t) (fit-more marks (suc j) vs v ∙ ap (λ (k : ℕ). flagsFit marks (suc j) vs && flagFits marks k v) e)
-    ∙ and-assoc (flagFits marks j x) (flagsFit marks (suc j) vs) (flagFits marks (j + suc (length vs)) v)
+    ∙ sym (and-assoc (flagFits marks j x) (flagsFit marks (suc j) vs) (flagFits marks (j + suc (length vs)) v))

@@ -67,7 +67,7 @@ unfolding weight weights upTo
 weight-le zero = omega arith
 weight-le (suc v) = upTo-at 3 weights refl v
 
-weights-le : (flags : List ℕ) → totalWeight flags ≤ 3 * length flags
+pub weights-le : (flags : List ℕ) → totalWeight flags ≤ 3 * length flags
 unfolding totalWeight
 weights-le [] = omega arith
 weights-le (v ∷ vs) = omega (arith, weight-le v, weights-le vs)

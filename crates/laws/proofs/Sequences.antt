@@ -19,6 +19,14 @@ pub or-false : (a b : Bool) → a || b ≡ false → (a ≡ false) × (b ≡ fal
 or-false true b e = let z : _≡_ {A = ℕ} 0 1 = cc in absurd (omega arith)
 or-false false b e = (refl, e)
 
+pub and-right : (p : Bool) → p && true ≡ p
+and-right true = refl
+and-right false = refl
+
+pub and-assoc : (p q r : Bool) → (p && q) && r ≡ p && (q && r)
+and-assoc true q r = refl
+and-assoc false q r = refl
+
 pub true-false : (t : Bool) → t ≡ true → t ≡ false → ⊥
 true-false t p q = let z : _≡_ {A = ℕ} 0 1 = cc in omega arith
 

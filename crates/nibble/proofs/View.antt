@@ -15,7 +15,7 @@ use borrow.Author.Tests.{le-leb, lt-leb, leb-true, leb-false, lt-ltb, le-ltb, lt
 use Rattle.format.specs.Nibbles.{lengthAt, idAt, Nibbles}
 use Rattle.format.specs.Calls.{allNibbles}
 use Rattle.laws.proofs.Bits.{drop-below}
-use Rattle.laws.proofs.Sequences.{test-case}
+use Rattle.laws.proofs.Sequences.{and-right, and-assoc, test-case}
 use Rattle.laws.proofs.Nibbles.{length-nibbles}
 use Rattle.nibble.specs.View.{view, from, part, moved, stepAt, headerAt}
 use Rattle.nibble.specs.declared.Cursor.{Cursor}
@@ -105,14 +105,6 @@ or-leb a b =
     (λ u. le-leb (bitOr a b) 15 (omega (arith, or-lt 4 a b (omega (arith, leb-true a 15 t)) (omega (arith, leb-true b 15 u)))) ∙ rw (t, u))
     (λ u. lt-leb (bitOr a b) 15 (omega (arith, or-above a b .1, leb-false b 15 u)) ∙ rw (t, u)))
     (λ t. lt-leb (bitOr a b) 15 (omega (arith, or-above a b .0, leb-false a 15 t)) ∙ rw t)
-
-and-right : (p : Bool) → p && true ≡ p
-and-right true = refl
-and-right false = refl
-
-and-assoc : (p q r : Bool) → (p && q) && r ≡ p && (q && r)
-and-assoc true q r = refl
-and-assoc false q r = refl
 
 module _ (ns : List ℕ) (i bits : ℕ) where
   -- the bits so far, and those of the next
