@@ -5,7 +5,7 @@ help:
 	@echo 'make list < report     lists a report: its fields, checksum and attachment count, or its refusal'
 	@echo 'make test              the gate: proves every crate, tries every must-fail edit, runs every program'
 	@echo 'make lib               the library for C and Rust: lib/liblmr5.a and lib/liblmr5.so'
-	@echo 'make example           corrects a sample report by a C program over the library'
+	@echo 'make example           two C programs over the library: one corrects a sample report, one shows a remark'
 	@echo 'make header-test       compares include/lmr5.h with the code'
 	@echo 'make differential      the independent implementation beside the library, on random cases'
 	@echo 'make differential-test what the differential test has to find'
@@ -54,11 +54,13 @@ header-test:
 	gcc -std=c99 -Wall -Wextra -pedantic -Werror -fsyntax-only -x c include/lmr5.h
 	! command -v g++ >/dev/null || g++ -Wall -Wextra -pedantic -Werror -fsyntax-only -x c++ include/lmr5.h
 
-# Builds examples/correct.c over the library, and corrects the sample report with it.
+# Builds the programs of examples/ over the library. One corrects a sample report, one shows a ship's remark with its originals.
 example: lib/liblmr5.a
 	$(call needs,example,gcc)
 	gcc -std=c99 -Wall -Wextra -pedantic -Werror -O2 -Iinclude -o lib/correct examples/correct.c lib/liblmr5.a
+	gcc -std=c99 -Wall -Wextra -pedantic -Werror -O2 -Iinclude -o lib/remark examples/remark.c lib/liblmr5.a
 	lib/correct examples/report lib/corrected 286 A
+	lib/remark < examples/atlas
 
 # Makes the test vectors of the gate anew, byte for byte, from the independent implementation.
 vectors:

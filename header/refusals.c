@@ -1,8 +1,9 @@
 /*
  * Tries the header's numbers of refusals, flags and flag values on the library: for each refusal a call that has to be
- * refused so, and the ends of the flags and of their values. Tries the table of permitted flags in every call that takes it,
- * and some entries of the table of the characters, and that nothing beside either table is written. Says each difference, and
- * fails if there is one.
+ * refused so, and the ends of the flags and of their values. Tries the table of permitted flags in every call that takes it;
+ * ship texts there and back, each refusal of their calls, the deck's set for each source ID, and the reader; and some entries
+ * of the table of the characters. Tries that nothing beside a table or a reader is written. Says each difference, and fails if
+ * there is one.
  */
 #include "lmr5.h"
 
@@ -13,6 +14,7 @@ enum { ROOM = 64 };
 
 static uint8_t report[ROOM];
 static const uint8_t nibbles[16] = {1, 1, 1, 1, 1, 1, 1, 1, 1, 1, 1, 1, 1, 1, 1, 1};
+static const uint8_t zeros[16] = {0};
 static lmr5_flag_table all;
 static int differences;
 
@@ -155,10 +157,9 @@ static void tables(void) {
 
 /* The fresh report with an attachment of one nibble, and flags behind it, which are missing. */
 static void start_flags(const lmr5_flag_table *table) {
-    const uint8_t none[16] = {0};
     start();
     see("put", lmr5_put(report, ROOM, 5, nibbles, 1, table), 0, 0);
-    see("put missing flags", lmr5_put(report, ROOM, 1, none, 16, table), 0, 0);
+    see("put missing flags", lmr5_put(report, ROOM, 1, zeros, 16, table), 0, 0);
 }
 
 static void see_set(size_t flag, size_t value, const lmr5_flag_table *table, int yes) {
@@ -187,6 +188,24 @@ static int is_filled(const void *buffer, size_t length) {
     return 1;
 }
 
+static int is_end(lmr5_symbol symbol) {
+    return symbol.kind == LMR5_SYMBOL_END && symbol.byte == 0;
+}
+
+/* It gives only the end, and stays as it is. */
+static void see_ended(const char *what, lmr5_text_reader reader) {
+    const lmr5_text_reader before = reader;
+    for (int i = 0; i < 3; i++) {
+        see_that(what, is_end(lmr5_next_symbol(report, ROOM, &reader)));
+        see_that(what, memcmp(&reader, &before, sizeof reader) == 0);
+    }
+}
+
+static void see_refused_reader(const char *what, lmr5_text_reader reader, uint64_t refusal, uint64_t place) {
+    see_that(what, reader.refusal == refusal && reader.refusal_place == place);
+    see_ended(what, reader);
+}
+
 /* Made under all flags, and refused under the other table by every call, a replayed one too. */
 static void in_every_call(const lmr5_flag_table *own) {
     const uint8_t script[9] = {LMR5_SCRIPT_DROP, 0, 0, 0, 0, 0, 0, 0, 1};
@@ -194,6 +213,8 @@ static void in_every_call(const lmr5_flag_table *own) {
     int64_t values[46];
     uint64_t contents[6];
     lmr5_performed performed;
+    lmr5_text_reader reader;
+    memset(&reader, 0xa5, sizeof reader);
     memset(tail, 0xa5, sizeof tail);
     memset(out, 0xa5, sizeof out);
     memset(values, 0xa5, sizeof values);
@@ -215,9 +236,11 @@ static void in_every_call(const lmr5_flag_table *own) {
     see_other("another attachment put", lmr5_put(report, ROOM, 5, nibbles, 2, own));
     see_other("another attachment fetched", lmr5_fetch(report, ROOM, 5, out, ROOM, own));
     see_other("the flags dropped", lmr5_drop(report, ROOM, 1, own));
-    see_other("a text put", lmr5_put_text(report, ROOM, nibbles, 1, own));
-    see_other("a text fetched", lmr5_fetch_text(report, ROOM, out, ROOM, own));
-    see_that("nothing fetched", is_filled(out, sizeof out));
+    see_other("a text put", lmr5_put_text(report, ROOM, nibbles, 1, nibbles, 1, own));
+    see_other("a text fetched", lmr5_fetch_text(report, ROOM, out, ROOM, tail, ROOM, own));
+    see_that("nothing fetched", is_filled(out, sizeof out) && is_filled(tail, sizeof tail));
+    see_other("a reader opened", lmr5_open_text(report, ROOM, &reader, own));
+    see_refused_reader("the reader", reader, LMR5_REFUSED_BODY, 2);
     performed = lmr5_replay(report, ROOM, script, 9, log, 37, own);
     see_that("a call replayed", performed.calls == 1 && memcmp(report, other, ROOM) == 0);
     see_that("its record", log[0] == LMR5_LOG_REFUSED && log[1] == LMR5_REFUSED_BODY && log[9] == 2);
@@ -270,6 +293,212 @@ static void own_flags(void) {
     see_fenced("the loaded table after all calls", lent);
 }
 
+/* A text of all that a symbol can be, with two spaces at its end, which are dropped; and the length of a longer output. */
+enum { SYMBOLS = 9, PUT = SYMBOLS + 2, LONG = 14 };
+enum { PLAIN = LMR5_ORIGIN_PLAIN, ORIGINAL = LMR5_ORIGIN_ORIGINAL };
+static const uint8_t text[PUT] = {'A', 'A', ' ', ' ', ' ', '1', 'a', 0, 255, ' ', ' '};
+static const uint8_t marks[PUT] = {PLAIN,    ORIGINAL, PLAIN,    PLAIN, ORIGINAL, PLAIN,
+                                   ORIGINAL, ORIGINAL, ORIGINAL, PLAIN, PLAIN};
+static const uint8_t text_nibbles[20] = {12, 1, 15, 4, 1, 10, 10, 15, 2, 0, 1, 15, 6, 1, 15, 0, 0, 15, 15, 15};
+
+static void start_text(void) {
+    start();
+    see("a text", lmr5_put_text(report, ROOM, text, PUT, marks, PUT, &all), 0, 0);
+}
+
+/* A put that is refused changes nothing. */
+static void see_no_text(const char *what, size_t room, const uint8_t *bytes, size_t length, const uint8_t *origins,
+                        size_t origins_length, uint32_t refusal) {
+    memcpy(other, report, ROOM);
+    see(what, lmr5_put_text(report, room, bytes, length, origins, origins_length, &all), refusal, 0);
+    see_that(what, memcmp(report, other, ROOM) == 0);
+}
+
+static void texts_refused(void) {
+    const uint8_t lower = 'a', capital = 'A', space = ' ';
+    const uint8_t two = 2, most = 255;
+    uint8_t long_text[87], long_marks[87];
+    memset(long_text, 0, sizeof long_text);
+    memset(long_marks, ORIGINAL, sizeof long_marks);
+    start();
+    see_no_text("fewer marks", ROOM, text, 3, marks, 2, LMR5_REFUSED_ROOM);
+    see_no_text("more marks", ROOM, text, 2, marks, 3, LMR5_REFUSED_ROOM);
+    see_no_text("no marks", ROOM, text, 1, NULL, 0, LMR5_REFUSED_ROOM);
+    see_no_text("no bytes", ROOM, NULL, 0, marks, 1, LMR5_REFUSED_ROOM);
+    see_no_text("fewer marks, and no symbols", ROOM, long_text, 87, &most, 1, LMR5_REFUSED_ROOM);
+    see_no_text("a plain a", ROOM, &lower, 1, zeros, 1, LMR5_REFUSED_CONTENT);
+    see_no_text("a mark of 2", ROOM, &capital, 1, &two, 1, LMR5_REFUSED_CONTENT);
+    see_no_text("a mark of 255", ROOM, &capital, 1, &most, 1, LMR5_REFUSED_CONTENT);
+    see_no_text("a space with a mark of 2", ROOM, &space, 1, &two, 1, LMR5_REFUSED_CONTENT);
+    long_marks[86] = PLAIN;
+    see_no_text("a plain 0 behind 86 originals", ROOM, long_text, 87, long_marks, 87, LMR5_REFUSED_CONTENT);
+    see_no_text("86 originals", ROOM, long_text, 86, long_marks, 86, LMR5_REFUSED_LENGTH);
+    see_no_text("86 originals, no room", 38, long_text, 86, long_marks, 86, LMR5_REFUSED_LENGTH);
+    see_no_text("85 originals, no room", ROOM, long_text, 85, long_marks, 85, LMR5_REFUSED_ROOM);
+    see_no_text("no text", ROOM, NULL, 0, NULL, 0, LMR5_REFUSED_LENGTH);
+    see_no_text("a space", ROOM, &space, 1, zeros, 1, LMR5_REFUSED_LENGTH);
+    see_no_text("A, no room", 39, &capital, 1, zeros, 1, LMR5_REFUSED_ROOM);
+    see("A", lmr5_put_text(report, 40, &capital, 1, zeros, 1, &all), 0, 0);
+    start();
+    see("an original space", lmr5_put_text(report, ROOM, &space, 1, nibbles, 1, &all), 0, 0);
+}
+
+/* A fetch that is refused writes neither output. */
+static void see_not_fetched(const char *what, size_t length, size_t origins_length, uint32_t refusal) {
+    uint8_t out[LONG], origins[LONG];
+    memset(out, 0xa5, sizeof out);
+    memset(origins, 0xa5, sizeof origins);
+    see(what, lmr5_fetch_text(report, ROOM, out, length, origins, origins_length, &all), refusal, 0);
+    see_that(what, is_filled(out, sizeof out) && is_filled(origins, sizeof origins));
+}
+
+/* What the text comes to in two outputs of these lengths. */
+static void see_fetched(const char *what, size_t length, size_t origins_length, int64_t set) {
+    uint8_t out[LONG], origins[LONG];
+    lmr5_answer answer;
+    memset(out, 0xa5, sizeof out);
+    memset(origins, 0xa5, sizeof origins);
+    answer = lmr5_fetch_text(report, ROOM, out, length, origins, origins_length, &all);
+    see(what, answer, 0, 0);
+    see_that(what, answer.given == LMR5_GIVEN_COUNT + 256 * LMR5_GIVEN_DECK);
+    see_that(what, answer.first == SYMBOLS && answer.second == set && answer.third == 0);
+    see_that(what, memcmp(out, text, SYMBOLS) == 0 && is_filled(out + SYMBOLS, LONG - SYMBOLS));
+    see_that(what, memcmp(origins, marks, SYMBOLS) == 0 && is_filled(origins + SYMBOLS, LONG - SYMBOLS));
+}
+
+static void texts_fetched(void) {
+    uint8_t out[sizeof text_nibbles];
+    lmr5_answer answer;
+    start();
+    see_not_fetched("no text", LONG, LONG, LMR5_REFUSED_NO_SUCH);
+    see_not_fetched("no text, no outputs", 0, 0, LMR5_REFUSED_NO_SUCH);
+    start_text();
+    answer = lmr5_fetch(report, ROOM, 4, out, sizeof out, &all);
+    see("its nibbles", answer, 0, 0);
+    see_that("its nibbles", answer.first == sizeof out && memcmp(out, text_nibbles, sizeof out) == 0);
+    see_not_fetched("a first output too short", SYMBOLS - 1, LONG, LMR5_REFUSED_ROOM);
+    see_not_fetched("a second output too short", LONG, SYMBOLS - 1, LMR5_REFUSED_ROOM);
+    see_not_fetched("both outputs too short", 0, 0, LMR5_REFUSED_ROOM);
+    see_fetched("outputs of the text's length", SYMBOLS, SYMBOLS, LMR5_SET_UNKNOWN);
+    see_fetched("longer outputs", LONG, LONG - 1, LMR5_SET_UNKNOWN);
+}
+
+static int64_t set_of(int64_t sid) {
+    if (sid == 4 || sid == 18)
+        return LMR5_SET_ASCII;
+    return sid == 0 || sid == 22 || sid > 24 ? LMR5_SET_UNKNOWN : LMR5_SET_EBCDIC;
+}
+
+static void sets(void) {
+    start_text();
+    for (int64_t sid = 0; sid <= 254; sid++) {
+        see("SID set", lmr5_set_field(report, ROOM, LMR5_SID, sid, &all), 0, 0);
+        see_fetched("a text of this SID", LONG, LONG, set_of(sid));
+    }
+    see("SID 18", lmr5_set_field(report, ROOM, LMR5_SID, 18, &all), 0, 0);
+    see("SID cleared", lmr5_clear_field(report, ROOM, LMR5_SID, &all), 0, 0);
+    see_fetched("a text without SID", LONG, LONG, LMR5_SET_UNKNOWN);
+}
+
+/* A reader between bytes that stay. */
+static struct {
+    uint8_t before[16];
+    lmr5_text_reader reader;
+    uint8_t behind[16];
+} fenced_reader;
+
+static lmr5_answer open_fenced(size_t length) {
+    memset(&fenced_reader, 0xa5, sizeof fenced_reader);
+    return lmr5_open_text(report, length, &fenced_reader.reader, &all);
+}
+
+static void see_reader_fence(const char *what) {
+    see_that(what, is_filled(fenced_reader.before, 16) && is_filled(fenced_reader.behind, 16));
+}
+
+/* It gives the symbols from this one on, and then the end. */
+static void see_read_out(const char *what, lmr5_text_reader *reader, size_t from) {
+    for (size_t i = from; i < SYMBOLS; i++) {
+        const lmr5_symbol symbol = lmr5_next_symbol(report, ROOM, reader);
+        const uint32_t kind = marks[i] == ORIGINAL ? LMR5_SYMBOL_ORIGINAL : LMR5_SYMBOL_PLAIN;
+        see_that(what, symbol.kind == kind && symbol.byte == text[i]);
+    }
+    see_ended(what, *reader);
+}
+
+static void readers(void) {
+    lmr5_text_reader copies[SYMBOLS];
+    lmr5_answer answer;
+    start();
+    see("opened without a text", open_fenced(ROOM), LMR5_REFUSED_NO_SUCH, 0);
+    see_refused_reader("opened without a text", fenced_reader.reader, LMR5_REFUSED_NO_SUCH, 0);
+    see_reader_fence("beside a refused reader");
+    start_text();
+    see("opened on 37 bytes", open_fenced(37), LMR5_REFUSED_SHORT, 0);
+    see_refused_reader("opened on 37 bytes", fenced_reader.reader, LMR5_REFUSED_SHORT, 0);
+    see("opened on a text that is cut", open_fenced(40), LMR5_REFUSED_SHORT, 1);
+    see_refused_reader("opened on a text that is cut", fenced_reader.reader, LMR5_REFUSED_SHORT, 1);
+    memcpy(other, report, ROOM);
+    answer = open_fenced(ROOM);
+    see("opened", answer, 0, 0);
+    see_that("an opening gives nothing", answer.given == LMR5_GIVEN_NOTHING);
+    see_that("a reader without a refusal", fenced_reader.reader.refusal == 0 && fenced_reader.reader.refusal_place == 0);
+    for (size_t i = 0; i < SYMBOLS; i++) {
+        copies[i] = fenced_reader.reader;
+        lmr5_next_symbol(report, ROOM, &fenced_reader.reader);
+    }
+    see_ended("a reader at its end", fenced_reader.reader);
+    for (size_t i = 0; i < SYMBOLS; i++)
+        see_read_out("a copy of a reader", &copies[i], i);
+    see_reader_fence("beside a reader");
+    see_that("a report read out", memcmp(report, other, ROOM) == 0);
+}
+
+/* Numbers that no opening gives. */
+static void forged_readers(void) {
+    static const uint64_t numbers[8] = {0, 1, 75, 78, 2 * ROOM - 1, 2 * ROOM, UINT64_MAX - 1, UINT64_MAX};
+    start_text();
+    memcpy(other, report, ROOM);
+    for (size_t i = 0; i < 8 * 8 * 8; i++) {
+        const lmr5_text_reader forged = {numbers[i % 8], numbers[i / 8 % 8], numbers[i / 64], numbers[i % 8], numbers[i % 8]};
+        lmr5_text_reader reader = forged;
+        const lmr5_symbol symbol = lmr5_next_symbol(report, ROOM, &reader);
+        see_that("a kind of symbol", symbol.kind <= LMR5_SYMBOL_ORIGINAL && symbol.byte <= 255);
+        see_that("the end of a forged reader", symbol.kind != LMR5_SYMBOL_END || symbol.byte == 0);
+        see_that("a forged reader at its end", !is_end(symbol) || memcmp(&reader, &forged, sizeof reader) == 0);
+        see_that("a forged refusal", reader.refusal == forged.refusal && reader.refusal_place == forged.refusal_place);
+        reader = forged;
+        reader.spaces = 0;
+        see_that("on no bytes", is_end(lmr5_next_symbol(NULL, 0, &reader)));
+        see_that("a report of forged readers", memcmp(report, other, ROOM) == 0);
+    }
+}
+
+/* A text put and fetched by a script, with one byte more in the first output. */
+static void replayed_texts(void) {
+    const uint8_t script[43] = {
+        LMR5_SCRIPT_PUT_TEXT,   0, 0, 0, 0, 0, 0, 0, 2, 'A', 'a',  0, 0, 0, 0, 0, 0, 0, 2, PLAIN, ORIGINAL,
+        LMR5_SCRIPT_FETCH_TEXT, 0, 0, 0, 0, 0, 0, 0, 3, 7,   7, 7, 0, 0, 0, 0, 0, 0, 0, 2, 8, 8};
+    const uint8_t due[79] = {
+        LMR5_LOG_ACCEPTED, 0, 0, 0, 0, 0, 0, 0, 0, 0,
+        0, 0, 0, 0, 0, 0, 0, 0, 0,
+        0, 0, 0, 0, 0, 0, 0, 0, 0,
+        0, 0, 0, 0, 0, 0, 0, 0, 0,
+        LMR5_LOG_ACCEPTED, 0, 0, 0, 0, 0, 0, 0, 0, 0,
+        LMR5_GIVEN_COUNT, 0, 0, 0, 0, 0, 0, 0, 2,
+        LMR5_GIVEN_DECK, 0, 0, 0, 0, 0, 0, 0, LMR5_SET_EBCDIC,
+        0, 0, 0, 0, 0, 0, 0, 0, 0,
+        'A', 'a', 7, PLAIN, ORIGINAL};
+    uint8_t log[sizeof due];
+    lmr5_performed performed;
+    memset(log, 0xa5, sizeof log);
+    start();
+    see("SID 23", lmr5_set_field(report, ROOM, LMR5_SID, 23, &all), 0, 0);
+    performed = lmr5_replay(report, ROOM, script, sizeof script, log, sizeof log, &all);
+    see_that("texts replayed", performed.calls == 2 && performed.taken == sizeof script && performed.written == sizeof log);
+    see_that("their records", memcmp(log, due, sizeof due) == 0);
+}
+
 static void see_entry(const char *what, uint16_t entry, uint16_t due) {
     if (entry == due)
         return;
@@ -299,9 +528,15 @@ int main(void) {
     flags();
     tables();
     own_flags();
+    texts_refused();
+    texts_fetched();
+    sets();
+    readers();
+    forged_readers();
+    replayed_texts();
     characters();
     if (differences == 0)
-        puts("include/lmr5.h: the numbers of refusals and flags as in the library, its tables of flags, and entries of the "
-             "table of the characters");
+        puts("include/lmr5.h: the numbers of refusals and flags as in the library, its tables of flags, its texts and their "
+             "reader, and entries of the table of the characters");
     return differences != 0;
 }

@@ -11,13 +11,13 @@
  * sees to, since the library cannot:
  *   - A length is the true length of the memory behind its pointer, and at most PTRDIFF_MAX bytes. NULL is allowed where
  *     the length is 0. `contents` points to 6 numbers, `table` of lmr5_character_table to 256, every other `table` to the 140
- *     marks of an lmr5_flag_table. Pointers are aligned as their type asks, as C's own are.
+ *     marks of an lmr5_flag_table, `reader` to an lmr5_text_reader. Pointers are aligned as their type asks, as C's own are.
  *   - All memory that a call gets is initialised, outputs too: a call may leave part of an output as it was.
  *   - A buffer that a call may write (not `const`) overlaps no other buffer of that call. Two `const` buffers may overlap. A
- *     table is a buffer too.
+ *     table is a buffer too, and so is a reader.
  *   - While a call runs no other thread writes its buffers, nor reads those that it may write.
  *
- * Which flags are permitted is for the caller to say. Every call that takes a report or a content takes the caller's table of
+ * Which flags are permitted is for the caller to say. Every call that checks a report or a content takes the caller's table of
  * permitted flags as its last argument; the library keeps none. Only lmr5_all_flags and lmr5_load_flags write a table. A
  * program that permits all flags calls lmr5_all_flags once and lends that table to each call.
  *
@@ -27,13 +27,15 @@
  * more is then refused.
  *
  * WHAT A CALL ANSWERS
- * An lmr5_answer. Three refuse nothing themselves: lmr5_replay answers an lmr5_performed, lmr5_character_table and
- * lmr5_all_flags nothing.
+ * An lmr5_answer. Four refuse nothing themselves: lmr5_replay answers an lmr5_performed, lmr5_next_symbol an lmr5_symbol,
+ * lmr5_character_table and lmr5_all_flags nothing.
  * Accepted: `refusal` and `place` are 0, and `given` says what numbers there are. Refused: `refusal` is one of enum
- * lmr5_refusal, `place` says where, all else is 0, and no byte of any buffer has changed.
+ * lmr5_refusal, `place` says where, all else is 0, and no byte of any buffer has changed, but for the reader of
+ * lmr5_open_text, which is written all the same.
  *
- * THE REPORT IS CHECKED FIRST by every call that takes one, under the table, whatever its other arguments are. The first of
- * these that applies is the refusal, "the report's refusals" below:
+ * THE REPORT IS CHECKED FIRST by every call that takes one, under the table, whatever its other arguments are; only
+ * lmr5_next_symbol leaves that to the opening of its reader. The first of these that applies is the refusal, "the report's
+ * refusals" below:
  *   1, place 0, under 38 bytes; 2 or 3, fields ascending; 4; attachment by attachment: 1 (its header does not fit), 5, 1 (its
  *   content does not fit), 6; 7.
  * Then come the call's own refusals, in the order in which they are named.
@@ -71,13 +73,14 @@ enum lmr5_given {
     LMR5_GIVEN_NOTHING = 0,     /* no number */
     LMR5_GIVEN_VALUE = 1,       /* a field's value */
     LMR5_GIVEN_FLAG = 2,        /* a flag's value */
-    LMR5_GIVEN_COUNT = 3,       /* how many bytes a fetch wrote */
+    LMR5_GIVEN_COUNT = 3,       /* how many bytes a fetch wrote to an output */
     LMR5_GIVEN_WORD = 4,        /* a presence word */
     LMR5_GIVEN_PRESENT = 5,     /* how many fields are present */
     LMR5_GIVEN_RPTIN = 6,
     LMR5_GIVEN_ATTACHMENTS = 7, /* AC, how many attachments */
     LMR5_GIVEN_BYTES = 8,       /* a report's size in bytes */
     LMR5_GIVEN_NIBBLES = 9,     /* so many nibbles */
+    LMR5_GIVEN_DECK = 10,       /* the character set of the input deck: enum lmr5_set */
     LMR5_GIVEN_MISSING = 128    /* added to a label: the number is missing, which is not 0 */
 };
 
@@ -96,8 +99,10 @@ enum lmr5_refusal {
     LMR5_REFUSED_REQUIRED = 10,   /* required field cleared, or absent in pack; place: the field */
     LMR5_REFUSED_NO_SUCH = 11,    /* no such attachment */
     LMR5_REFUSED_LENGTH = 12,     /* a content without nibbles, or with over 255 */
-    LMR5_REFUSED_ROOM = 13,       /* no room: for the new report, for what is written to an output, for 46 values */
-    LMR5_REFUSED_CONTENT = 14,    /* a byte over 15 in a content or tail; a content invalid or with a flag not permitted */
+    LMR5_REFUSED_ROOM = 13,       /* no room: for the new report, for what is written to an output, for 46 values; or a text and
+                                     its marks of different lengths */
+    LMR5_REFUSED_CONTENT = 14,    /* a byte over 15 in a content or tail; a content invalid or with a flag not permitted; a
+                                     plain symbol without a short code, or a mark over 1 */
     /* by a table of flags; there is no 15 yet */
     LMR5_REFUSED_TABLE = 16       /* not 140 bytes, a byte other than 0 or 1, or a row without a 1 */
 };
@@ -303,20 +308,87 @@ lmr5_answer lmr5_fetch(const uint8_t *report, size_t report_length, size_t id, u
 lmr5_answer lmr5_drop(uint8_t *report, size_t report_length, size_t id, const lmr5_flag_table *table);
 
 /*
- * Puts the ship text, which is id 4. The text is bytes, none refused, with no 0 at its end; spaces at its end are
- * dropped. Gives nothing.
- * Refusals: the report's refusals; 12 where it has no nibble or over 255; 13 where the buffer is shorter than the new
- * report.
+ * The ship text, which is id 4, is a row of symbols. A plain symbol is a digit, a letter A to Z, a space or one of / & + - { },
+ * in ASCII: these have short codes. An original symbol is a byte of the deck that the report was taken from. It may be any
+ * byte, and the deck's character set says what it stands for: 193 is A in EBCDIC. Nothing is translated: the byte is the
+ * deck's. Spaces are plain ones only; an original 32 ends a run of them, and is kept at the end of a text.
+ * A text takes two buffers, with a byte for each symbol and no 0 at the end: `text` has the bytes, `origins` a mark for each.
  */
-lmr5_answer lmr5_put_text(uint8_t *report, size_t report_length, const uint8_t *text, size_t text_length,
-                          const lmr5_flag_table *table);
+enum lmr5_origin {
+    LMR5_ORIGIN_PLAIN = 0,
+    LMR5_ORIGIN_ORIGINAL = 1
+};
+
+/* The character set of the deck, by SID, the source ID. */
+enum lmr5_set {
+    LMR5_SET_UNKNOWN = 0, /* any other SID, or none */
+    LMR5_SET_EBCDIC = 1,  /* SID 1 to 3, 5 to 17, 19 to 21, 23 or 24 */
+    LMR5_SET_ASCII = 2    /* SID 4 or 18 */
+};
 
 /*
- * Writes the ship text to the front of `out`, with no 0 at its end. Gives its length. The rest of `out` stays.
- * Refusals: the report's refusals; 11 without id 4; 13 where `out` is shorter. 2295 bytes always do.
+ * Puts the ship text. Plain spaces at its end are dropped. Gives nothing.
+ * Refusals: the report's refusals; 13 where `text` and `origins` differ in length; 14 where any of the symbols is a plain byte
+ * without a short code, or has a mark over 1; 12 where the text has no nibble or over 255; 13 where the buffer is shorter than
+ * the new report. 85 symbols never have over 255 nibbles.
  */
-lmr5_answer lmr5_fetch_text(const uint8_t *report, size_t report_length, uint8_t *out, size_t out_length,
-                            const lmr5_flag_table *table);
+lmr5_answer lmr5_put_text(uint8_t *report, size_t report_length, const uint8_t *text, size_t text_length,
+                          const uint8_t *origins, size_t origins_length, const lmr5_flag_table *table);
+
+/*
+ * Writes the bytes of the ship text to the front of `text` and their marks to the front of `origins`. Gives two numbers:
+ * `first` is how many symbols there are, LMR5_GIVEN_COUNT; `second` is one of enum lmr5_set, LMR5_GIVEN_DECK, by the SID that
+ * the report has now. So `given` is LMR5_GIVEN_COUNT + 256 * LMR5_GIVEN_DECK. The rest of both outputs stays.
+ * Refusals: the report's refusals; 11 without id 4; 13 where either output is shorter than the text, and neither is then
+ * written. 2295 bytes each always do.
+ */
+lmr5_answer lmr5_fetch_text(const uint8_t *report, size_t report_length, uint8_t *text, size_t text_length,
+                            uint8_t *origins, size_t origins_length, const lmr5_flag_table *table);
+
+/*
+ * ---- the ship text for display, a symbol at a time
+ *
+ * A reader is five numbers, which the caller keeps. Opening writes all five, and each step moves them on. The first three are
+ * for the library; the last two are the refusal of the opening.
+ *   - It holds no pointer: each step is handed the report's buffer again.
+ *   - It is meant for the bytes on which it was opened, unchanged since. After an edit, open it anew.
+ *   - On any other bytes, or with any other five numbers, a step still reads nothing outside the buffer, changes nothing but
+ *     the reader, and gives some symbol or the end.
+ *   - A copy of a reader is a reader of its own, which goes on from where the first one stood.
+ *   - It may be left at any symbol. Nothing is to be freed.
+ */
+typedef struct lmr5_text_reader {
+    uint64_t place;         /* of the next code, in nibbles of the report */
+    uint64_t end;           /* of the text, in nibbles of the report */
+    uint64_t spaces;        /* how many spaces of a run are still to come */
+    uint64_t refusal;       /* 0: opened; else enum lmr5_refusal */
+    uint64_t refusal_place; /* of the refusal */
+} lmr5_text_reader;
+
+/* What a step gives. */
+typedef struct lmr5_symbol {
+    uint32_t kind; /* enum lmr5_symbol_kind */
+    uint32_t byte; /* 0 at the end */
+} lmr5_symbol;
+
+enum lmr5_symbol_kind {
+    LMR5_SYMBOL_END = 0,     /* there is no symbol left */
+    LMR5_SYMBOL_PLAIN = 1,
+    LMR5_SYMBOL_ORIGINAL = 2 /* its byte is the deck's, as it stands */
+};
+
+/*
+ * Opens a reader of the ship text. Gives nothing. Refusals: the report's refusals; 11 without id 4. A reader whose opening is
+ * refused is at its end at once.
+ */
+lmr5_answer lmr5_open_text(const uint8_t *report, size_t report_length, lmr5_text_reader *reader,
+                           const lmr5_flag_table *table);
+
+/*
+ * Gives the next symbol: those that lmr5_fetch_text gives, in their order and each once, and then the end. At the end the
+ * reader does not change, so each further step gives the end again.
+ */
+lmr5_symbol lmr5_next_symbol(const uint8_t *report, size_t report_length, lmr5_text_reader *reader);
 
 /*
  * ---- the characters of the ship text
@@ -326,7 +398,7 @@ lmr5_answer lmr5_fetch_text(const uint8_t *report, size_t report_length, uint8_t
  * Writes all 256 entries of `table`. table[b] is the code of byte b in a ship text: 4096 times the number of its nibbles, plus
  * the nibbles as one number, the first one highest. 'A', nibbles 12 and 1, is 0x20c1. 'a' has no short code and is escaped:
  * 0x3f61, nibbles 15, 6 and 1. One space is 0x100a; how a run of spaces is written no entry says. lmr5_put_text writes every
- * byte but the space by these entries.
+ * plain symbol but the space by these entries. An original symbol is always escaped: 'A' as 15, 4 and 1.
  */
 void lmr5_character_table(uint16_t table[256]);
 
@@ -336,27 +408,28 @@ void lmr5_character_table(uint16_t table[256]);
  * A script is entries one after the other. An entry is a byte, its kind, and then what the call takes: numbers in 8 bytes,
  * the highest first, and bytes behind their number. A field's value is in two's complement.
  *
- *   kind                            takes                              bytes
- *   LMR5_SCRIPT_READ_FIELD   1      field                              9
- *   LMR5_SCRIPT_SET_FIELD    2      field, value                       17
- *   LMR5_SCRIPT_CLEAR_FIELD  3      field                              9
- *   LMR5_SCRIPT_READ_FLAG    4      flag                               9
- *   LMR5_SCRIPT_SET_FLAG     5      flag, value                        17
- *   LMR5_SCRIPT_CLEAR_FLAG   6      flag                               9
- *   LMR5_SCRIPT_PUT          7      id, n, n bytes of content          17 + n
- *   LMR5_SCRIPT_FETCH        8      id, n, n bytes of output           17 + n
- *   LMR5_SCRIPT_DROP         9      id                                 9
- *   LMR5_SCRIPT_PUT_TEXT     10     n, n bytes of text                 9 + n
- *   LMR5_SCRIPT_FETCH_TEXT   11     n, n bytes of output               9 + n
+ *   kind                            takes                                          bytes
+ *   LMR5_SCRIPT_READ_FIELD   1      field                                          9
+ *   LMR5_SCRIPT_SET_FIELD    2      field, value                                   17
+ *   LMR5_SCRIPT_CLEAR_FIELD  3      field                                          9
+ *   LMR5_SCRIPT_READ_FLAG    4      flag                                           9
+ *   LMR5_SCRIPT_SET_FLAG     5      flag, value                                    17
+ *   LMR5_SCRIPT_CLEAR_FLAG   6      flag                                           9
+ *   LMR5_SCRIPT_PUT          7      id, n, n bytes of content                      17 + n
+ *   LMR5_SCRIPT_FETCH        8      id, n, n bytes of output                       17 + n
+ *   LMR5_SCRIPT_DROP         9      id                                             9
+ *   LMR5_SCRIPT_PUT_TEXT     10     n, n bytes of text, m, m bytes of origins      17 + n + m
+ *   LMR5_SCRIPT_FETCH_TEXT   11     n, n bytes of output, m, m bytes of output     17 + n + m
  *
  * The log holds a record of each call, 37 bytes and then its outputs:
  *   - 10 bytes: enum lmr5_log; the refusal's number; its place in 8 bytes, the highest first. Number and place are 0 where
  *     the call is accepted.
  *   - A row of three numbers, 9 bytes each: a label, and the number in 8 bytes, the highest first, in two's complement. The
  *     number is 0 where it is missing. All 9 are 0 where there is no such number, and so all 27 where the call is refused.
- *     READ_FIELD, READ_FLAG, FETCH and FETCH_TEXT give one number, the others none.
- *   - The outputs after the call, whole and in their order. A fetch has one, of n bytes; the others have none.
- * So a record takes 37 bytes, for a fetch n more, whether the call is accepted or not.
+ *     READ_FIELD, READ_FLAG and FETCH give one number, FETCH_TEXT two, the others none.
+ *   - The outputs after the call, whole and in their order. FETCH has one, of n bytes, FETCH_TEXT two, of n and of m bytes, for
+ *     the text and its origins; the others have none.
+ * So a record takes 37 bytes, for FETCH n more and for FETCH_TEXT n + m more, whether the call is accepted or not.
  */
 enum lmr5_script {
     LMR5_SCRIPT_READ_FIELD = 1,

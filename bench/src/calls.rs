@@ -3,18 +3,20 @@
 use std::cell::RefCell;
 use std::hint::black_box;
 
+use bench::fast::reader::{Reader, Symbol as Read};
 use bench::fast::{calls as fast, flags, script, whole};
-use bench::reports::{observation, remarks};
+use bench::reports::{observation, remarks, small_observation, small_remarks};
 use bench::{FlagTable, library};
 use reference::attachment::Attachment;
 use reference::call::Call;
 use reference::cases::material::{
-    random_flag_table, random_flags, random_value, tail_of, values_and_word,
+    put_text as call_of, random_flag_table, random_flags, random_value, tail_of, values_and_word,
 };
 use reference::gate::script::script as script_of;
 use reference::observation::Observation;
 use reference::prng::Prng;
 use reference::table::REQUIRED;
+use reference::text::{self, Symbol};
 
 use crate::measure::{Line, measure};
 
@@ -35,7 +37,10 @@ struct Bed {
 
 impl Bed {
     fn new(size: usize) -> Bed {
-        let observation = observation(size);
+        Bed::of(size, observation(size))
+    }
+
+    fn of(size: usize, observation: Observation) -> Bed {
         let mut report = observation.packing();
         report.resize(size + ROOM, 0xA5);
         Bed {
@@ -470,46 +475,96 @@ fn drop_line(bed: &mut Bed) -> Line {
     )
 }
 
-fn put_text(bed: &mut Bed) -> Line {
+/// The bytes of a text and its origins.
+type Text = (Vec<u8>, Vec<u8>);
+
+/// Texts as long as the one that stands, each with another digit.
+fn put_text_line(bed: &mut Bed, name: &'static str, remarks: fn(usize) -> Vec<Symbol>) -> Line {
     let stands = bed.observation.content(4).is_some();
     let length = bed.observation.content(4).map_or(120, <[u8]>::len);
     let row = bed.row(|prng| {
-        let mut text = remarks(length);
-        let index = prng.below(text.len());
-        if text[index].is_ascii_digit() {
-            text[index] = b'0' + prng.below(10) as u8;
+        let symbols = remarks(length);
+        let (mut bytes, origins) = (text::bytes(&symbols), text::origins(&symbols));
+        let index = prng.below(bytes.len());
+        if bytes[index].is_ascii_digit() {
+            bytes[index] = b'0' + prng.below(10) as u8;
         }
-        text
+        (bytes, origins)
     });
-    let here = |s: &mut [u8], text: &Vec<u8>, t: &FlagTable| {
-        black_box(library::put_text(s, text, t));
+    let here = |s: &mut [u8], (bytes, origins): &Text, t: &FlagTable| {
+        black_box(library::put_text(s, bytes, origins, t));
     };
-    let rust = |s: &mut [u8], text: &Vec<u8>, t: &FlagTable| {
-        black_box(fast::put_text(s, text, t)).ok();
+    let rust = |s: &mut [u8], (bytes, origins): &Text, t: &FlagTable| {
+        black_box(fast::put_text(s, bytes, origins, t)).ok();
     };
     if stands {
-        bed.steady("put_text", &row, here, rust)
+        bed.steady(name, &row, here, rust)
     } else {
-        bed.restored("put_text", &row, here, rust)
+        bed.restored(name, &row, here, rust)
     }
 }
 
-fn fetch_text(bed: &mut Bed) -> Line {
-    let (ours, theirs) = (RefCell::new([0u8; 2300]), RefCell::new([0u8; 2300]));
+fn fetch_text_line(bed: &Bed, name: &'static str) -> Line {
+    let outputs = || RefCell::new(([0u8; 2300], [0u8; 2300]));
+    let (ours, theirs) = (outputs(), outputs());
     bed.steady(
-        "fetch_text",
+        name,
         &[(); ROW],
         |s, _, t| {
+            let (bytes, origins) = &mut *ours.borrow_mut();
             black_box(library::fetch_text(
                 s,
-                black_box(&mut *ours.borrow_mut()),
+                black_box(bytes),
+                black_box(origins),
                 t,
             ));
         },
         |s, _, t| {
-            black_box(fast::fetch_text(s, black_box(&mut *theirs.borrow_mut()), t)).ok();
+            let (bytes, origins) = &mut *theirs.borrow_mut();
+            black_box(fast::fetch_text(s, black_box(bytes), black_box(origins), t)).ok();
         },
     )
+}
+
+/// A reader opened and read out. Each step is a call, and its symbol goes into a sum.
+fn read_text_line(bed: &Bed, name: &'static str) -> Line {
+    bed.steady(
+        name,
+        &[(); ROW],
+        |s, _, t| {
+            let mut reader = [0; 5];
+            black_box(library::open_text(s, &mut reader, t));
+            let mut sum = 0;
+            loop {
+                let symbol = library::next_symbol(s, &mut reader);
+                if symbol.kind == 0 {
+                    break;
+                }
+                sum += symbol.kind << 8 | symbol.byte;
+            }
+            black_box(sum);
+        },
+        |s, _, t| {
+            let mut reader = Reader::open(s, t);
+            black_box(&reader.refusal);
+            let mut sum = 0;
+            loop {
+                match reader.next() {
+                    None => break,
+                    Some(Read::Plain(byte)) => sum += 1 << 8 | u32::from(byte),
+                    Some(Read::Original(byte)) => sum += 2 << 8 | u32::from(byte),
+                }
+            }
+            black_box(sum);
+        },
+    )
+}
+
+/// The report of this size whose text is in small letters; without a text it is as the other.
+fn small(bed: &Bed) -> Option<Bed> {
+    let size = bed.size;
+    bed.observation.content(4)?;
+    Some(Bed::of(size, small_observation(size)))
 }
 
 /// A list of twenty calls after which the report is as long as before.
@@ -542,11 +597,10 @@ fn list(bed: &mut Bed) -> Vec<Call> {
         calls.push(Call::Drop { id });
     }
     let length = bed.observation.content(4).map_or(120, <[u8]>::len);
-    calls.push(Call::PutText {
-        text: remarks(length),
-    });
+    calls.push(call_of(&remarks(length)));
     calls.push(Call::FetchText {
-        output: vec![0; 400],
+        text: vec![0; 400],
+        origins: vec![0; 400],
     });
     calls.push(if bed.observation.content(4).is_some() {
         Call::ReadField { field: 46 }
@@ -573,7 +627,7 @@ fn replay(bed: &mut Bed) -> Line {
 
 type Measured = fn(&mut Bed) -> Option<Line>;
 
-const CALLS: [(&str, Measured); 21] = [
+const CALLS: [(&str, Measured); 25] = [
     ("judge", |bed| Some(judge(bed))),
     ("fresh", fresh),
     ("unpack", |bed| Some(unpack(bed))),
@@ -589,8 +643,21 @@ const CALLS: [(&str, Measured); 21] = [
     ("put_shorten", put_shorten),
     ("fetch", |bed| Some(fetch(bed))),
     ("drop", |bed| Some(drop_line(bed))),
-    ("put_text", |bed| Some(put_text(bed))),
-    ("fetch_text", |bed| Some(fetch_text(bed))),
+    ("put_text", |bed| {
+        Some(put_text_line(bed, "put_text", remarks))
+    }),
+    ("put_small", |bed| {
+        let mut bed = Bed::of(bed.size, small_observation(bed.size));
+        Some(put_text_line(&mut bed, "put_small", small_remarks))
+    }),
+    ("fetch_text", |bed| Some(fetch_text_line(bed, "fetch_text"))),
+    ("fetch_small", |bed| {
+        Some(fetch_text_line(&small(bed)?, "fetch_small"))
+    }),
+    ("read_text", |bed| Some(read_text_line(bed, "read_text"))),
+    ("read_small", |bed| {
+        Some(read_text_line(&small(bed)?, "read_small"))
+    }),
     ("characters", characters),
     ("all_flags", all_flags),
     ("load_flags", load_flags),

@@ -9,6 +9,7 @@ use reference::outside::Unpacked;
 use reference::refusal::Refusal;
 
 use crate::FlagTable;
+use crate::fast::reader::{Reader, Symbol};
 use crate::fast::{self, calls, flags, whole};
 use crate::library::{self, Answer, Performed};
 use crate::trials::{ALL, Trial, permitted_of};
@@ -38,6 +39,39 @@ fn of_fast(answer: fast::Answer) -> Answer {
             first: given.number,
             ..Answer::default()
         },
+    }
+}
+
+fn of_fetched(answer: Result<fast::Fetched, fast::Refusal>) -> Answer {
+    match answer {
+        Err(r) => refusal(r.number, r.place.into()),
+        Ok(fetched) => Answer {
+            given: fast::Label::Count as u32 | (fast::Label::Deck as u32) << 8,
+            first: fetched.symbols as i64,
+            second: fetched.set as i64,
+            ..Answer::default()
+        },
+    }
+}
+
+/// A symbol's byte and its origin.
+pub type Marked = (u8, u8);
+
+/// The symbols up to the end.
+fn symbols(mut next: impl FnMut() -> Option<Marked>) -> Vec<Marked> {
+    const MOST: usize = 2295;
+    let symbols = std::iter::from_fn(&mut next).take(MOST).collect();
+    assert_eq!([next(), next()], [None; 2], "behind the end");
+    symbols
+}
+
+/// None at the end.
+fn of_library(symbol: library::Symbol) -> Option<Marked> {
+    match (symbol.kind, u8::try_from(symbol.byte)) {
+        (0, Ok(0)) => None,
+        (1, Ok(byte)) => Some((byte, 0)),
+        (2, Ok(byte)) => Some((byte, 1)),
+        _ => panic!("{symbol:?}"),
     }
 }
 
@@ -135,7 +169,56 @@ impl Side {
         }
     }
 
-    fn call(self, s: &mut [u8], call: &Call, out: &mut [u8], table: &FlagTable) -> Answer {
+    /// The answer of a reader's opening, and the symbols that it gives. The end is seen thrice.
+    pub fn read_out(self, s: &[u8], table: &FlagTable) -> (Answer, Vec<Marked>) {
+        match self {
+            Side::Library => {
+                let mut reader = [0xA5; 5];
+                let answer = library::open_text(s, &mut reader, table);
+                let refusal = [u64::from(answer.refusal), answer.place];
+                assert_eq!(reader[3..], refusal, "the refusal in the reader");
+                let symbols = symbols(|| of_library(library::next_symbol(s, &mut reader)));
+                (answer, symbols)
+            }
+            Side::Rust => {
+                let mut reader = Reader::open(s, table);
+                let opened = reader.refusal.map_or(Ok(fast::Given::NOTHING), Err);
+                let symbols = symbols(|| {
+                    reader.next().map(|symbol| match symbol {
+                        Symbol::Plain(byte) => (byte, 0),
+                        Symbol::Original(byte) => (byte, 1),
+                    })
+                });
+                (of_fast(opened), symbols)
+            }
+        }
+    }
+
+    /// A text read out to two outputs as fetch text writes it, with how many symbols there are.
+    fn read_out_to(
+        self,
+        s: &[u8],
+        text: &mut [u8],
+        origins: &mut [u8],
+        table: &FlagTable,
+    ) -> Answer {
+        let (mut answer, symbols) = self.read_out(s, table);
+        if answer.refusal != 0 {
+            assert!(symbols.is_empty(), "symbols of a refused reader");
+            return answer;
+        }
+        if text.len().min(origins.len()) < symbols.len() {
+            return refusal(13, 0);
+        }
+        for ((symbol, byte), origin) in symbols.iter().zip(text).zip(origins) {
+            (*byte, *origin) = *symbol;
+        }
+        answer.given = fast::Label::Count as u32;
+        answer.first = symbols.len() as i64;
+        answer
+    }
+
+    fn call(self, s: &mut [u8], call: &Call, outputs: &mut [Vec<u8>], table: &FlagTable) -> Answer {
         let size = |n: u64| n as usize;
         match self {
             Side::Library => match call {
@@ -150,10 +233,13 @@ impl Side {
                 }
                 Call::ClearFlag { flag } => library::clear_flag(s, size(*flag), table),
                 Call::Put { id, content } => library::put(s, size(*id), content, table),
-                Call::Fetch { id, .. } => library::fetch(s, size(*id), out, table),
+                Call::Fetch { id, .. } => library::fetch(s, size(*id), &mut outputs[0], table),
                 Call::Drop { id } => library::remove(s, size(*id), table),
-                Call::PutText { text } => library::put_text(s, text, table),
-                Call::FetchText { .. } => library::fetch_text(s, out, table),
+                Call::PutText { text, origins } => library::put_text(s, text, origins, table),
+                Call::FetchText { .. } => {
+                    let [text, origins] = two(outputs);
+                    library::fetch_text(s, text, origins, table)
+                }
             },
             Side::Rust => of_fast(match call {
                 Call::ReadField { field } => calls::read_field(s, size(*field), table),
@@ -165,10 +251,13 @@ impl Side {
                 }
                 Call::ClearFlag { flag } => calls::clear_flag(s, size(*flag), table),
                 Call::Put { id, content } => calls::put(s, size(*id), content, table),
-                Call::Fetch { id, .. } => calls::fetch(s, size(*id), out, table),
+                Call::Fetch { id, .. } => calls::fetch(s, size(*id), &mut outputs[0], table),
                 Call::Drop { id } => calls::remove(s, size(*id), table),
-                Call::PutText { text } => calls::put_text(s, text, table),
-                Call::FetchText { .. } => calls::fetch_text(s, out, table),
+                Call::PutText { text, origins } => calls::put_text(s, text, origins, table),
+                Call::FetchText { .. } => {
+                    let [text, origins] = two(outputs);
+                    return of_fetched(calls::fetch_text(s, text, origins, table));
+                }
             }),
         }
     }
@@ -186,6 +275,10 @@ impl Side {
             }
         }
     }
+}
+
+fn two(outputs: &mut [Vec<u8>]) -> &mut [Vec<u8>; 2] {
+    outputs.try_into().expect("fetch text has two outputs")
 }
 
 fn contents_of(result: Result<Unpacked, Refusal>) -> (Answer, [u64; 6]) {
@@ -275,6 +368,23 @@ pub fn agrees(side: Side, trial: &Trial) -> bool {
             side.characters(&mut table);
             table == due
         }
+        (
+            Case::ReadOut {
+                report,
+                text,
+                origins,
+            },
+            Outcome::ReadOut {
+                result,
+                text: due_text,
+                origins: due_origins,
+            },
+        ) => {
+            let (mut text, mut origins) = (text.clone(), origins.clone());
+            let answer = side.read_out_to(report, &mut text, &mut origins, table);
+            let result = result.map(|fetched| vec![Number::count(fetched.symbols)]);
+            answer == of_reference(result) && text == due_text && origins == due_origins
+        }
         (Case::Calls { buffer, calls }, _) => list_agrees(side, buffer, calls, table),
         _ => true,
     }
@@ -286,13 +396,10 @@ fn list_agrees(side: Side, start: &[u8], calls: &[Call], table: &FlagTable) -> b
     let mut ours = start.to_vec();
     let mut theirs = start.to_vec();
     for call in calls {
-        let mut output = call.output().unwrap_or_default();
-        let answer = side.call(&mut ours, call, &mut output, table);
+        let mut outputs = call.outputs();
+        let answer = side.call(&mut ours, call, &mut outputs, table);
         let due = call.run(&mut theirs, &permitted);
-        if answer != of_reference(due.result)
-            || output != due.output.unwrap_or_default()
-            || ours != theirs
-        {
+        if answer != of_reference(due.result) || outputs != due.outputs || ours != theirs {
             return false;
         }
     }

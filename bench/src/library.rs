@@ -24,8 +24,19 @@ pub struct Performed {
     pub written: u64,
 }
 
+/// What a step of a reader gives: 0 at the end, 1 plain, 2 original; and its byte.
+#[repr(C)]
+#[derive(Clone, Copy, Debug, PartialEq, Eq)]
+pub struct Symbol {
+    pub kind: u32,
+    pub byte: u32,
+}
+
+/// The five numbers of a reader.
+pub type Reader = [u64; 5];
+
 mod symbols {
-    use super::{Answer, FlagTable, Performed};
+    use super::{Answer, FlagTable, Performed, Reader, Symbol};
 
     unsafe extern "C" {
         pub fn lmr5_all_flags(table: *mut FlagTable);
@@ -114,15 +125,26 @@ mod symbols {
             n: usize,
             text: *const u8,
             text_n: usize,
+            origins: *const u8,
+            origins_n: usize,
             table: *const FlagTable,
         ) -> Answer;
         pub fn lmr5_fetch_text(
             report: *const u8,
             n: usize,
-            out: *mut u8,
-            out_n: usize,
+            text: *mut u8,
+            text_n: usize,
+            origins: *mut u8,
+            origins_n: usize,
             table: *const FlagTable,
         ) -> Answer;
+        pub fn lmr5_open_text(
+            report: *const u8,
+            n: usize,
+            reader: *mut Reader,
+            table: *const FlagTable,
+        ) -> Answer;
+        pub fn lmr5_next_symbol(report: *const u8, n: usize, reader: *mut Reader) -> Symbol;
         pub fn lmr5_character_table(table: *mut u16);
         pub fn lmr5_replay(
             report: *mut u8,
@@ -260,13 +282,43 @@ pub fn remove(s: &mut [u8], id: usize, table: &FlagTable) -> Answer {
 }
 
 #[inline(always)]
-pub fn put_text(s: &mut [u8], text: &[u8], table: &FlagTable) -> Answer {
-    unsafe { symbols::lmr5_put_text(s.as_mut_ptr(), s.len(), text.as_ptr(), text.len(), table) }
+pub fn put_text(s: &mut [u8], text: &[u8], origins: &[u8], table: &FlagTable) -> Answer {
+    unsafe {
+        symbols::lmr5_put_text(
+            s.as_mut_ptr(),
+            s.len(),
+            text.as_ptr(),
+            text.len(),
+            origins.as_ptr(),
+            origins.len(),
+            table,
+        )
+    }
 }
 
 #[inline(always)]
-pub fn fetch_text(s: &[u8], out: &mut [u8], table: &FlagTable) -> Answer {
-    unsafe { symbols::lmr5_fetch_text(s.as_ptr(), s.len(), out.as_mut_ptr(), out.len(), table) }
+pub fn fetch_text(s: &[u8], text: &mut [u8], origins: &mut [u8], table: &FlagTable) -> Answer {
+    unsafe {
+        symbols::lmr5_fetch_text(
+            s.as_ptr(),
+            s.len(),
+            text.as_mut_ptr(),
+            text.len(),
+            origins.as_mut_ptr(),
+            origins.len(),
+            table,
+        )
+    }
+}
+
+#[inline(always)]
+pub fn open_text(s: &[u8], reader: &mut Reader, table: &FlagTable) -> Answer {
+    unsafe { symbols::lmr5_open_text(s.as_ptr(), s.len(), reader, table) }
+}
+
+#[inline(always)]
+pub fn next_symbol(s: &[u8], reader: &mut Reader) -> Symbol {
+    unsafe { symbols::lmr5_next_symbol(s.as_ptr(), s.len(), reader) }
 }
 
 #[inline(always)]

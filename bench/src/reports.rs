@@ -1,32 +1,42 @@
 //! The reports that calls are measured on.
 
 use reference::attachment::Attachment;
-use reference::cases::material::{fresh_observation, random_flags, random_value};
+use reference::cases::material::{fresh_observation, random_flags, random_value, symbols_of};
 use reference::observation::Observation;
 use reference::prng::Prng;
 use reference::table::{FIELDS, fields};
-use reference::text;
+use reference::text::{self, Symbol};
 
 pub const SIZES: [usize; 4] = [38, 200, 900, 1853];
 
-/// A ship's remarks, as long as they make so many nibbles.
-pub fn remarks(nibbles: usize) -> Vec<u8> {
-    const WORDS: &[u8] = b"USCG SHIP 4YA   STORM 25-30 KT, SEA ROUGH/HIGH  POS 4512N 03021W + \
-          BAR 0991.4 FALLING & ICE      SEEN AT 1200Z  Q{5}";
+const WORDS: &[u8] = b"USCG SHIP 4YA   STORM 25-30 KT, SEA ROUGH/HIGH  POS 4512N 03021W + \
+      BAR 0991.4 FALLING & ICE      SEEN AT 1200Z  Q{5}";
+
+/// A ship's remarks, as long as they make so many nibbles. Few symbols are original.
+pub fn remarks(nibbles: usize) -> Vec<Symbol> {
+    remarks_of(WORDS, nibbles)
+}
+
+/// The same in small letters, which are original.
+pub fn small_remarks(nibbles: usize) -> Vec<Symbol> {
+    remarks_of(&WORDS.to_ascii_lowercase(), nibbles)
+}
+
+fn remarks_of(words: &[u8], nibbles: usize) -> Vec<Symbol> {
     let mut remarks = Vec::new();
-    for &byte in WORDS.iter().cycle() {
+    for &symbol in symbols_of(words).iter().cycle() {
         let mut longer = remarks.clone();
-        longer.push(byte);
+        longer.push(symbol);
         if text::write(&longer).len() > nibbles {
             break;
         }
         remarks = longer;
     }
-    while remarks.last() == Some(&b' ') {
+    while remarks.last() == Some(&Symbol::SPACE) {
         remarks.pop();
     }
     while text::write(&remarks).len() < nibbles {
-        remarks.push(b'7');
+        remarks.extend(Symbol::plain(b'7'));
     }
     remarks
 }
@@ -43,6 +53,18 @@ fn attachments(lengths: &[(u8, usize)], prng: &mut Prng) -> Vec<Attachment> {
             Attachment::new(id, nibbles)
         })
         .collect()
+}
+
+/// A report of one of the four sizes, whose text, if it has one, is in small letters.
+pub fn small_observation(size: usize) -> Observation {
+    let mut observation = observation(size);
+    for attachment in &mut observation.attachments {
+        if attachment.id == text::ID {
+            attachment.nibbles = text::write(&small_remarks(attachment.nibbles.len()));
+        }
+    }
+    assert_eq!(observation.size(), size);
+    observation
 }
 
 /// A report of one of the four sizes, with every field present.

@@ -134,12 +134,24 @@ fn fixed_trials() -> Vec<Trial> {
     fixed().into_iter().map(trial).collect()
 }
 
+/// A text read out to outputs that mostly have room for it.
+fn read_out_of(report: Vec<u8>, prng: &mut Prng) -> Case {
+    let mut output = || vec![prng.next_u64() as u8; prng.pick(&[2295, 2295, 300, 40, 0])];
+    Case::ReadOut {
+        report,
+        text: output(),
+        origins: output(),
+    }
+}
+
 /// Calls on an observation, and its report damaged.
 fn trials_on(observation: &Observation, prng: &mut Prng) -> Vec<Trial> {
     let damaged = damaged(&observation.packing(), prng);
     let cases = [
         calls_on(observation, prng, &ALL),
         unpack_of(damaged.clone()),
+        read_out_of(observation.packing(), prng),
+        read_out_of(damaged.clone(), prng),
         Case::Judge { report: damaged },
     ];
     cases.map(|case| Trial { table: ALL, case }).to_vec()
@@ -158,6 +170,7 @@ fn trials_under(table: FlagTable, prng: &mut Prng) -> Vec<Trial> {
         calls_on(&observation, prng, &table),
         pack_of(&observation),
         unpack_of(report.clone()),
+        read_out_of(report.clone(), prng),
         Case::Judge { report },
     ];
     cases.map(|case| Trial { table, case }).to_vec()

@@ -2,13 +2,18 @@
 
 use bench::FlagTable;
 use bench::compare::{SIDES, Side, agrees};
-use bench::fast::{Given, Refusal, calls, flags, whole};
-use bench::reports::{SIZES, observation};
+use bench::fast::reader::{Reader, Symbol};
+use bench::fast::{Fetched, Given, Refusal, Set, calls, flags, whole};
+use bench::reports::{SIZES, observation, small_observation};
 use bench::trials::{ALL, Trial, permitted_of, random_table, trials};
 use reference::call::Call;
 use reference::cases::Case;
 use reference::cases::flag_tables::refused_tables;
+use reference::cases::material::{
+    Draft, fetch_text, fresh_observation, observation_with, put_text, symbols_of,
+};
 use reference::prng::Prng;
+use reference::text;
 
 #[test]
 fn rust_side_agrees_with_the_unrelated_implementation() {
@@ -63,7 +68,7 @@ fn a_report_of_another_table_is_refused_by_every_call() {
         place: 1,
     };
     assert_eq!(calls::judge(&report, &table), Err(refused));
-    let (content, text, output) = (vec![1], b"A1".to_vec(), vec![0; 300]);
+    let (content, output) = (vec![1], vec![0; 300]);
     let every = [
         Call::ReadField { field: 1 },
         Call::SetField { field: 3, value: 1 },
@@ -79,8 +84,8 @@ fn a_report_of_another_table_is_refused_by_every_call() {
             output: output.clone(),
         },
         Call::Drop { id: 1 },
-        Call::PutText { text },
-        Call::FetchText { output },
+        put_text(&symbols_of(b"A1")),
+        fetch_text(300),
     ];
     for call in every {
         let mut buffer = report.clone();
@@ -97,6 +102,158 @@ fn a_report_of_another_table_is_refused_by_every_call() {
             assert!(agrees(side, &trial), "{side:?}: {trial:?}");
         }
     }
+}
+
+/// Whether the Rust side takes a text's nibbles: in a report, beginning in the high half of a byte
+/// and in the low one, and as a content.
+fn text_taken(nibbles: &[u8]) -> [bool; 3] {
+    let judged = |before: &[u8]| {
+        let mut draft = Draft::of(&observation_with(&[(9, before)]));
+        draft.attach(text::ID, nibbles);
+        calls::judge(&draft.bytes(), &ALL).map(|_| ())
+    };
+    let mut buffer = fresh_observation().packing();
+    buffer.resize(200, 0);
+    let put = calls::put(&mut buffer, 4, nibbles, &ALL).map(|_| ());
+    let taken = |answer, refusal| match answer {
+        Ok(()) => true,
+        Err(given) => {
+            assert_eq!(given, refusal, "{nibbles:?}");
+            false
+        }
+    };
+    let refused = |number, place| Refusal { number, place };
+    [
+        taken(judged(&[1]), refused(6, 2)),
+        taken(judged(&[1, 1]), refused(6, 2)),
+        taken(put, refused(14, 0)),
+    ]
+}
+
+#[test]
+fn every_short_body_of_a_text_is_judged_as_the_writer_gives_it() {
+    let mut sound = 0;
+    for length in 1..=4 {
+        for number in 0..16usize.pow(length) {
+            let nibble = |place| (number >> (4 * place) & 15) as u8;
+            let nibbles: Vec<u8> = (0..length).map(nibble).collect();
+            let due = text::read(&nibbles).is_some();
+            sound += usize::from(due);
+            assert_eq!(text_taken(&nibbles), [due; 3], "{nibbles:?}");
+        }
+    }
+    assert!(sound > 1000);
+}
+
+/// Mostly codes of spaces, escapes and pairs.
+#[test]
+fn longer_bodies_of_a_text_are_judged_as_the_writer_gives_them() {
+    let mut prng = Prng::new(10);
+    let mut sound = [0; 2];
+    for _ in 0..100_000 {
+        let length = 5 + prng.below(20);
+        let digit = |prng: &mut Prng| prng.below(16) as u8;
+        let mut nibble = || {
+            let any = digit(&mut prng);
+            prng.pick(&[1, 10, 10, 11, 15, 15, 12, any])
+        };
+        let nibbles: Vec<u8> = (0..length).map(|_| nibble()).collect();
+        let due = text::read(&nibbles).is_some();
+        sound[usize::from(due)] += 1;
+        assert_eq!(text_taken(&nibbles), [due; 3], "{nibbles:?}");
+    }
+    assert!(sound.iter().all(|&count| count > 1000), "{sound:?}");
+}
+
+/// Nothing of the report changes where a text is refused.
+#[test]
+fn put_text_is_refused_in_the_order_of_its_checks() {
+    let mut last_plain = [1; 90];
+    last_plain[89] = 0;
+    let cases: [(&[u8], &[u8], usize, u8); 12] = [
+        (b"AB", &[0], 300, 13),
+        (b"A", &[2, 0], 300, 13),
+        (b"", &[0], 300, 13),
+        (b"a", &[0], 300, 14),
+        (b"A", &[2], 300, 14),
+        (b" ", &[255], 300, 14),
+        (&[0; 90], &last_plain, 300, 14),
+        (&[b' '; 90], &[1; 90], 300, 12),
+        (b"", &[], 300, 12),
+        (b"  ", &[0, 0], 300, 12),
+        (&[b'a'; 86], &[1; 86], 38, 12),
+        (b"A", &[0], 39, 13),
+    ];
+    for (bytes, origins, length, number) in cases {
+        let mut buffer = fresh_observation().packing();
+        buffer.resize(length, 0xA5);
+        let before = buffer.clone();
+        let place = 0;
+        let refusal = Refusal { number, place };
+        let answer = calls::put_text(&mut buffer, bytes, origins, &ALL);
+        assert_eq!(answer, Err(refusal), "{bytes:?}");
+        assert_eq!(buffer, before);
+    }
+}
+
+#[test]
+fn each_source_id_has_its_set() {
+    let mut buffer = observation_with(&[(4, &[15, 4, 1])]).packing();
+    let set = |buffer: &[u8]| {
+        let (mut bytes, mut origins) = ([0xA5; 2], [0xA5; 3]);
+        let fetched = calls::fetch_text(buffer, &mut bytes, &mut origins, &ALL);
+        let Fetched { symbols, set } = fetched.expect("a text");
+        assert_eq!((symbols, bytes, origins), (1, [65, 0xA5], [1, 0xA5, 0xA5]));
+        set
+    };
+    assert_eq!(set(&buffer), Set::Unknown);
+    for sid in 0..=254 {
+        let due = match sid {
+            4 | 18 => Set::Ascii,
+            0 | 22 | 25.. => Set::Unknown,
+            _ => Set::Ebcdic,
+        };
+        calls::set_field(&mut buffer, 10, sid, &ALL).expect("a source ID");
+        assert_eq!(set(&buffer), due, "{sid}");
+    }
+}
+
+#[test]
+fn a_reader_of_each_side_gives_what_fetch_text_gives() {
+    for size in SIZES {
+        for observation in [observation(size), small_observation(size)] {
+            let report = observation.packing();
+            let (mut bytes, mut origins) = ([0; 2295], [0; 2295]);
+            let fetched = calls::fetch_text(&report, &mut bytes, &mut origins, &ALL);
+            let count = fetched.map_or(0, |fetched| fetched.symbols);
+            let due: Vec<_> = bytes.into_iter().zip(origins).take(count).collect();
+            for side in SIDES {
+                let (answer, symbols) = side.read_out(&report, &ALL);
+                let refusal = if size == 38 { 11 } else { 0 };
+                assert_eq!((answer.refusal, answer.given), (refusal, 0), "{side:?}");
+                assert_eq!(symbols, due, "{side:?}");
+            }
+        }
+    }
+}
+
+#[test]
+fn a_copy_of_a_reader_goes_on_alone() {
+    let report = observation_with(&[(4, &[12, 1, 11, 0, 15, 4, 1])]).packing();
+    let mut reader = Reader::open(&report, &ALL);
+    let space = Symbol::Plain(b' ');
+    let symbols = [
+        Symbol::Plain(b'A'),
+        space,
+        space,
+        space,
+        Symbol::Original(65),
+    ];
+    for from in 0..symbols.len() {
+        assert_eq!(reader.clone().collect::<Vec<_>>(), symbols[from..]);
+        assert_eq!(reader.next(), Some(symbols[from]));
+    }
+    assert_eq!(reader.next(), None);
 }
 
 #[test]
@@ -149,7 +306,7 @@ fn examples_of_the_specification() {
     assert_eq!(done, Ok(Given::NOTHING));
     assert_eq!(buffer[25..27], [0x14, 0x18]);
     assert_eq!(buffer[36], 251);
-    let done = calls::put_text(&mut buffer, b"A1", &ALL);
+    let done = calls::put_text(&mut buffer, b"A1", &[0, 0], &ALL);
     assert_eq!(done, Ok(Given::NOTHING));
     assert_eq!(buffer[37..41], [0x10, 0x34, 0xC1, 0x10]);
     assert_eq!(buffer[36], 251);

@@ -4,14 +4,16 @@ use reference::attachment::Attachment;
 use reference::call::Call;
 use reference::card::CARD_NIBBLES;
 use reference::cases::calls::WIDE_NUMBERS;
-use reference::cases::material::{random_body, random_text};
-use reference::cases::random::random_call;
+use reference::cases::material::{
+    all_symbols, damage_text, put_text, random_body, random_text, symbols_of,
+};
+use reference::cases::random::{random_call, symbol_count};
 use reference::flag_table::FlagTable;
 use reference::observation::Observation;
 use reference::prng::Prng;
 use reference::step;
 use reference::table::field;
-use reference::text;
+use reference::text::{self, Symbol};
 
 use crate::flag_tables;
 use crate::reports::{changed_body, near_edge};
@@ -42,17 +44,19 @@ fn follow(prng: &mut Prng, last: &Call, observation: &Observation, n: usize) -> 
         Call::Put { id, .. } if prng.one_in(3) => Call::Drop { id },
         Call::Put { id, .. } | Call::Drop { id } => Call::Fetch { id, output },
         Call::Fetch { id, .. } => Call::Drop { id },
-        Call::PutText { .. } => Call::FetchText { output },
-        Call::FetchText { .. } => Call::PutText {
-            text: any_bytes(prng, observation, n),
+        Call::PutText { .. } => Call::FetchText {
+            text: output,
+            origins: prng.bytes(255),
         },
+        Call::FetchText { .. } => put_text(&any_symbols(prng, observation, n)),
     }
 }
 
-/// A text of bytes of which each is as likely as the others; most often it fits.
-fn any_bytes(prng: &mut Prng, observation: &Observation, n: usize) -> Vec<u8> {
+/// A text of symbols of which each is as likely as the others; most often it fits.
+fn any_symbols(prng: &mut Prng, observation: &Observation, n: usize) -> Vec<Symbol> {
+    let symbols = all_symbols();
     let length = 1 + prng.below(1 + text_room(observation, n) / 3);
-    prng.bytes(length)
+    (0..length).map(|_| prng.pick(&symbols)).collect()
 }
 
 /// A call that fits an observation and a table of flags or just does not.
@@ -60,16 +64,36 @@ pub fn call(prng: &mut Prng, observation: &Observation, n: usize, flags: &FlagTa
     if prng.one_in(6) {
         return flag_tables::call(prng, flags);
     }
-    let mut call = random_call(prng, observation, n);
-    if let Call::PutText { text } = &mut call
-        && prng.one_in(2)
-    {
-        *text = any_bytes(prng, observation, n);
+    if prng.one_in(6) {
+        return text_call(prng, observation, n);
     }
+    let mut call = random_call(prng, observation, n);
     if prng.one_in(4) {
         vary(prng, &mut call, observation, n);
     }
     call
+}
+
+/// A text that is put, once in three times a damaged one, or fetched.
+fn text_call(prng: &mut Prng, observation: &Observation, n: usize) -> Call {
+    let symbols = match prng.below(6) {
+        0 => return edge_fetch_text(prng, observation),
+        1 | 2 => edge_text(prng, observation, n),
+        _ => any_symbols(prng, observation, n),
+    };
+    let (mut text, mut origins) = (text::bytes(&symbols), text::origins(&symbols));
+    if prng.one_in(3) {
+        damage_text(prng, &mut text, &mut origins);
+    }
+    Call::PutText { text, origins }
+}
+
+fn edge_fetch_text(prng: &mut Prng, observation: &Observation) -> Call {
+    let length = symbol_count(observation);
+    Call::FetchText {
+        text: edge_output(prng, length),
+        origins: edge_output(prng, length),
+    }
 }
 
 /// Moves one argument to an edge.
@@ -101,13 +125,8 @@ fn vary(prng: &mut Prng, call: &mut Call, observation: &Observation, n: usize) {
                 *output = edge_output(prng, length);
             }
         }
-        Call::FetchText { output } => {
-            let text = observation
-                .content(u64::from(text::ID))
-                .and_then(text::read);
-            *output = edge_output(prng, text.map_or(0, |text| text.len()));
-        }
-        Call::PutText { text } => *text = edge_text(prng, observation, n),
+        Call::FetchText { .. } => *call = edge_fetch_text(prng, observation),
+        Call::PutText { .. } => *call = text_call(prng, observation, n),
     }
 }
 
@@ -164,25 +183,28 @@ fn vary_put(prng: &mut Prng, id: &mut u64, content: &mut Vec<u8>) {
     }
 }
 
-fn edge_text(prng: &mut Prng, observation: &Observation, n: usize) -> Vec<u8> {
-    let text = match prng.below(5) {
+fn edge_text(prng: &mut Prng, observation: &Observation, n: usize) -> Vec<Symbol> {
+    let run = |spaces: usize| vec![Symbol::SPACE; spaces];
+    let text = match prng.below(7) {
         0 => text_of_length(prng, 252, 258),
-        1 => {
-            let spaces = prng.below(41);
-            vec![b' '; spaces]
-        }
+        1 => run(prng.below(41)),
         2 => {
             let spaces = 18 * prng.pick(&[1, 2, 126, 127, 128]) + prng.below(4);
-            [vec![b' '; spaces], vec![b'1']].concat()
+            [run(spaces), symbols_of(b"1")].concat()
         }
+        3 => {
+            let original = vec![Symbol::original(b' '); 1 + prng.below(4)];
+            [run(prng.below(41)), original, run(prng.below(41))].concat()
+        }
+        4 => vec![Symbol::original(prng.next_u64() as u8); 84 + prng.below(4)],
         _ => filling_text(prng, observation, n),
     };
     let trailing = prng.pick(&[0, 0, 0, 1, 17, 18, 19, 40]);
-    [text, vec![b' '; trailing]].concat()
+    [text, run(trailing)].concat()
 }
 
 /// A text whose nibbles just fill the buffer, or are one or two off.
-fn filling_text(prng: &mut Prng, observation: &Observation, n: usize) -> Vec<u8> {
+fn filling_text(prng: &mut Prng, observation: &Observation, n: usize) -> Vec<Symbol> {
     let room = text_room(observation, n);
     text_of_length(prng, room - 2, room + 2)
 }
@@ -197,36 +219,32 @@ fn text_room(observation: &Observation, n: usize) -> usize {
     (2 * n).saturating_sub(taken).clamp(3, 256)
 }
 
-/// A text of so many nibbles, filled up with bytes of all code lengths.
-fn text_of_length(prng: &mut Prng, least: usize, most: usize) -> Vec<u8> {
+/// A text of so many nibbles, filled up with symbols of all code lengths.
+fn text_of_length(prng: &mut Prng, least: usize, most: usize) -> Vec<Symbol> {
     let wanted = least + prng.below(most - least + 1);
     let mut text = random_text(prng, wanted / 4);
     while text::write(&text).len() > wanted {
         text.pop();
     }
     let mut missing = wanted - text::write(&text).len();
-    if text.last() == Some(&b' ') && missing > 0 {
-        text.push(b'0');
+    if text.last() == Some(&Symbol::SPACE) && missing > 0 {
+        text.extend(symbols_of(b"0"));
         missing = wanted.saturating_sub(text::write(&text).len());
     }
     while missing > 0 {
         let nibbles = 1 + prng.below(missing.min(3));
-        text.push(byte_of_length(prng, nibbles));
+        text.push(symbol_of_length(prng, nibbles));
         missing -= nibbles;
     }
     text
 }
 
-/// A byte that is no space, of one, two or three nibbles.
-fn byte_of_length(prng: &mut Prng, nibbles: usize) -> u8 {
-    loop {
-        let byte = match prng.below(3) {
-            0 => prng.pick(b"0123456789"),
-            1 => prng.pick(b"{ABCDEFGHI&+}JKLMNOPQR-/STUVWXYZ"),
-            _ => prng.next_u64() as u8,
-        };
-        if text::write(&[byte]).len() == nibbles {
-            return byte;
-        }
-    }
+/// A symbol that is no plain space, of one, two or three nibbles.
+fn symbol_of_length(prng: &mut Prng, nibbles: usize) -> Symbol {
+    let plain = match nibbles {
+        1 => prng.pick(b"0123456789"),
+        2 => prng.pick(b"{ABCDEFGHI&+}JKLMNOPQR-/STUVWXYZ"),
+        _ => return Symbol::original(prng.next_u64() as u8),
+    };
+    Symbol::plain(plain).expect("it has a short code")
 }

@@ -30,6 +30,10 @@ pub fn compare(harness: &mut Harness, tally: &mut Tally, trial: &Trial) -> Optio
             tally.add_all_flags();
             (expected::all_flags(), harness.all_flags(flags))
         }
+        Given::Forged { report, reader } => {
+            tally.add_forged();
+            (expected::forged(report), harness.forged(report, reader))
+        }
         Given::Call { buffer, call } => {
             let expected = expected_call(tally, call, &mut buffer.clone(), flags);
             (expected, harness.call(call, buffer, flags))

@@ -3,11 +3,12 @@
 use reference::cases::Case;
 use reference::cases::material::{Draft, random_value, values_and_word};
 use reference::cases::outside::edge_values;
-use reference::cases::random::damage_tail;
+use reference::cases::random::{damage_tail, symbol_count};
 use reference::flag_table::FlagTable;
 use reference::judge::judge;
 use reference::observation::Observation;
 use reference::prng::Prng;
+use reference::reader::Reader;
 use reference::table::{REQUIRED, fields};
 use reference::text;
 
@@ -18,7 +19,7 @@ use crate::{calls, flag_tables, reports, scripts};
 pub fn trials(seed: u64, case: u64) -> Vec<Trial> {
     let mut prng = prng_of(seed, case);
     let flags = flag_tables::table(&mut prng);
-    let given = match prng.below(28) {
+    let given = match prng.below(32) {
         0..3 => vec![Given::Whole(judge_case(&mut prng, &flags))],
         3..6 => vec![Given::Whole(unpack_case(&mut prng, &flags))],
         6..10 => vec![Given::Whole(pack_case(&mut prng, &flags))],
@@ -30,7 +31,9 @@ pub fn trials(seed: u64, case: u64) -> Vec<Trial> {
             let marks = flag_tables::lent(&mut prng);
             vec![Given::Whole(Case::Load { marks })]
         }
-        _ => vec![Given::AllFlags],
+        27 => vec![Given::AllFlags],
+        28..31 => vec![Given::Whole(read_out_case(&mut prng, &flags))],
+        _ => vec![forged(&mut prng, &flags)],
     };
     let under = |given: Given| given.under(flags);
     given.into_iter().map(under).collect()
@@ -164,6 +167,41 @@ fn characters_case(prng: &mut Prng) -> Case {
     }
     Case::Characters {
         table: Box::new(table),
+    }
+}
+
+fn read_out_case(prng: &mut Prng, flags: &FlagTable) -> Case {
+    let (observation, report) = lent_report(prng, flags, 2);
+    let count = symbol_count(&observation);
+    let (text, origins) = (room(prng, count), room(prng, count));
+    Case::ReadOut {
+        report,
+        text: prng.bytes(text),
+        origins: prng.bytes(origins),
+    }
+}
+
+/// A reader of any numbers, or of an opened one's with some changed.
+fn forged(prng: &mut Prng, flags: &FlagTable) -> Given {
+    let report = lent_report(prng, flags, 4).1;
+    let opened = Reader::open(&report, flags);
+    let mut reader = [opened.place as u64, opened.end as u64, 0, 0, 0];
+    for _ in 0..prng.pick(&[1, 1, 2, 5]) {
+        reader[prng.below(5)] = forged_number(prng, report.len());
+    }
+    Given::Forged { report, reader }
+}
+
+/// A number about the report's end in nibbles or in bytes, an end of the numbers, or any.
+fn forged_number(prng: &mut Prng, n: usize) -> u64 {
+    let n = n as u64;
+    let any = prng.next_u64();
+    let near = prng.pick(&[2 * n, 2 * n, n, u64::MAX, 1 << 63, 1 << 32, 0]);
+    let within = any % (2 * n + 2);
+    match prng.below(3) {
+        0 => any,
+        1 => within,
+        _ => near.wrapping_add(any % 5).wrapping_sub(2),
     }
 }
 

@@ -8,16 +8,22 @@ use reference::judge::judge;
 use reference::line::hex;
 use reference::number::Number;
 use reference::outside::{characters, fresh, pack, unpack};
+use reference::reader::{self, Reader};
 use reference::refusal::Refusal;
-use reference::text::Table;
+use reference::text::{self, Table};
 
 use crate::fence::{MARKED, state_of};
-use crate::library::{Answer, Performed};
+use crate::library::{Answer, END, ORIGINAL, PLAIN, Performed, Symbol};
 
 #[derive(Clone, Copy, Debug, PartialEq, Eq)]
 pub enum Said {
     Answer(Answer),
     Performed(Performed),
+    /// The answer of opening a reader, and that of reading it out.
+    Read {
+        opened: Answer,
+        read: Answer,
+    },
     Nothing,
 }
 
@@ -73,7 +79,7 @@ fn with_flags(mut outcome: Outcome, flags: &FlagTable) -> Outcome {
     outcome
 }
 
-/// Judge, fresh, unpack, pack, characters or load.
+/// Judge, fresh, unpack, pack, characters, load or read out.
 pub fn whole(case: &Case, flags: &FlagTable) -> Outcome {
     match case {
         Case::Judge { report } => {
@@ -119,6 +125,14 @@ pub fn whole(case: &Case, flags: &FlagTable) -> Outcome {
             let result = flags.load(marks).map(|()| Vec::new());
             with_flags(outcome(result, &[("marks", marks)]), &flags)
         }
+        Case::ReadOut {
+            report,
+            text,
+            origins,
+        } => with_flags(
+            read_out(report, text.clone(), origins.clone(), flags),
+            flags,
+        ),
         Case::Lister { .. }
         | Case::Same { .. }
         | Case::Restore { .. }
@@ -158,17 +172,69 @@ pub fn all_flags() -> Outcome {
     with_flags(nothing, &FlagTable::all())
 }
 
+/// A reader's numbers, its symbols and three times the end, which leaves it as it was;
+/// and both outputs.
+fn read_out(report: &[u8], mut text: Vec<u8>, mut origins: Vec<u8>, flags: &FlagTable) -> Outcome {
+    let reader = Reader::open(report, flags);
+    let opened = answer_of(reader.opened().map(|()| Vec::new()));
+    let numbers = [
+        reader.place as u64,
+        reader.end as u64,
+        reader.spaces as u64,
+        opened.refusal.into(),
+        opened.place,
+    ];
+    let mut steps: Vec<Symbol> = reader.map(step_of).collect();
+    steps.extend([Symbol { kind: END, byte: 0 }; 3]);
+    let read = reader::read_out(report, &mut text, &mut origins, flags);
+    let read = answer_of(read.map(|given| vec![Number::count(given.symbols)]));
+    let buffers: [(_, &[u8]); 6] = [
+        ("report", report),
+        ("reader", &bytes_of_numbers(&numbers)),
+        ("steps", &bytes_of_steps(&steps)),
+        ("kept at the end", &[1]),
+        ("text", &text),
+        ("origins", &origins),
+    ];
+    Outcome {
+        said: Said::Read { opened, read },
+        buffers: states(&buffers),
+    }
+}
+
+fn step_of(symbol: text::Symbol) -> Symbol {
+    let kind = match symbol.origin() {
+        text::PLAIN => PLAIN,
+        _ => ORIGINAL,
+    };
+    let byte = symbol.byte().into();
+    Symbol { kind, byte }
+}
+
+/// A forged reader: nothing of the report changes, nor the marked bytes before the
+/// reader. What the steps give is not compared.
+pub fn forged(report: &[u8]) -> Outcome {
+    Outcome {
+        said: Said::Nothing,
+        buffers: states(&[("report", report), ("reader", &[])]),
+    }
+}
+
 /// One of the eleven calls; the buffer is changed as it should be.
 pub fn call(call: &Call, buffer: &mut [u8], flags: &FlagTable) -> Outcome {
     let answer = call.run(buffer, flags);
     let mut buffers: Vec<(_, &[u8])> = vec![("report", buffer)];
     match call {
         Call::Put { content, .. } => buffers.push(("content", content)),
-        Call::PutText { text } => buffers.push(("text", text)),
+        Call::PutText { text, origins } => {
+            buffers.extend([("text", &text[..]), ("origins", origins)]);
+        }
+        Call::Fetch { .. } => buffers.push(("output", &answer.outputs[0])),
+        Call::FetchText { .. } => {
+            let [text, origins] = [0, 1].map(|index| &answer.outputs[index][..]);
+            buffers.extend([("text", text), ("origins", origins)]);
+        }
         _ => {}
-    }
-    if let Some(output) = &answer.output {
-        buffers.push(("output", output));
     }
     with_flags(outcome(answer.result, &buffers), flags)
 }
@@ -202,6 +268,11 @@ pub fn bytes_of_numbers(numbers: &[u64]) -> Vec<u8> {
     bytes.collect()
 }
 
+pub fn bytes_of_steps(steps: &[Symbol]) -> Vec<u8> {
+    let numbers = steps.iter().flat_map(|step| [step.kind, step.byte]);
+    numbers.flat_map(u32::to_ne_bytes).collect()
+}
+
 pub fn bytes_of_entries(table: &Table) -> Vec<u8> {
     table.iter().flat_map(|entry| entry.to_ne_bytes()).collect()
 }
@@ -210,7 +281,7 @@ impl Outcome {
     /// The refusal, 0 where accepted.
     pub fn refusal(&self) -> usize {
         match self.said {
-            Said::Answer(answer) => answer.refusal as usize,
+            Said::Answer(answer) | Said::Read { read: answer, .. } => answer.refusal as usize,
             Said::Performed(_) | Said::Nothing => 0,
         }
     }

@@ -5,13 +5,22 @@ use reference::cases::Case;
 use reference::flag_table::FlagTable;
 
 use crate::expected::{
-    NUMBERS, Outcome, Said, bytes_of_entries, bytes_of_numbers, bytes_of_values,
+    NUMBERS, Outcome, Said, bytes_of_entries, bytes_of_numbers, bytes_of_steps, bytes_of_values,
 };
-use crate::fence::Fenced;
-use crate::library::{Answer, Flags, Library};
+use crate::fence::{Fenced, MARKED, state_of};
+use crate::library::{Answer, END, Flags, Library, Reader, Symbol};
 
 const SHORT: usize = 16_384;
 const LONG: usize = 131_072;
+
+/// What a reader holds before it is opened.
+const UNOPENED: Reader = [0xC5C5_C5C5_C5C5_C5C5; 5];
+
+/// Steps after which a reader has to have come to its end. A text has up to 2287 symbols.
+const MOST_STEPS: usize = 2400;
+
+/// Steps of a forged reader.
+const FORGED_STEPS: usize = 24;
 
 /// A library and one buffer for each role.
 pub struct Harness {
@@ -21,7 +30,10 @@ pub struct Harness {
     report: Fenced,
     edited: Fenced,
     content: Fenced,
+    origins: Fenced,
     output: Fenced,
+    origins_output: Fenced,
+    reader: Fenced,
     packed: Fenced,
     values: Fenced,
     numbers: Fenced,
@@ -41,7 +53,10 @@ impl Harness {
             report: Fenced::read_only(SHORT),
             edited: Fenced::writable(SHORT),
             content: Fenced::read_only(SHORT),
+            origins: Fenced::read_only(SHORT),
             output: Fenced::writable(SHORT),
+            origins_output: Fenced::writable(SHORT),
+            reader: Fenced::writable(SHORT),
             packed: Fenced::read_only(SHORT),
             values: Fenced::writable(SHORT),
             numbers: Fenced::writable(SHORT),
@@ -57,7 +72,7 @@ impl Harness {
         self.flags.hold(&flags.marks()).cast()
     }
 
-    /// Judge, fresh, unpack, pack, characters or load.
+    /// Judge, fresh, unpack, pack, characters, load or read out.
     pub fn whole(&mut self, case: &Case, flags: &FlagTable) -> Outcome {
         match case {
             Case::Judge { report } => {
@@ -101,6 +116,11 @@ impl Harness {
                 let answer = unsafe { (self.library.load_flags)(marks_at, n, at.cast()) };
                 outcome(answer, &[("marks", &self.content), ("flags", &self.loaded)])
             }
+            Case::ReadOut {
+                report,
+                text,
+                origins,
+            } => self.read_out(report, text.clone(), origins.clone(), flags),
             Case::Lister { .. }
             | Case::Same { .. }
             | Case::Restore { .. }
@@ -182,6 +202,77 @@ impl Harness {
         outcome(answer, &buffers)
     }
 
+    /// Opens a reader, reads it out and stores what it gives in two outputs. Of a refused
+    /// reader only the refusal and its place are compared.
+    fn read_out(
+        &mut self,
+        report: &[u8],
+        mut text: Vec<u8>,
+        mut origins: Vec<u8>,
+        flags: &FlagTable,
+    ) -> Outcome {
+        let n = report.len();
+        let at = hold(&mut self.report, report, self.null);
+        let reader_at = self.reader.hold(&bytes_of_numbers(&UNOPENED)).cast();
+        let flags_at = self.lend_flags(flags);
+        let opened = unsafe { (self.library.open_text)(at, n, reader_at, flags_at) };
+        let mut numbers = self.reader.state().split_off(MARKED);
+        if opened.refusal != 0 {
+            numbers[..24].fill(0);
+        }
+        let (steps, kept) = self.steps(at, n, reader_at);
+        let read = store(opened, &steps, &mut text, &mut origins);
+        let marks = &self.reader.state()[..MARKED];
+        let buffers = vec![
+            ("report", self.report.state()),
+            ("reader", [marks, &numbers].concat()),
+            ("steps", state_of(&bytes_of_steps(&steps))),
+            ("kept at the end", state_of(&[kept.into()])),
+            ("text", state_of(&text)),
+            ("origins", state_of(&origins)),
+            ("flags", self.flags.state()),
+        ];
+        Outcome {
+            said: Said::Read { opened, read },
+            buffers,
+        }
+    }
+
+    /// The steps up to the first end and two further ones, and whether each end left the
+    /// reader as it was.
+    fn steps(&mut self, at: *const u8, n: usize, reader_at: *mut Reader) -> (Vec<Symbol>, bool) {
+        let mut steps: Vec<Symbol> = Vec::new();
+        let mut kept = true;
+        let mut last = MOST_STEPS;
+        while steps.len() < last {
+            let before = self.reader.state();
+            let step = unsafe { (self.library.next_symbol)(at, n, reader_at) };
+            steps.push(step);
+            if step.kind == END {
+                last = last.min(steps.len() + 2);
+                kept &= self.reader.state() == before;
+            }
+        }
+        (steps, kept)
+    }
+
+    /// Steps of a reader of any numbers.
+    pub fn forged(&mut self, report: &[u8], reader: &Reader) -> Outcome {
+        let n = report.len();
+        let at = hold(&mut self.report, report, self.null);
+        let reader_at = self.reader.hold(&bytes_of_numbers(reader)).cast();
+        for _ in 0..FORGED_STEPS {
+            unsafe { (self.library.next_symbol)(at, n, reader_at) };
+        }
+        let mut before_reader = self.reader.state();
+        before_reader.truncate(MARKED);
+        let buffers = vec![("report", self.report.state()), ("reader", before_reader)];
+        Outcome {
+            said: Said::Nothing,
+            buffers,
+        }
+    }
+
     /// One call on a buffer of its own; a call that only reads gets it as an input.
     pub fn call(&mut self, call: &Call, buffer: &[u8], flags: &FlagTable) -> Outcome {
         if reads(call) {
@@ -210,8 +301,13 @@ impl Harness {
         let mut buffers = vec![("report", report)];
         match call {
             Call::Put { .. } => buffers.push(("content", &self.content)),
-            Call::PutText { .. } => buffers.push(("text", &self.content)),
-            Call::Fetch { .. } | Call::FetchText { .. } => buffers.push(("output", &self.output)),
+            Call::PutText { .. } => {
+                buffers.extend([("text", &self.content), ("origins", &self.origins)]);
+            }
+            Call::Fetch { .. } => buffers.push(("output", &self.output)),
+            Call::FetchText { .. } => {
+                buffers.extend([("text", &self.output), ("origins", &self.origins_output)]);
+            }
             _ => {}
         }
         buffers.push(("flags", &self.flags));
@@ -221,7 +317,7 @@ impl Harness {
     fn perform(&mut self, call: &Call, at: *mut u8, n: usize, flags: &FlagTable) -> Answer {
         let library = self.library;
         let flags = self.lend_flags(flags);
-        let (content, output) = self.lend_arguments(call);
+        let lent = self.lend_arguments(call);
         unsafe {
             match call {
                 Call::ReadField { field } => (library.read_field)(at, n, *field as usize, flags),
@@ -235,30 +331,51 @@ impl Harness {
                 }
                 Call::ClearFlag { flag } => (library.clear_flag)(at, n, *flag as usize, flags),
                 Call::Put { id, content: given } => {
-                    (library.put)(at, n, *id as usize, content, given.len(), flags)
+                    (library.put)(at, n, *id as usize, lent.content, given.len(), flags)
                 }
                 Call::Fetch { id, output: given } => {
-                    (library.fetch)(at, n, *id as usize, output, given.len(), flags)
+                    (library.fetch)(at, n, *id as usize, lent.output, given.len(), flags)
                 }
                 Call::Drop { id } => (library.drop)(at, n, *id as usize, flags),
-                Call::PutText { text } => (library.put_text)(at, n, content, text.len(), flags),
-                Call::FetchText { output: given } => {
-                    (library.fetch_text)(at, n, output, given.len(), flags)
-                }
+                Call::PutText { text, origins } => (library.put_text)(
+                    at,
+                    n,
+                    lent.content,
+                    text.len(),
+                    lent.origins,
+                    origins.len(),
+                    flags,
+                ),
+                Call::FetchText { text, origins } => (library.fetch_text)(
+                    at,
+                    n,
+                    lent.output,
+                    text.len(),
+                    lent.origins_output,
+                    origins.len(),
+                    flags,
+                ),
             }
         }
     }
 
-    /// The pointers to a call's content and output.
-    fn lend_arguments(&mut self, call: &Call) -> (*mut u8, *mut u8) {
-        let (content, output): (&[u8], &[u8]) = match call {
+    fn lend_arguments(&mut self, call: &Call) -> Lent {
+        let (content, origins): (&[u8], &[u8]) = match call {
             Call::Put { content, .. } => (content, &[]),
-            Call::PutText { text } => (text, &[]),
-            Call::Fetch { output, .. } | Call::FetchText { output } => (&[], output),
+            Call::PutText { text, origins } => (text, origins),
             _ => (&[], &[]),
         };
-        let content = hold(&mut self.content, content, self.null);
-        (content, hold(&mut self.output, output, self.null))
+        let (output, origins_output): (&[u8], &[u8]) = match call {
+            Call::Fetch { output, .. } => (output, &[]),
+            Call::FetchText { text, origins } => (text, origins),
+            _ => (&[], &[]),
+        };
+        Lent {
+            content: hold(&mut self.content, content, self.null),
+            origins: hold(&mut self.origins, origins, self.null),
+            output: hold(&mut self.output, output, self.null),
+            origins_output: hold(&mut self.origins_output, origins_output, self.null),
+        }
     }
 
     pub fn replay(
@@ -293,6 +410,38 @@ impl Harness {
             said: Said::Performed(performed),
             buffers: states(&buffers),
         }
+    }
+}
+
+/// The pointers to a call's contents and outputs.
+struct Lent {
+    content: *const u8,
+    origins: *const u8,
+    output: *mut u8,
+    origins_output: *mut u8,
+}
+
+/// Stores the symbols before the first end in two outputs, and gives their number. Where
+/// the reader is refused or an output too short, nothing is stored.
+fn store(opened: Answer, steps: &[Symbol], text: &mut [u8], origins: &mut [u8]) -> Answer {
+    if opened.refusal != 0 {
+        return opened;
+    }
+    let symbols = steps.split(|step| step.kind == END).next();
+    let symbols = symbols.unwrap_or_default();
+    if text.len().min(origins.len()) < symbols.len() {
+        return Answer {
+            refusal: 13,
+            ..Answer::default()
+        };
+    }
+    for ((symbol, byte), origin) in symbols.iter().zip(text).zip(origins) {
+        (*byte, *origin) = (symbol.byte as u8, (symbol.kind - 1) as u8);
+    }
+    Answer {
+        given: 3,
+        first: symbols.len() as i64,
+        ..Answer::default()
     }
 }
 

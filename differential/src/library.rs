@@ -1,4 +1,4 @@
-//! The nineteen calls as C sees them.
+//! The twenty-one calls as C sees them.
 
 /// The refusal and its place; the labels of the numbers that are given, the first
 /// one's in the lowest byte; the numbers.
@@ -27,6 +27,23 @@ pub struct Performed {
 pub struct Flags {
     pub marks: [[u8; 10]; 14],
 }
+
+/// What a step of a reader gives: the end, a plain symbol or an original one, and its
+/// byte, which is 0 at the end.
+#[repr(C)]
+#[derive(Clone, Copy, Debug, PartialEq, Eq)]
+pub struct Symbol {
+    pub kind: u32,
+    pub byte: u32,
+}
+
+pub const END: u32 = 0;
+pub const PLAIN: u32 = 1;
+pub const ORIGINAL: u32 = 2;
+
+/// A reader: its place and its end in nibbles, the spaces still to come, the refusal and
+/// its place.
+pub type Reader = [u64; 5];
 
 type Numbered = unsafe extern "C" fn(*const u8, usize, usize, *const Flags) -> Answer;
 type NumberedEdit = unsafe extern "C" fn(*mut u8, usize, usize, *const Flags) -> Answer;
@@ -67,8 +84,26 @@ pub struct Library {
     pub fetch:
         unsafe extern "C" fn(*const u8, usize, usize, *mut u8, usize, *const Flags) -> Answer,
     pub drop: NumberedEdit,
-    pub put_text: unsafe extern "C" fn(*mut u8, usize, *const u8, usize, *const Flags) -> Answer,
-    pub fetch_text: unsafe extern "C" fn(*const u8, usize, *mut u8, usize, *const Flags) -> Answer,
+    pub put_text: unsafe extern "C" fn(
+        *mut u8,
+        usize,
+        *const u8,
+        usize,
+        *const u8,
+        usize,
+        *const Flags,
+    ) -> Answer,
+    pub fetch_text: unsafe extern "C" fn(
+        *const u8,
+        usize,
+        *mut u8,
+        usize,
+        *mut u8,
+        usize,
+        *const Flags,
+    ) -> Answer,
+    pub open_text: unsafe extern "C" fn(*const u8, usize, *mut Reader, *const Flags) -> Answer,
+    pub next_symbol: unsafe extern "C" fn(*const u8, usize, *mut Reader) -> Symbol,
     pub replay: unsafe extern "C" fn(
         *mut u8,
         usize,

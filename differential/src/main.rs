@@ -10,7 +10,7 @@ use differential::compare::{Difference, compare};
 use differential::draw::trials;
 use differential::fault;
 use differential::harness::Harness;
-use differential::library::{Answer, Flags, Library, Performed};
+use differential::library::{Answer, Flags, Library, Performed, Reader, Symbol};
 use differential::shrink::shrink;
 use differential::tally::Tally;
 
@@ -86,15 +86,26 @@ unsafe extern "C" {
         n: usize,
         text: *const u8,
         text_n: usize,
+        origins: *const u8,
+        origins_n: usize,
         flags: *const Flags,
     ) -> Answer;
     fn lmr5_fetch_text(
         report: *const u8,
         n: usize,
-        out: *mut u8,
-        out_n: usize,
+        text: *mut u8,
+        text_n: usize,
+        origins: *mut u8,
+        origins_n: usize,
         flags: *const Flags,
     ) -> Answer;
+    fn lmr5_open_text(
+        report: *const u8,
+        n: usize,
+        reader: *mut Reader,
+        flags: *const Flags,
+    ) -> Answer;
+    fn lmr5_next_symbol(report: *const u8, n: usize, reader: *mut Reader) -> Symbol;
     fn lmr5_replay(
         report: *mut u8,
         n: usize,
@@ -125,6 +136,8 @@ const LIBRARY: Library = Library {
     drop: lmr5_drop,
     put_text: lmr5_put_text,
     fetch_text: lmr5_fetch_text,
+    open_text: lmr5_open_text,
+    next_symbol: lmr5_next_symbol,
     replay: lmr5_replay,
     character_table: lmr5_character_table,
     all_flags: lmr5_all_flags,

@@ -12,10 +12,11 @@ use reference::flags;
 use reference::gate::sizes::{LONGEST_TAIL, observation_of_tail};
 use reference::observation::Observation;
 use reference::prng::Prng;
-use reference::table::{CK, Coded, FIELDS, Field, Scaled, fields, place_on_card};
+use reference::table::{CK, Coded, FIELDS, Field, SID, Scaled, fields, place_on_card};
 use reference::text;
 
-/// An observation, of any size from no attachment to fifteen of 255 nibbles.
+/// An observation, of any size from no attachment to fifteen of 255 nibbles. At times
+/// its source ID is one of those whose character set is known, or beside them.
 pub fn observation(prng: &mut Prng) -> Observation {
     let mut observation = match prng.below(40) {
         0 => fresh_observation(),
@@ -42,6 +43,10 @@ pub fn observation(prng: &mut Prng) -> Observation {
     }
     if prng.one_in(3) {
         add(prng, &mut observation, text::ID);
+    }
+    if prng.one_in(3) {
+        let beside = prng.below(27) as i64;
+        observation.values[SID - 1] = Some(Scaled(prng.pick(&[4, 18, beside, beside])));
     }
     observation
 }

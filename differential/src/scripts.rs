@@ -54,9 +54,12 @@ fn cut_entry(prng: &mut Prng, calls: &[Call]) -> Vec<u8> {
 fn break_entry(prng: &mut Prng, script: &mut [u8], calls: &[Call]) {
     let broken = prng.below(calls.len());
     let start: usize = calls[..broken].iter().map(|call| entry(call).len()).sum();
-    let number = match calls[broken] {
+    let number = match &calls[broken] {
         Call::Put { .. } | Call::Fetch { .. } | Call::SetField { .. } | Call::SetFlag { .. } => {
             start + prng.pick(&[1, 9, 9])
+        }
+        Call::PutText { text, .. } | Call::FetchText { text, .. } => {
+            start + prng.pick(&[1, 9 + text.len()])
         }
         _ => start + 1,
     };

@@ -10,6 +10,7 @@ use reference::text::Table;
 
 use crate::compare::{Difference, compare};
 use crate::harness::Harness;
+use crate::library::Reader;
 use crate::tally::Tally;
 use crate::trial::{Given, Trial};
 
@@ -37,6 +38,7 @@ fn smaller(trial: &Trial) -> Vec<Trial> {
     let given = match &trial.given {
         Given::Whole(case) => smaller_cases(case).into_iter().map(Given::Whole).collect(),
         Given::AllFlags => Vec::new(),
+        Given::Forged { report, reader } => smaller_forged(report, reader),
         Given::Call { buffer, call } => smaller_calls(buffer, call),
         Given::List { buffer, calls } => smaller_lists(buffer, calls, flags),
         Given::Script {
@@ -92,6 +94,18 @@ fn shorter<T: Clone>(row: &[T]) -> Vec<Vec<T>> {
     shorter
 }
 
+/// Two rows of which one is shorter.
+fn one_shorter(first: &[u8], second: &[u8]) -> Vec<(Vec<u8>, Vec<u8>)> {
+    let mut pairs = Vec::new();
+    for shorter in shorter(first) {
+        pairs.push((shorter, second.to_vec()));
+    }
+    for shorter in shorter(second) {
+        pairs.push((first.to_vec(), shorter));
+    }
+    pairs
+}
+
 /// A report with an attachment less, whatever its flags are, and shorter buffers.
 fn smaller_reports(buffer: &[u8]) -> Vec<Vec<u8>> {
     let mut smaller = Vec::new();
@@ -113,11 +127,25 @@ fn smaller_cases(case: &Case) -> Vec<Case> {
         change(&mut changed);
         smaller.push(changed);
     };
-    if let Case::Judge { report } | Case::Unpack { report, .. } = case {
+    if let Case::Judge { report } | Case::Unpack { report, .. } | Case::ReadOut { report, .. } =
+        case
+    {
         for shorter in smaller_reports(report) {
             with(&|case| {
-                if let Case::Judge { report } | Case::Unpack { report, .. } = case {
+                if let Case::Judge { report }
+                | Case::Unpack { report, .. }
+                | Case::ReadOut { report, .. } = case
+                {
                     *report = shorter.clone();
+                }
+            });
+        }
+    }
+    if let Case::ReadOut { text, origins, .. } = case {
+        for pair in one_shorter(text, origins) {
+            with(&|case| {
+                if let Case::ReadOut { text, origins, .. } = case {
+                    (*text, *origins) = pair.clone();
                 }
             });
         }
@@ -174,6 +202,21 @@ fn emptier(table: &Table) -> Vec<Table> {
     fewer(&held).into_iter().map(without).collect()
 }
 
+/// A shorter report, or a number of the reader that is 0.
+fn smaller_forged(report: &[u8], reader: &Reader) -> Vec<Given> {
+    let forged = |report: Vec<u8>, reader: Reader| Given::Forged { report, reader };
+    let mut smaller: Vec<Given> = shorter(report)
+        .into_iter()
+        .map(|shorter| forged(shorter, *reader))
+        .collect();
+    for index in (0..reader.len()).filter(|&index| reader[index] != 0) {
+        let mut plainer = *reader;
+        plainer[index] = 0;
+        smaller.push(forged(report.to_vec(), plainer));
+    }
+    smaller
+}
+
 fn smaller_calls(buffer: &[u8], call: &Call) -> Vec<Given> {
     let on = |buffer: Vec<u8>| Given::Call {
         buffer,
@@ -193,13 +236,14 @@ fn smaller_calls(buffer: &[u8], call: &Call) -> Vec<Given> {
             let fetch = |output| Call::Fetch { id: *id, output };
             shorter(output).into_iter().map(fetch).collect()
         }
-        Call::PutText { text } => {
-            let put = |text| Call::PutText { text };
-            shorter(text).into_iter().map(put).collect()
+        Call::PutText { text, origins } => {
+            let put = |(text, origins)| Call::PutText { text, origins };
+            let both = shorter(text).into_iter().zip(shorter(origins));
+            both.chain(one_shorter(text, origins)).map(put).collect()
         }
-        Call::FetchText { output } => {
-            let fetch = |output| Call::FetchText { output };
-            shorter(output).into_iter().map(fetch).collect()
+        Call::FetchText { text, origins } => {
+            let fetch = |(text, origins)| Call::FetchText { text, origins };
+            one_shorter(text, origins).into_iter().map(fetch).collect()
         }
         _ => Vec::new(),
     };

@@ -1,4 +1,4 @@
-//! The independent implementation behind the nineteen calls, in place of a library.
+//! The independent implementation behind the twenty-one calls, in place of a library.
 
 use std::slice::{from_raw_parts, from_raw_parts_mut};
 
@@ -8,9 +8,10 @@ use reference::gate::script;
 use reference::judge;
 use reference::number::Number;
 use reference::outside;
+use reference::reader;
 use reference::refusal::Refusal;
 
-use crate::library::{Answer, Flags, Library, Performed};
+use crate::library::{Answer, END, Flags, Library, ORIGINAL, PLAIN, Performed, Reader, Symbol};
 
 pub const STAND_IN: Library = Library {
     judge,
@@ -28,6 +29,8 @@ pub const STAND_IN: Library = Library {
     drop,
     put_text,
     fetch_text,
+    open_text,
+    next_symbol,
     replay,
     character_table,
     all_flags,
@@ -141,7 +144,7 @@ unsafe fn perform(
     report: *const u8,
     n: usize,
     call: Call,
-    out: *mut u8,
+    outs: &[*mut u8],
     flags: *const Flags,
 ) -> Answer {
     let mut buffer = unsafe { input(report, n) }.to_vec();
@@ -150,14 +153,14 @@ unsafe fn perform(
     if buffer != before {
         unsafe { output(report.cast_mut(), n) }.copy_from_slice(&buffer);
     }
-    if let Some(written) = done.output {
+    for (&out, written) in outs.iter().zip(done.outputs) {
         unsafe { output(out, written.len()) }.copy_from_slice(&written);
     }
     answer(done.result)
 }
 
 unsafe fn plain(report: *const u8, n: usize, call: Call, flags: *const Flags) -> Answer {
-    unsafe { perform(report, n, call, std::ptr::null_mut(), flags) }
+    unsafe { perform(report, n, call, &[], flags) }
 }
 
 pub unsafe extern "C" fn read_field(
@@ -245,7 +248,7 @@ pub unsafe extern "C" fn fetch(
 ) -> Answer {
     let id = id as u64;
     let output = unsafe { input(out, out_n) }.to_vec();
-    unsafe { perform(report, n, Call::Fetch { id, output }, out, flags) }
+    unsafe { perform(report, n, Call::Fetch { id, output }, &[out], flags) }
 }
 
 pub unsafe extern "C" fn drop(report: *mut u8, n: usize, id: usize, flags: *const Flags) -> Answer {
@@ -258,21 +261,70 @@ pub unsafe extern "C" fn put_text(
     n: usize,
     text: *const u8,
     text_n: usize,
+    origins: *const u8,
+    origins_n: usize,
     flags: *const Flags,
 ) -> Answer {
     let text = unsafe { input(text, text_n) }.to_vec();
-    unsafe { plain(report, n, Call::PutText { text }, flags) }
+    let origins = unsafe { input(origins, origins_n) }.to_vec();
+    unsafe { plain(report, n, Call::PutText { text, origins }, flags) }
 }
 
 pub unsafe extern "C" fn fetch_text(
     report: *const u8,
     n: usize,
-    out: *mut u8,
-    out_n: usize,
+    text_out: *mut u8,
+    text_n: usize,
+    origins_out: *mut u8,
+    origins_n: usize,
     flags: *const Flags,
 ) -> Answer {
-    let output = unsafe { input(out, out_n) }.to_vec();
-    unsafe { perform(report, n, Call::FetchText { output }, out, flags) }
+    let text = unsafe { input(text_out, text_n) }.to_vec();
+    let origins = unsafe { input(origins_out, origins_n) }.to_vec();
+    let call = Call::FetchText { text, origins };
+    unsafe { perform(report, n, call, &[text_out, origins_out], flags) }
+}
+
+pub unsafe extern "C" fn open_text(
+    report: *const u8,
+    n: usize,
+    numbers: *mut Reader,
+    flags: *const Flags,
+) -> Answer {
+    let (report, flags) = unsafe { (input(report, n), table(flags)) };
+    let reader = reader::Reader::open(report, &flags);
+    let (number, place) = reader
+        .refusal
+        .map_or((0, 0), |refusal| (refusal.number, refusal.place));
+    let places = [reader.place, reader.end, reader.spaces].map(|place| place as u64);
+    let [start, end, spaces] = places;
+    unsafe { *numbers = [start, end, spaces, number.into(), place as u64] };
+    answer(reader.opened().map(|()| Vec::new()))
+}
+
+/// The reader may be forged.
+pub unsafe extern "C" fn next_symbol(report: *const u8, n: usize, numbers: *mut Reader) -> Symbol {
+    let numbers = unsafe { &mut *numbers };
+    let [place, end, spaces] = [0, 1, 2].map(|index| numbers[index] as usize);
+    let mut reader = reader::Reader {
+        report: unsafe { input(report, n) },
+        place,
+        end,
+        spaces,
+        refusal: None,
+    };
+    let Some(symbol) = reader.next() else {
+        return Symbol { kind: END, byte: 0 };
+    };
+    numbers[0] = reader.place as u64;
+    numbers[2] = reader.spaces as u64;
+    let kind = if symbol.origin() == 0 {
+        PLAIN
+    } else {
+        ORIGINAL
+    };
+    let byte = symbol.byte().into();
+    Symbol { kind, byte }
 }
 
 pub unsafe extern "C" fn replay(

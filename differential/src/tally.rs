@@ -1,5 +1,6 @@
 //! How often each call came to each refusal, to one because of the table of flags and
-//! to a CK at an edge, and how often each byte was put.
+//! to a CK at an edge, how often put text was refused for each reason and fetch text gave
+//! each set, and how often each symbol was put.
 
 use std::collections::BTreeMap;
 use std::fmt;
@@ -8,12 +9,17 @@ use reference::bits::bits_of;
 use reference::call::Call;
 use reference::card::{CARD_BYTES, Card};
 use reference::cases::Case;
+use reference::cases::material::all_symbols;
+use reference::deck::{CharacterSet, character_set};
+use reference::table::{SID, fields};
+use reference::text::{self, Symbol};
 
 use crate::expected::{Outcome, Said};
 use crate::fence::MARKED;
 
 /// A run of so many calls has to see every refusal that a call can meet, every one
-/// that the table of flags can decide, and every byte put.
+/// that the table of flags can decide, every reason of put text, every set and every
+/// symbol put.
 pub const DEFAULT_CALLS: u64 = 2_000_000;
 
 const REFUSALS: [usize; 15] = [1, 2, 3, 4, 5, 6, 7, 8, 9, 10, 11, 12, 13, 14, 16];
@@ -21,6 +27,18 @@ const HIGHEST: usize = 16;
 
 const REPLAY: usize = 15;
 const ALL_FLAGS: usize = 18;
+const FORGED: usize = 20;
+
+/// Why put text is refused by 13 or by 14.
+const REASONS: [(usize, &str); 4] = [
+    (13, "lengths"),
+    (13, "buffer"),
+    (14, "byte"),
+    (14, "origin"),
+];
+
+/// The sets that fetch text gives; one is unknown by the source ID or by its absence.
+const SETS: [&str; 4] = ["EBCDIC", "ASCII", "unknown", "missing"];
 
 /// Fresh, pack, set field and clear field work CK out; where the report is then.
 const WRITERS: [(usize, &str); 4] = [(1, "output"), (3, "output"), (5, "report"), (6, "report")];
@@ -32,7 +50,7 @@ const BY_FLAGS: [usize; 3] = [6, 9, 14];
 const EDGES: [u64; 3] = [254, 0, 1];
 
 /// Each call with the refusals that it can meet.
-const CALLS: [(&str, &[usize]); 19] = [
+const CALLS: [(&str, &[usize]); 21] = [
     ("judge", &[1, 2, 3, 4, 5, 6, 7]),
     ("fresh", &[9, 13]),
     ("unpack", &[1, 2, 3, 4, 5, 6, 7, 13]),
@@ -46,18 +64,20 @@ const CALLS: [(&str, &[usize]); 19] = [
     ("put", &[1, 2, 3, 4, 5, 6, 7, 8, 12, 13, 14]),
     ("fetch", &[1, 2, 3, 4, 5, 6, 7, 8, 11, 13]),
     ("drop", &[1, 2, 3, 4, 5, 6, 7, 8, 11]),
-    ("put text", &[1, 2, 3, 4, 5, 6, 7, 12, 13]),
+    ("put text", &[1, 2, 3, 4, 5, 6, 7, 12, 13, 14]),
     ("fetch text", &[1, 2, 3, 4, 5, 6, 7, 11, 13]),
     ("replay", &[]),
     ("characters", &[]),
     ("load", &[16]),
     ("all flags", &[]),
+    ("read out", &[1, 2, 3, 4, 5, 6, 7, 11, 13]),
+    ("forged", &[]),
 ];
 
 /// The refusals of a call that the table of flags can decide.
 fn refusals_by_flags(name: &str) -> &'static [usize] {
     match name {
-        "fresh" | "replay" | "characters" | "load" | "all flags" => &[],
+        "fresh" | "replay" | "characters" | "load" | "all flags" | "forged" => &[],
         "set flag" => &[6, 9],
         "put" => &[6, 14],
         _ => &[6],
@@ -74,8 +94,11 @@ pub struct Tally {
     scripts_by_flags: u64,
     /// By writer and edge.
     checksums: [[u64; EDGES.len()]; WRITERS.len()],
-    /// Bytes that an accepted put text has written; trailing spaces are not.
-    put: BTreeMap<u8, u64>,
+    /// By reason; a text with both a bad byte and a bad origin is not counted.
+    reasons: [u64; REASONS.len()],
+    sets: [u64; SETS.len()],
+    /// Symbols that an accepted put text has written; trailing plain spaces are not.
+    put: BTreeMap<Symbol, u64>,
     performed: u64,
     ended_early: u64,
 }
@@ -89,6 +112,7 @@ impl Tally {
             Case::Pack { .. } => 3,
             Case::Characters { .. } => 16,
             Case::Load { .. } => 17,
+            Case::ReadOut { .. } => 19,
             Case::Lister { .. }
             | Case::Same { .. }
             | Case::Restore { .. }
@@ -100,6 +124,10 @@ impl Tally {
 
     pub fn add_all_flags(&mut self) {
         self.counts[ALL_FLAGS][0] += 1;
+    }
+
+    pub fn add_forged(&mut self) {
+        self.counts[FORGED][0] += 1;
     }
 
     pub fn add_call(&mut self, call: &Call, outcome: &Outcome, by_flags: bool) {
@@ -117,16 +145,38 @@ impl Tally {
             Call::FetchText { .. } => 14,
         };
         self.add(row, outcome, by_flags);
-        if let (Call::PutText { text }, 0) = (call, outcome.refusal()) {
-            self.add_bytes(text);
+        match (call, outcome.refusal()) {
+            (Call::PutText { text, origins }, 0) => self.add_symbols(text, origins),
+            (Call::PutText { text, origins }, refusal) => {
+                if let Some(reason) = reason(text, origins, refusal) {
+                    self.reasons[reason] += 1;
+                }
+            }
+            (Call::FetchText { .. }, 0) => self.add_set(outcome),
+            _ => {}
         }
     }
 
-    fn add_bytes(&mut self, text: &[u8]) {
-        let last = text.iter().rposition(|&byte| byte != b' ');
-        for &byte in last.map_or(&[][..], |last| &text[..=last]) {
-            *self.put.entry(byte).or_default() += 1;
+    fn add_symbols(&mut self, text: &[u8], origins: &[u8]) {
+        let symbols = text::symbols(text, origins).unwrap_or_default();
+        let last = symbols.iter().rposition(|&symbol| symbol != Symbol::SPACE);
+        for &symbol in last.map_or(&[][..], |last| &symbols[..=last]) {
+            *self.put.entry(symbol).or_default() += 1;
         }
+    }
+
+    fn add_set(&mut self, outcome: &Outcome) {
+        let Some(state) = outcome.buffer("report") else {
+            return;
+        };
+        let sid = fields()[SID - 1].scaled(card_of(state).codes[SID - 1]);
+        let set = match character_set(sid) {
+            CharacterSet::Ebcdic => 0,
+            CharacterSet::Ascii => 1,
+            CharacterSet::Unknown if sid.is_some() => 2,
+            CharacterSet::Unknown => 3,
+        };
+        self.sets[set] += 1;
     }
 
     pub fn add_script(&mut self, outcome: &Outcome, script: &[u8], by_flags: bool) {
@@ -146,7 +196,7 @@ impl Tally {
             return;
         };
         if let Some(state) = outcome.buffer(WRITERS[writer].1) {
-            let ck = Card::read(&bits_of(&state[MARKED..][..CARD_BYTES])).ck;
+            let ck = card_of(state).ck;
             if let Some(edge) = EDGES.iter().position(|&edge| edge == ck) {
                 self.checksums[writer][edge] += 1;
             }
@@ -159,8 +209,8 @@ impl Tally {
     }
 
     /// The calls that were never accepted or never came to a refusal that they can
-    /// meet, the refusals that the table of flags never decided, and the bytes that
-    /// were never put.
+    /// meet, the refusals that the table of flags never decided, the reasons and the sets
+    /// that were never met, and the symbols that were never put.
     pub fn unseen(&self) -> Vec<String> {
         let mut unseen = Vec::new();
         for ((name, refusals), counts) in CALLS.iter().zip(&self.counts) {
@@ -178,8 +228,17 @@ impl Tally {
         if self.scripts_by_flags == 0 {
             unseen.push("replay, a refusal by the table of flags".into());
         }
-        let bytes = (0..=255).filter(|byte| !self.put.contains_key(byte));
-        unseen.extend(bytes.map(|byte| format!("put text, byte {byte}")));
+        for (refusal, reason) in unmet(&REASONS, &self.reasons) {
+            unseen.push(format!("put text, refusal {refusal} by {reason}"));
+        }
+        for set in unmet(&SETS, &self.sets) {
+            unseen.push(format!("fetch text, set {set}"));
+        }
+        for symbol in all_symbols() {
+            if !self.put.contains_key(&symbol) {
+                unseen.push(format!("put text, {}", name_of(symbol)));
+            }
+        }
         unseen
     }
 
@@ -187,6 +246,39 @@ impl Tally {
     pub fn passes(&self, calls: u64) -> bool {
         calls < DEFAULT_CALLS || self.unseen().is_empty()
     }
+}
+
+/// The names whose count is 0.
+fn unmet<'a, T>(names: &'a [T], counts: &'a [u64]) -> impl Iterator<Item = &'a T> {
+    let unmet = names.iter().zip(counts).filter(|(_, count)| **count == 0);
+    unmet.map(|(name, _)| name)
+}
+
+/// The card at the front of a report's state.
+fn card_of(state: &[u8]) -> Card {
+    Card::read(&bits_of(&state[MARKED..][..CARD_BYTES]))
+}
+
+/// The place of the reason for which put text is refused, if it has one of its own.
+fn reason(text: &[u8], origins: &[u8], refusal: usize) -> Option<usize> {
+    let pairs = || text.iter().zip(origins);
+    let bad_byte = pairs().any(|(&byte, &origin)| origin == 0 && Symbol::plain(byte).is_none());
+    let bad_origin = pairs().any(|(_, &origin)| origin > 1);
+    match refusal {
+        13 if text.len() != origins.len() => Some(0),
+        13 => Some(1),
+        14 if !bad_origin => Some(2),
+        14 if !bad_byte => Some(3),
+        _ => None,
+    }
+}
+
+fn name_of(symbol: Symbol) -> String {
+    let origin = match symbol.origin() {
+        text::PLAIN => "plain",
+        _ => "original",
+    };
+    format!("{origin} byte {}", symbol.byte())
 }
 
 /// A count, or a dash where a call cannot meet a refusal.
@@ -225,15 +317,31 @@ impl fmt::Display for Tally {
         for (&(row, _), [below, at, above]) in WRITERS.iter().zip(&self.checksums) {
             writeln!(f, "{:<12}{below:>9}{at:>9}{above:>9}", CALLS[row].0)?;
         }
+        let reasons = REASONS.map(|(_, reason)| reason);
+        fmt_row(f, "put text by", &reasons, &self.reasons)?;
+        fmt_row(f, "sets given", &SETS, &self.sets)?;
         let least = self.put.values().min().unwrap_or(&0);
-        let bytes = self.put.len();
-        writeln!(f, "bytes put: {bytes} of 256, each {least} times or more")?;
+        let (put, all) = (self.put.len(), all_symbols().len());
+        writeln!(f, "symbols put: {put} of {all}, each {least} times or more")?;
         writeln!(
             f,
             "scripts: {} calls performed, {} ended before the script's end, {} with a refusal by flags",
             self.performed, self.ended_early, self.scripts_by_flags
         )
     }
+}
+
+/// Names in a line, and their counts in the next.
+fn fmt_row(f: &mut fmt::Formatter, title: &str, names: &[&str], counts: &[u64]) -> fmt::Result {
+    write!(f, "{title:<12}")?;
+    for name in names {
+        write!(f, "{name:>9}")?;
+    }
+    write!(f, "\n{:<12}", "")?;
+    for count in counts {
+        write!(f, "{count:>9}")?;
+    }
+    writeln!(f)
 }
 
 impl Tally {

@@ -2,6 +2,7 @@
 
 mod altered;
 mod flag_tables;
+mod texts;
 
 use std::process::{Command, Output};
 
@@ -29,10 +30,13 @@ use crate::trial::Given;
 
 const SEED: u64 = 7;
 
-/// The first difference in some thousand cases, made smaller.
+/// The cases of a test.
+const CASES: u64 = 9000;
+
+/// The first difference, made smaller.
 fn first_difference(library: Library, tally: &mut Tally) -> Option<Difference> {
     let mut harness = Harness::new(library);
-    for case in 0..6000 {
+    for case in 0..CASES {
         harness.null = case % 2 == 0;
         for trial in trials(SEED, case) {
             if let Some(found) = compare(&mut harness, tally, &trial) {
@@ -99,77 +103,6 @@ fn checksums_at_an_edge_are_counted() {
     ] {
         assert!(shown.lines().any(|shown| shown == line), "{shown}");
     }
-}
-
-/// Puts a text into a report that takes every text.
-fn put_text(tally: &mut Tally, text: &[u8]) {
-    let mut buffer = observation_with(&[]).packing();
-    buffer.resize(200, 0);
-    let text = text.to_vec();
-    let call = Call::PutText { text };
-    let trial = Given::Call { buffer, call }.under(FlagTable::all());
-    assert!(compare(&mut Harness::new(STAND_IN), tally, &trial).is_none());
-}
-
-/// The bytes that were never put, as the tally names them.
-fn never_put(tally: &Tally) -> Vec<String> {
-    let mut unseen = tally.unseen();
-    unseen.retain(|name| name.starts_with("put text, byte "));
-    unseen
-}
-
-#[test]
-fn every_byte_has_to_be_put() {
-    let mut tally = Tally::default();
-    assert_eq!(never_put(&tally).len(), 256);
-    let bytes: Vec<u8> = (0..=255).collect();
-    for part in bytes.chunks(64) {
-        let part: Vec<u8> = part.iter().copied().filter(|&byte| byte != 7).collect();
-        put_text(&mut tally, &part);
-    }
-    assert_eq!(never_put(&tally), ["put text, byte 7"]);
-    // Refused: 86 times three nibbles are too many.
-    put_text(&mut tally, &[7; 86]);
-    assert_eq!(never_put(&tally), ["put text, byte 7"]);
-    put_text(&mut tally, &[7]);
-    assert_eq!(never_put(&tally), [""; 0]);
-}
-
-#[test]
-fn a_trailing_space_is_not_put() {
-    let mut tally = Tally::default();
-    let space = "put text, byte 32".to_string();
-    put_text(&mut tally, b"A  ");
-    put_text(&mut tally, b"   ");
-    assert!(never_put(&tally).contains(&space));
-    put_text(&mut tally, b"A B");
-    assert!(!never_put(&tally).contains(&space));
-}
-
-/// A whole run fails where a byte was never put, and a shorter one does not.
-#[test]
-fn a_byte_never_put_fails_a_whole_run() {
-    let mut whole = Tally::default();
-    assert!(first_difference(STAND_IN, &mut whole).is_none());
-    assert!(whole.passes(DEFAULT_CALLS));
-    let mut without = Tally::default();
-    let mut harness = Harness::new(STAND_IN);
-    let puts_a_7 = |call: &Call| matches!(call, Call::PutText { text } if text.contains(&7));
-    for case in 0..6000 {
-        for trial in trials(SEED, case) {
-            let left_out = match &trial.given {
-                Given::Call { call, .. } => puts_a_7(call),
-                Given::List { calls, .. } => calls.iter().any(puts_a_7),
-                _ => false,
-            };
-            if !left_out {
-                assert!(compare(&mut harness, &mut without, &trial).is_none());
-            }
-        }
-    }
-    assert_eq!(without.unseen(), ["put text, byte 7"]);
-    assert!(!without.passes(DEFAULT_CALLS));
-    assert!(without.passes(DEFAULT_CALLS - 1));
 }
 
 #[test]
@@ -250,7 +183,13 @@ fn answers_have_the_header_s_form() {
             },
             answer(3, 16),
         ),
-        (Call::FetchText { output: output() }, answer(3, 2)),
+        (
+            Call::FetchText {
+                text: output(),
+                origins: output(),
+            },
+            answer(3 + 256 * 10, 2),
+        ),
         (Call::SetFlag { flag: 3, value: 1 }, answer(0, 0)),
         (Call::Drop { id: 4 }, answer(0, 0)),
         (Call::ReadField { field: 47 }, refused(8, 0)),
@@ -384,34 +323,6 @@ fn an_entry_before_the_table_is_found() {
     assert_eq!(expected[MARKED..], got[MARKED..]);
     let shown = found.got.against(&found.expected);
     assert!(shown.contains("before table"), "{shown}");
-}
-
-/// Every byte is drawn, here one that has no short code.
-#[test]
-fn a_byte_that_is_put_wrong_is_found() {
-    unsafe extern "C" fn wrong(
-        report: *mut u8,
-        n: usize,
-        text: *const u8,
-        text_n: usize,
-        flags: *const Flags,
-    ) -> Answer {
-        let mut bytes = vec![0; text_n];
-        for (index, byte) in bytes.iter_mut().enumerate() {
-            let given = unsafe { *text.add(index) };
-            *byte = if given == 0xF7 { 0xF6 } else { given };
-        }
-        unsafe { stand_in::put_text(report, n, bytes.as_ptr(), text_n, flags) }
-    }
-    let found = found(Library {
-        put_text: wrong,
-        ..STAND_IN
-    });
-    assert_eq!(differing(&found), ["report"]);
-    let Given::Call { call, .. } = found.trial.given else {
-        panic!("no call: {}", found.trial);
-    };
-    assert!(matches!(call, Call::PutText { text } if text.ends_with(&[0xF7])));
 }
 
 #[test]

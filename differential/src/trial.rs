@@ -7,6 +7,8 @@ use reference::cases::Case;
 use reference::flag_table::FlagTable;
 use reference::line::{hex, inputs};
 
+use crate::library::Reader;
+
 /// What is given, and the table of flags that it is run under.
 #[derive(Clone, Debug, PartialEq, Eq)]
 pub struct Trial {
@@ -16,11 +18,16 @@ pub struct Trial {
 
 #[derive(Clone, Debug, PartialEq, Eq)]
 pub enum Given {
-    /// Judge, fresh, unpack, pack, characters or load. Fresh and characters are lent no
-    /// table of flags; a load may replace the one that it is lent.
+    /// Judge, fresh, unpack, pack, characters, load or read out. Fresh and characters are
+    /// lent no table of flags; a load may replace the one that it is lent.
     Whole(Case),
     /// Every flag permitted, over the trial's table.
     AllFlags,
+    /// Steps of a reader that was never opened.
+    Forged {
+        report: Vec<u8>,
+        reader: Reader,
+    },
     Call {
         buffer: Vec<u8>,
         call: Call,
@@ -62,6 +69,10 @@ impl fmt::Display for Given {
         match self {
             Given::Whole(case) => f.write_str(&inputs(case)),
             Given::AllFlags => f.write_str("all-flags"),
+            Given::Forged { report, reader } => {
+                let numbers = reader.map(|number| number.to_string());
+                write!(f, "forged-reader {} {}", hex(report), numbers.join(","))
+            }
             Given::Call { buffer, call } => {
                 let case = list(buffer, std::slice::from_ref(call));
                 f.write_str(&inputs(&case))

@@ -1,5 +1,6 @@
 //! What crates/lmr5 exports, in C's words.
 use crate::Declared;
+use std::collections::BTreeMap;
 
 /// The text without its line comments.
 fn plain(text: &str) -> String {
@@ -19,11 +20,15 @@ fn number(name: &str) -> String {
         "usize" => "size_t",
         "Answer" => "lmr5_answer",
         "Performed" => "lmr5_performed",
+        "Symbol" => "lmr5_symbol",
         "FlagTable" => "lmr5_flag_table",
         other => panic!("crates/lmr5: the type {other} is not known here"),
     }
     .to_string()
 }
+
+/// C's struct for the five numbers of a reader.
+const READER: &str = "lmr5_text_reader";
 
 /// A parameter as C takes it: one, or for a slice a pointer and a length.
 fn parameter(text: &str) -> Vec<String> {
@@ -43,6 +48,7 @@ fn parameter(text: &str) -> Vec<String> {
         .strip_suffix(']')
         .expect("a slice's or an array's end");
     match inner.split_once(';') {
+        Some(("u64", " 5")) if name == "reader" => vec![format!("{mark}{READER} * {name}")],
         Some((element, count)) => vec![format!(
             "{mark}{} {name} [ {} ]",
             number(element.trim()),
@@ -116,6 +122,44 @@ fn flag_table(types: &str) -> Vec<String> {
     )]
 }
 
+/// What is stored to an array, with the place of each: `reader[0] = o.at as u64;` is 0 and `o.at`.
+fn stores<'a>(text: &'a str, array: &str) -> Vec<(usize, &'a str)> {
+    let start = format!("{array}[");
+    let parts = text.split(&start).skip(1);
+    let stores = parts.filter_map(|part| part.split_once("] = "));
+    stores
+        .filter_map(|(place, rest)| {
+            let stored = rest.split([' ', ';']).next().expect("what is stored");
+            Some((place.parse().ok()?, stored))
+        })
+        .collect()
+}
+
+/// The numbers of a reader, which C takes as a struct. Where 0 is stored, another store says what the number is.
+fn text_reader(text: &str) -> Vec<String> {
+    let mut names = BTreeMap::new();
+    for (place, stored) in stores(text, "reader") {
+        let name = match stored.trim_start_matches("o.") {
+            "at" => "place",
+            "number" => "refusal",
+            "place" => "refusal_place",
+            "0" => continue,
+            name => name,
+        };
+        let before = names.insert(place, name);
+        assert!(
+            before.is_none_or(|before| before == name),
+            "crates/lmr5: number {place} of a reader has two names"
+        );
+    }
+    assert!(
+        names.keys().copied().eq(0..5),
+        "crates/lmr5: a reader has five numbers"
+    );
+    let names = names.values();
+    names.map(|name| format!("uint64_t {name}")).collect()
+}
+
 /// The entries of the field table, by the comment at each: its number and name.
 fn fields(table: &str) -> Vec<String> {
     let rows = table.lines().filter(|line| line.starts_with("    field "));
@@ -132,14 +176,11 @@ fn fields(table: &str) -> Vec<String> {
 
 /// The places to which the contents are stored: `contents[3] = c.count ..`.
 fn contents(text: &str) -> Vec<String> {
-    let stores = text
-        .split("contents[")
-        .skip(1)
-        .filter_map(|part| part.split_once("] = c."));
+    let stores = stores(text, "contents").into_iter();
     stores
-        .map(|(place, rest)| {
-            let name: String = rest.chars().take_while(|c| c.is_alphanumeric()).collect();
-            format!("LMR5_CONTENTS_{} = {place}", name.to_uppercase())
+        .map(|(place, stored)| {
+            let name = stored.trim_start_matches("c.").to_uppercase();
+            format!("LMR5_CONTENTS_{name} = {place}")
         })
         .collect()
 }
@@ -159,9 +200,9 @@ fn upper(name: &str) -> String {
 /// A header's name and its number.
 type Named = (String, u64);
 
-/// The number that a definition begins with: `2 ∷ ..`.
+/// The number that a definition begins with: `2 ∷ ..`, or `0; ..`.
 fn first_number(text: &str) -> u64 {
-    let word = text.split_whitespace().next().unwrap_or("");
+    let word = text.split([' ', ';']).next().unwrap_or("");
     word.parse()
         .unwrap_or_else(|_| panic!("a number, not {text}"))
 }
@@ -208,17 +249,49 @@ fn logged(script: &str) -> Vec<Named> {
     ]
 }
 
-/// The labels of numbers, each `quantityLabel count = 3`; of no number, and of one that is missing.
+/// The numbers that a definition gives by name: `quantityLabel count = 3`.
+fn by_name(text: &str, definition: &str, start: &str) -> Vec<Named> {
+    let lines = text.lines().filter_map(|line| {
+        let line = line.strip_prefix(definition)?.strip_prefix(' ')?;
+        line.split_once(" = ")
+    });
+    lines
+        .map(|(name, number)| (format!("{start}_{}", upper(name)), first_number(number)))
+        .collect()
+}
+
+/// The labels of numbers; of no number, and of one that is missing.
 fn labels(text: &str) -> Vec<Named> {
-    let mut all = vec![
-        by_shape(text, "labels []", "LMR5_GIVEN_NOTHING"),
-        by_shape(text, "missingLabel", "LMR5_GIVEN_MISSING"),
-    ];
-    let lines = text
-        .lines()
-        .filter_map(|line| line.strip_prefix("quantityLabel "));
-    for (name, label) in lines.filter_map(|line| line.split_once(" = ")) {
-        all.push((format!("LMR5_GIVEN_{}", upper(name)), first_number(label)));
+    let mut all = by_name(text, "quantityLabel", "LMR5_GIVEN");
+    all.push(by_shape(text, "labels []", "LMR5_GIVEN_NOTHING"));
+    all.push(by_shape(text, "missingLabel", "LMR5_GIVEN_MISSING"));
+    all
+}
+
+/// The marks of origin.
+fn origins(text: &str) -> Vec<Named> {
+    vec![
+        by_shape(text, "originOf (plain b)", "LMR5_ORIGIN_PLAIN"),
+        by_shape(text, "originOf (original b)", "LMR5_ORIGIN_ORIGINAL"),
+    ]
+}
+
+/// The kind of a step's symbol: `symbolOfStep End = record { kind = 0; ..`.
+fn kind_of<'a>(readers: &'a str, shape: &str) -> &'a str {
+    let start = format!("symbolOfStep {shape} = record {{ kind = ");
+    let found = readers.lines().find_map(|line| line.strip_prefix(&start));
+    found.unwrap_or_else(|| panic!("{start}is not found"))
+}
+
+/// The kinds of symbols: the end's, and those of plain and original ones, which are so much more than the marks.
+fn symbol_kinds(readers: &str, text: &str) -> Vec<Named> {
+    let end = first_number(kind_of(readers, "End"));
+    let mut all = vec![("LMR5_SYMBOL_END".to_string(), end)];
+    let given = kind_of(readers, "(Given b o at waiting)");
+    let more = given.strip_prefix("o + ").expect("a mark and so much more");
+    for (name, origin) in origins(text) {
+        let name = name.replace("ORIGIN_", "SYMBOL_");
+        all.push((name, origin + first_number(more)));
     }
     all
 }
@@ -237,6 +310,8 @@ pub struct Sources<'a> {
     pub table: &'a str,
     pub script: &'a str,
     pub labels: &'a str,
+    pub text: &'a str,
+    pub readers: &'a str,
     pub sizes: &'a str,
 }
 
@@ -248,12 +323,24 @@ pub fn declared(sources: &Sources) -> Declared {
     declared
         .structs
         .insert(number("FlagTable"), flag_table(sources.types));
+    declared
+        .structs
+        .insert(READER.to_string(), text_reader(&text));
     let enums = [
         ("lmr5_field", fields(sources.table)),
         ("lmr5_contents", contents(&text)),
         ("lmr5_script", ascending(kinds(sources.script))),
         ("lmr5_log", ascending(logged(sources.script))),
         ("lmr5_given", ascending(labels(sources.labels))),
+        ("lmr5_origin", ascending(origins(sources.text))),
+        (
+            "lmr5_set",
+            ascending(by_name(sources.text, "setNumber", "LMR5_SET")),
+        ),
+        (
+            "lmr5_symbol_kind",
+            ascending(symbol_kinds(sources.readers, sources.text)),
+        ),
         ("lmr5_longest", longest(sources.sizes)),
     ];
     for (name, numbers) in enums {

@@ -1,8 +1,9 @@
 //! Compares include/lmr5.h with the functions and structs that crates/lmr5 exports, its table of flags with the type of
-//! crates/format, and its numbers with the definitions: fields, contents, kinds of a script's entries, the log's first bytes,
-//! labels, the longest report. Compares the field table of docs/FORMAT.md with the definitions. Says each difference, and
-//! fails if there is one. Its argument is the repository's folder. refusals.c tries the numbers of refusals and flags, the
-//! table of flags and the table of the characters.
+//! crates/format, its reader with what is stored to one, and its numbers with the definitions: fields, contents, kinds of a
+//! script's entries, the log's first bytes, labels, marks of origin, sets of a deck, kinds of symbols, the longest report.
+//! Compares the field table of docs/FORMAT.md with the definitions. Says each difference, and fails if there is one. Its
+//! argument is the repository's folder. refusals.c tries the numbers of refusals and flags, the table of flags, ship texts and
+//! their reader, and the table of the characters.
 mod code;
 mod header;
 mod page;
@@ -82,6 +83,8 @@ fn main() -> ExitCode {
         table: &table,
         script: &read(&root, "crates/script/specs/Script.antt"),
         labels: &read(&root, "crates/script/specs/Labels.antt"),
+        text: &read(&root, "crates/format/specs/ShipText.antt"),
+        readers: &read(&root, "crates/lmr5/specs/Readers.antt"),
         sizes: &read(&root, "crates/report/specs/Answers.antt"),
     });
     let header = header::declared(&read(&root, "include/lmr5.h"));
@@ -115,7 +118,12 @@ mod tests {
     use super::*;
 
     const CODE: &str = "#[repr(C)]\npub struct Answer {\n    pub refusal: u32,\n}\n\
-        fn store() {\n    contents[0] = c.word;\n}\n\
+        fn store() {\n    contents[0] = c.word;\n    contents[1] = c.present as u64;\n}\n\
+        #[repr(C)]\npub struct Symbol {\n    pub kind: u32,\n}\n\
+        fn opened() {\n    reader[0] = o.at as u64;\n    reader[1] = o.end as u64;\n    reader[2] = 0;\n\
+        \x20   reader[3] = o.number as u64;\n    reader[4] = o.place as u64;\n}\n\
+        fn step() {\n    f(reader[0] as usize, reader[2] as usize);\n    reader[0] = at as u64;\n    reader[2] = spaces as u64;\n}\n\
+        #[no_mangle]\npub extern \"C\" fn lmr5_n(report: &[u8], reader: &mut [u64; 5]) -> Symbol\n{}\n\
         #[no_mangle]\npub extern \"C\" fn lmr5_f(\n    report: &[u8], // read\n    n: usize,\n    to: &mut [u64; 6],\n) -> Answer\n{}\n\
         #[no_mangle]\npub extern \"C\" fn lmr5_t(table: &mut [u16; 256])\n{}\n\
         #[no_mangle]\npub extern \"C\" fn lmr5_m(table: &mut FlagTable)\n{}\n\
@@ -129,14 +137,25 @@ mod tests {
         headOf (refused r) = 0 ∷ r .number ∷ bytes8 (r .place)\nheadOf (accepted gs) = 1 ∷ 0 ∷ bytes8 0\n";
     const LABELS: &str = "abbrev pub quantityLabel : Quantity → ℕ\nquantityLabel value = 1\nquantityLabel count = 3\n\
         missingLabel : ℕ\nmissingLabel = 128\nlabels [] = 0\nlabels (g ∷ gs) = label g + 256 * labels gs\n";
+    const TEXT: &str = "originOf (plain b) = 0\noriginOf (original b) = 1\n\
+        unfoldable pub setNumber : DeckSet → ℕ\nsetNumber ascii = 2\nsetNumber unknown = 0\n";
+    const READERS: &str = "symbolOfStep End = record { kind = 0; byte = 0 }\n\
+        symbolOfStep (Given b o at waiting) = record { kind = o + 1; byte = b }\n";
     const SIZES: &str = "  within : (38 ≤ n) × (n ≤ 1853)\n";
     const HEADER: &str = "#include <stdint.h>\nextern \"C\" {\ntypedef struct lmr5_answer {\n    uint32_t refusal; /* a; b */\n} lmr5_answer;\n\
-        enum lmr5_field { LMR5_BOX10 = 1 };\nenum lmr5_contents { LMR5_CONTENTS_WORD = 0 };\n\
+        enum lmr5_field { LMR5_BOX10 = 1 };\nenum lmr5_contents { LMR5_CONTENTS_WORD = 0, LMR5_CONTENTS_PRESENT = 1 };\n\
         enum lmr5_script { LMR5_SCRIPT_READ_FIELD = 1, LMR5_SCRIPT_SET_FIELD = 2, LMR5_SCRIPT_DROP = 9, LMR5_SCRIPT_FETCH_TEXT = 11 };\n\
         enum lmr5_refusal { LMR5_REFUSED_SHORT = 1 };\n\
         enum lmr5_log { LMR5_LOG_REFUSED = 0, LMR5_LOG_ACCEPTED = 1 };\n\
         enum lmr5_given { LMR5_GIVEN_NOTHING = 0, LMR5_GIVEN_VALUE = 1, LMR5_GIVEN_COUNT = 3, LMR5_GIVEN_MISSING = 128 };\n\
         enum lmr5_longest { LMR5_LONGEST_REPORT = 1853 };\n\
+        enum lmr5_origin { LMR5_ORIGIN_PLAIN = 0, LMR5_ORIGIN_ORIGINAL = 1 };\n\
+        enum lmr5_set { LMR5_SET_UNKNOWN = 0, LMR5_SET_ASCII = 2 };\n\
+        typedef struct lmr5_text_reader {\n    uint64_t place;\n    uint64_t end;\n    uint64_t spaces;\n    uint64_t refusal;\n\
+        \x20   uint64_t refusal_place;\n} lmr5_text_reader;\n\
+        typedef struct lmr5_symbol {\n    uint32_t kind;\n} lmr5_symbol;\n\
+        enum lmr5_symbol_kind { LMR5_SYMBOL_END = 0, LMR5_SYMBOL_PLAIN = 1, LMR5_SYMBOL_ORIGINAL = 2 };\n\
+        lmr5_symbol lmr5_n(const uint8_t *report, size_t report_length, lmr5_text_reader *reader);\n\
         lmr5_answer lmr5_f(const uint8_t *report, size_t report_length, size_t n, uint64_t to[6]);\n\
         typedef struct lmr5_flag_table {\n    uint8_t marks[14][10];\n} lmr5_flag_table;\n\
         void lmr5_t(uint16_t table[256]);\nvoid lmr5_m(lmr5_flag_table *table);\n\
@@ -149,6 +168,8 @@ mod tests {
             table: TABLE,
             script: SCRIPT,
             labels: LABELS,
+            text: TEXT,
+            readers: READERS,
             sizes: SIZES,
         }
     }
@@ -169,7 +190,7 @@ mod tests {
     #[test]
     fn each_change_is_said() {
         let changes = [
-            ("const uint8_t *report", "uint8_t *report"),
+            ("f(const uint8_t *report", "f(uint8_t *report"),
             ("size_t n, ", ""),
             ("size_t n", "uint32_t n"),
             ("to[6]", "to[5]"),
@@ -193,6 +214,27 @@ mod tests {
             ("LMR5_BOX10 = 1", "LMR5_BOX10 = 2"),
             ("LMR5_BOX10 = 1", "LMR5_BOX = 1"),
             ("CONTENTS_WORD = 0", "CONTENTS_WORD = 1"),
+            ("CONTENTS_PRESENT", "CONTENTS_COUNT"),
+            ("lmr5_symbol lmr5_n", "lmr5_answer lmr5_n"),
+            ("lmr5_text_reader *reader", "lmr5_text_reader reader"),
+            ("lmr5_text_reader *reader", "const lmr5_text_reader *reader"),
+            ("lmr5_text_reader *reader", "uint64_t reader[5]"),
+            ("uint64_t place", "uint32_t place"),
+            (
+                "uint64_t end;\n    uint64_t spaces",
+                "uint64_t spaces;\n    uint64_t end",
+            ),
+            ("    uint64_t refusal_place;\n", ""),
+            ("uint64_t refusal;", "uint64_t number;"),
+            ("uint32_t kind", "uint64_t kind"),
+            ("ORIGIN_PLAIN = 0", "ORIGIN_PLAIN = 2"),
+            ("ORIGIN_ORIGINAL = 1", "ORIGIN_ORIGINAL = 2"),
+            ("SET_UNKNOWN = 0", "SET_UNKNOWN = 3"),
+            ("SET_ASCII", "SET_EBCDIC"),
+            ("SYMBOL_END = 0", "SYMBOL_END = 3"),
+            ("SYMBOL_PLAIN = 1", "SYMBOL_PLAIN = 0"),
+            ("SYMBOL_ORIGINAL = 2", "SYMBOL_ORIGINAL = 1"),
+            (", LMR5_SYMBOL_ORIGINAL = 2", ""),
             ("SCRIPT_DROP = 9", "SCRIPT_DROP = 8"),
             ("SCRIPT_SET_FIELD", "SCRIPT_SET"),
             ("SCRIPT_FETCH_TEXT = 11", "SCRIPT_FETCH_TEXT = 10"),
@@ -259,6 +301,72 @@ mod tests {
             };
             assert_eq!(said_of(&sources, HEADER).len(), 1);
         }
+    }
+
+    /// A mark is told by the kind of its symbol too.
+    #[test]
+    fn each_change_of_a_text_or_a_reader_is_said() {
+        for (old, new, count) in [
+            ("(plain b) = 0", "(plain b) = 2", 2),
+            ("(original b) = 1", "(original b) = 2", 2),
+            ("ascii = 2", "ascii = 1", 1),
+            ("setNumber unknown = 0\n", "", 1),
+            ("unknown = 0", "unknown = 0\nsetNumber ebcdic = 1", 1),
+        ] {
+            assert_eq!(TEXT.matches(old).count(), 1, "{old}");
+            let text = &TEXT.replace(old, new);
+            let sources = Sources { text, ..sources() };
+            assert_eq!(said_of(&sources, HEADER).len(), count, "{old}");
+        }
+        for (old, new) in [("kind = 0", "kind = 3"), ("kind = o + 1", "kind = o + 2")] {
+            assert_eq!(READERS.matches(old).count(), 1, "{old}");
+            let readers = &READERS.replace(old, new);
+            let sources = Sources {
+                readers,
+                ..sources()
+            };
+            assert_eq!(said_of(&sources, HEADER).len(), 1, "{old}");
+        }
+        for (old, new) in [
+            ("[u64; 5]", "[u64; 6]"),
+            ("-> Symbol", "-> Answer"),
+            ("kind: u32", "kind: u64"),
+            (
+                "[3] = o.number as u64;\n    reader[4] = o.place",
+                "[3] = o.place as u64;\n    reader[4] = o.number",
+            ),
+            ("spaces as u64", "waiting as u64"),
+        ] {
+            assert_eq!(CODE.matches(old).count(), 1, "{old}");
+            let exports = &CODE.replace(old, new);
+            let sources = Sources {
+                exports,
+                ..sources()
+            };
+            assert_eq!(said_of(&sources, HEADER).len(), 1, "{old}");
+        }
+    }
+
+    #[test]
+    #[should_panic(expected = "number 0 of a reader has two names")]
+    fn a_number_of_a_reader_has_one_name() {
+        let exports = &CODE.replace("reader[0] = at", "reader[0] = end");
+        let sources = Sources {
+            exports,
+            ..sources()
+        };
+        code::declared(&sources);
+    }
+
+    #[test]
+    #[should_panic(expected = "a reader has five numbers")]
+    fn each_number_of_a_reader_is_stored() {
+        let exports = &CODE.replace("    reader[4] = o.place as u64;\n", "");
+        let sources = Sources {
+            exports,
+            ..sources()
+        };
+        code::declared(&sources);
     }
 
     #[test]

@@ -45,14 +45,15 @@ pub fn written(page: &str) -> Vec<String> {
     let mut rows = Vec::new();
     for line in page.lines() {
         let cells: Vec<&str> = line.split('|').map(str::trim).collect();
-        if let [_, number, name, _, _, range, base, highest, bits, first, _] = cells[..] {
-            if !base.is_empty() && number.parse::<u64>().is_ok() {
-                rows.push(row(
-                    &format!("{number} {name}"),
-                    range,
-                    [base, highest, bits, first],
-                ));
-            }
+        if let [_, number, name, _, _, range, base, highest, bits, first, _] = cells[..]
+            && !base.is_empty()
+            && number.parse::<u64>().is_ok()
+        {
+            rows.push(row(
+                &format!("{number} {name}"),
+                range,
+                [base, highest, bits, first],
+            ));
         }
     }
     rows

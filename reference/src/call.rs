@@ -1,6 +1,6 @@
 //! The eleven calls of a list as data, with contents and outputs as given.
 
-use crate::edit;
+use crate::edit::{self, Fetched};
 use crate::flag_table::FlagTable;
 use crate::number::Number;
 use crate::refusal::Refusal;
@@ -17,33 +17,32 @@ pub enum Call {
     Put { id: u64, content: Vec<u8> },
     Fetch { id: u64, output: Vec<u8> },
     Drop { id: u64 },
-    PutText { text: Vec<u8> },
-    FetchText { output: Vec<u8> },
+    PutText { text: Vec<u8>, origins: Vec<u8> },
+    FetchText { text: Vec<u8>, origins: Vec<u8> },
 }
 
 #[derive(Clone, Debug, PartialEq, Eq)]
 pub struct Answer {
     /// The numbers that are given, or the refusal.
     pub result: Result<Vec<Number>, Refusal>,
-    /// The output after the call, if the call has one.
-    pub output: Option<Vec<u8>>,
+    /// The outputs after the call: none, a fetch's one, or fetch text's two.
+    pub outputs: Vec<Vec<u8>>,
 }
 
 impl Call {
-    /// The output as given, if the call has one.
-    pub fn output(&self) -> Option<Vec<u8>> {
+    /// The outputs as given.
+    pub fn outputs(&self) -> Vec<Vec<u8>> {
         match self {
-            Call::Fetch { output, .. } | Call::FetchText { output } => Some(output.clone()),
-            _ => None,
+            Call::Fetch { output, .. } => vec![output.clone()],
+            Call::FetchText { text, origins } => vec![text.clone(), origins.clone()],
+            _ => Vec::new(),
         }
     }
 
     /// Runs the call on a buffer under a table of flags.
     pub fn run(&self, buffer: &mut [u8], table: &FlagTable) -> Answer {
         let nothing = |()| Vec::new();
-        let count = |count| vec![Number::count(count)];
-        let mut output = self.output();
-        let out = output.as_deref_mut().unwrap_or_default();
+        let mut outputs = self.outputs();
         let result = match self {
             Call::ReadField { field } => edit::read_field(buffer, *field, table)
                 .map(|value| vec![Number::value(value.map(|value| value.0))]),
@@ -58,11 +57,19 @@ impl Call {
             }
             Call::ClearFlag { flag } => edit::clear_flag(buffer, *flag, table).map(nothing),
             Call::Put { id, content } => edit::put(buffer, *id, content, table).map(nothing),
-            Call::Fetch { id, .. } => edit::fetch(buffer, *id, out, table).map(count),
+            Call::Fetch { id, .. } => edit::fetch(buffer, *id, &mut outputs[0], table)
+                .map(|count| vec![Number::count(count)]),
             Call::Drop { id } => edit::drop_attachment(buffer, *id, table).map(nothing),
-            Call::PutText { text } => edit::put_text(buffer, text, table).map(nothing),
-            Call::FetchText { .. } => edit::fetch_text(buffer, out, table).map(count),
+            Call::PutText { text, origins } => {
+                edit::put_text(buffer, text, origins, table).map(nothing)
+            }
+            Call::FetchText { .. } => {
+                let [text, origins] = &mut outputs[..] else {
+                    unreachable!("fetch text has two outputs");
+                };
+                edit::fetch_text(buffer, text, origins, table).map(Fetched::numbers)
+            }
         };
-        Answer { result, output }
+        Answer { result, outputs }
     }
 }

@@ -6,9 +6,11 @@ use std::ops::Range;
 use crate::attachment::{self, HEADER, HIGHEST_ID, LONGEST};
 use crate::bits::{bits_of, bytes_of, bytes_of_nibbles, nibbles_of, store_number};
 use crate::card::{CARD_BYTES, CARD_NIBBLES, Card, checksum};
+use crate::deck::CharacterSet;
 use crate::flag_table::FlagTable;
 use crate::flags::{self, FLAGS, HIGHEST_FLAG, quality_code};
 use crate::judge::{Report, judge};
+use crate::number::Number;
 use crate::refusal::{Refusal, refusal};
 use crate::table::{CK, Coded, Field, Scaled, field, place_on_card};
 use crate::text;
@@ -114,21 +116,57 @@ pub fn drop_attachment(buffer: &mut [u8], id: u64, table: &FlagTable) -> Result<
     replace(buffer, &report, whole, &[], report.ac - 1)
 }
 
-pub fn put_text(buffer: &mut [u8], text: &[u8], table: &FlagTable) -> Result<(), Refusal> {
+/// Puts a text: its bytes, and an origin for each.
+pub fn put_text(
+    buffer: &mut [u8],
+    text: &[u8],
+    origins: &[u8],
+    table: &FlagTable,
+) -> Result<(), Refusal> {
     let report = judge(buffer, table)?;
-    let nibbles = text::write(text);
+    if text.len() != origins.len() {
+        return Err(refusal(13, 0));
+    }
+    let symbols = text::symbols(text, origins).ok_or(refusal(14, 0))?;
+    let nibbles = text::write(&symbols);
     if nibbles.is_empty() || nibbles.len() > LONGEST {
         return Err(refusal(12, 0));
     }
     put_nibbles(buffer, &report, text::ID, &nibbles)
 }
 
-/// Writes the ship text to the output and gives its length.
-pub fn fetch_text(buffer: &[u8], output: &mut [u8], table: &FlagTable) -> Result<usize, Refusal> {
+/// What fetch text gives beside the two outputs.
+#[derive(Clone, Copy, Debug, PartialEq, Eq)]
+pub struct Fetched {
+    pub symbols: usize,
+    pub set: CharacterSet,
+}
+
+impl Fetched {
+    pub fn numbers(self) -> Vec<Number> {
+        vec![Number::count(self.symbols), Number::set(self.set)]
+    }
+}
+
+/// Writes the bytes of the ship text to one output and its origins to another.
+pub fn fetch_text(
+    buffer: &[u8],
+    text: &mut [u8],
+    origins: &mut [u8],
+    table: &FlagTable,
+) -> Result<Fetched, Refusal> {
     let report = judge(buffer, table)?;
     let data = standing(&report, u64::from(text::ID))?;
-    let text = text::read(&nibbles_of(buffer)[data]).expect("an accepted body has a text");
-    hold(&text, output)
+    let symbols = text::read(&nibbles_of(buffer)[data]).expect("an accepted body has a text");
+    if text.len().min(origins.len()) < symbols.len() {
+        return Err(refusal(13, 0));
+    }
+    hold(&text::bytes(&symbols), text)?;
+    hold(&text::origins(&symbols), origins)?;
+    Ok(Fetched {
+        symbols: symbols.len(),
+        set: report.observation.set(),
+    })
 }
 
 fn known_field(number: u64) -> Result<Field, Refusal> {
@@ -152,7 +190,7 @@ fn known_id(id: u64) -> Result<u8, Refusal> {
 }
 
 /// The places of an id's data nibbles in the report.
-fn standing(report: &Report, id: u64) -> Result<Range<usize>, Refusal> {
+pub fn standing(report: &Report, id: u64) -> Result<Range<usize>, Refusal> {
     let mut place = CARD_NIBBLES;
     for attachment in &report.observation.attachments {
         let end = place + attachment.size();

@@ -4,6 +4,7 @@ use crate::call::{Answer, Call};
 use crate::cases::{Case, Outcome};
 use crate::flag_table::FlagTable;
 use crate::judge::Report;
+use crate::number::Number;
 use crate::outside::Unpacked;
 use crate::refusal::Refusal;
 
@@ -65,6 +66,11 @@ pub fn inputs(case: &Case) -> String {
         }
         Case::Characters { table } => format!("characters {}", numbers(&**table)),
         Case::Load { marks } => format!("load {}", hex(marks)),
+        Case::ReadOut {
+            report,
+            text,
+            origins,
+        } => format!("read-out {} {} {}", hex(report), hex(text), hex(origins)),
         Case::Calls { buffer, calls } => {
             let mut parts = vec![format!("calls {}", hex(buffer))];
             parts.extend(calls.iter().map(call));
@@ -84,8 +90,8 @@ fn call(call: &Call) -> String {
         Call::Put { id, content } => format!("put {id} {}", hex(content)),
         Call::Fetch { id, output } => format!("fetch {id} {}", hex(output)),
         Call::Drop { id } => format!("drop {id}"),
-        Call::PutText { text } => format!("put-text {}", hex(text)),
-        Call::FetchText { output } => format!("fetch-text {}", hex(output)),
+        Call::PutText { text, origins } => format!("put-text {} {}", hex(text), hex(origins)),
+        Call::FetchText { text, origins } => format!("fetch-text {} {}", hex(text), hex(origins)),
     }
 }
 
@@ -132,6 +138,14 @@ fn outcome(outcome: &Outcome) -> String {
         Outcome::Load { result, table } => {
             let answer = accepted(result, |()| "ok".into());
             format!("{answer} {}", hex(&table.marks()))
+        }
+        Outcome::ReadOut {
+            result,
+            text,
+            origins,
+        } => {
+            let answer = accepted(result, |given| numbered(&given.numbers()));
+            format!("{answer} {} {}", hex(text), hex(origins))
         }
         Outcome::Calls(answers) => {
             let answers: Vec<String> = answers
@@ -182,17 +196,19 @@ fn unpacked(given: &Unpacked) -> String {
 }
 
 fn call_answer(answer: &Answer, buffer: &[u8]) -> String {
-    let given = accepted(&answer.result, |given| {
-        let mut words = vec!["ok".to_string()];
-        for number in given {
-            words.push(number.value.map_or("missing".into(), |n| n.to_string()));
-        }
-        words.join(" ")
-    });
-    match &answer.output {
-        Some(output) => format!("{given} {} {}", hex(buffer), hex(output)),
-        None => format!("{given} {}", hex(buffer)),
+    let mut words = vec![accepted(&answer.result, |given| numbered(given))];
+    words.push(hex(buffer));
+    words.extend(answer.outputs.iter().map(|output| hex(output)));
+    words.join(" ")
+}
+
+/// The numbers that are given.
+fn numbered(given: &[Number]) -> String {
+    let mut words = vec!["ok".to_string()];
+    for number in given {
+        words.push(number.value.map_or("missing".into(), |n| n.to_string()));
     }
+    words.join(" ")
 }
 
 pub fn hex(bytes: &[u8]) -> String {

@@ -1,5 +1,7 @@
 //! The numbers that an accepted call gives.
 
+use crate::deck::CharacterSet;
+
 /// What a number is. Each has a label.
 #[derive(Clone, Copy, Debug, PartialEq, Eq)]
 #[repr(u8)]
@@ -8,7 +10,7 @@ pub enum Quantity {
     Value = 1,
     /// A flag's value.
     Flag = 2,
-    /// How many bytes a fetch wrote.
+    /// How many bytes a fetch wrote to an output.
     Count = 3,
     /// The presence word.
     Word = 4,
@@ -21,6 +23,8 @@ pub enum Quantity {
     Bytes = 8,
     /// A tail's length in nibbles.
     Nibbles = 9,
+    /// The character set of the input deck.
+    Set = 10,
 }
 
 /// Added to the label of a number that is missing.
@@ -52,6 +56,13 @@ impl Number {
         Number {
             quantity: Quantity::Count,
             value: Some(count as i64),
+        }
+    }
+
+    pub fn set(set: CharacterSet) -> Number {
+        Number {
+            quantity: Quantity::Set,
+            value: Some(set as i64),
         }
     }
 

@@ -3,7 +3,8 @@
 use crate::attachment::Attachment;
 use crate::bits::bytes_of_nibbles;
 use crate::card::{CARD_NIBBLES, Card, checksum};
-use crate::table::{Coded, FIELDS, REQUIRED, Scaled, fields};
+use crate::deck::{CharacterSet, character_set};
+use crate::table::{Coded, FIELDS, REQUIRED, SID, Scaled, fields};
 
 #[derive(Clone, Debug, PartialEq, Eq)]
 pub struct Observation {
@@ -64,6 +65,11 @@ impl Observation {
     pub fn size(&self) -> usize {
         let tail: usize = self.attachments.iter().map(Attachment::size).sum();
         (CARD_NIBBLES + tail).div_ceil(2)
+    }
+
+    /// The character set of the input deck.
+    pub fn set(&self) -> CharacterSet {
+        character_set(self.values[SID - 1])
     }
 
     /// The nibbles of an id, if it stands.

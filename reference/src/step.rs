@@ -13,8 +13,34 @@ use crate::text;
 const FLAGS_ID: u64 = flags::ID as u64;
 const TEXT_ID: u64 = text::ID as u64;
 
-/// The caller's refusals in the order in which they are judged.
-const ORDER: [u8; 7] = [8, 9, 10, 11, 12, 14, 13];
+/// What the caller can be refused for.
+#[derive(Clone, Copy)]
+enum Fault {
+    /// Put text's two buffers have different lengths.
+    Lengths,
+    /// A byte of put text and its origin are no symbol.
+    Symbol,
+    Number,
+    Value,
+    Required,
+    Absent,
+    Length,
+    Content,
+    Room,
+}
+
+/// The faults and their refusals in the order in which they are judged.
+const ORDER: [(Fault, u8); 9] = [
+    (Fault::Lengths, 13),
+    (Fault::Symbol, 14),
+    (Fault::Number, 8),
+    (Fault::Value, 9),
+    (Fault::Required, 10),
+    (Fault::Absent, 11),
+    (Fault::Length, 12),
+    (Fault::Content, 14),
+    (Fault::Room, 13),
+];
 
 /// One step under a table of flags: the answer, and the observation after it. n is
 /// the buffer's length.
@@ -24,27 +50,27 @@ pub fn step(
     call: &Call,
     table: &FlagTable,
 ) -> (Observation, Answer) {
-    for number in ORDER {
-        if fits(number, observation, n, call, table) {
+    for (fault, number) in ORDER {
+        if fits(fault, observation, n, call, table) {
             let answer = Answer {
                 result: Err(Refusal {
                     number,
                     place: place(number, call),
                 }),
-                output: call.output(),
+                outputs: call.outputs(),
             };
             return (observation.clone(), answer);
         }
     }
     let after = moved(observation, call);
     let (given, written) = gives(observation, call);
-    let mut output = call.output();
-    if let Some(output) = &mut output {
+    let mut outputs = call.outputs();
+    for (output, written) in outputs.iter_mut().zip(written) {
         output.splice(..written.len(), written);
     }
     let answer = Answer {
         result: Ok(given),
-        output,
+        outputs,
     };
     (after, answer)
 }
@@ -59,19 +85,43 @@ fn place(number: u8, call: &Call) -> usize {
     }
 }
 
-/// Whether a refusal fits, given that none before it in the order does.
-fn fits(number: u8, observation: &Observation, n: usize, call: &Call, table: &FlagTable) -> bool {
-    match number {
-        8 => has_unknown_number(call),
-        9 => has_value_out_of_range(call) || sets_forbidden_flag(call, table),
-        10 => matches!(call, Call::ClearField { field } if REQUIRED.contains(&(*field as usize))),
-        11 => names_absent_attachment(observation, call),
-        12 => content_of(call).is_some_and(|(_, content)| !(1..=255).contains(&content.len())),
-        14 => content_of(call).is_some_and(|(id, content)| {
+/// Whether a fault fits, given that none before it in the order does.
+fn fits(fault: Fault, observation: &Observation, n: usize, call: &Call, table: &FlagTable) -> bool {
+    match fault {
+        Fault::Lengths => {
+            matches!(call, Call::PutText { text, origins } if text.len() != origins.len())
+        }
+        Fault::Symbol => has_no_symbol(call),
+        Fault::Number => has_unknown_number(call),
+        Fault::Value => has_value_out_of_range(call) || sets_forbidden_flag(call, table),
+        Fault::Required => {
+            matches!(call, Call::ClearField { field } if REQUIRED.contains(&(*field as usize)))
+        }
+        Fault::Absent => names_absent_attachment(observation, call),
+        Fault::Length => {
+            content_of(call).is_some_and(|(_, content)| !(1..=255).contains(&content.len()))
+        }
+        Fault::Content => content_of(call).is_some_and(|(id, content)| {
             content.iter().any(|&byte| byte > 15) || !is_valid_body(id, &content, table)
         }),
-        _ => lends_too_little(observation, n, call),
+        Fault::Room => lends_too_little(observation, n, call),
     }
+}
+
+/// Whether put text has a plain byte without a short code, or an origin over 1. The
+/// table of the characters has three nibbles for a byte without a short code.
+fn has_no_symbol(call: &Call) -> bool {
+    let Call::PutText { text, origins } = call else {
+        return false;
+    };
+    let table = text::table();
+    let has_short_code = |byte: u8| table[usize::from(byte)] >> 12 < 3;
+    let mut pairs = text.iter().zip(origins);
+    pairs.any(|(&byte, &origin)| match origin {
+        0 => !has_short_code(byte),
+        1 => false,
+        _ => true,
+    })
 }
 
 fn has_unknown_number(call: &Call) -> bool {
@@ -114,9 +164,10 @@ fn names_absent_attachment(observation: &Observation, call: &Call) -> bool {
 }
 
 fn lends_too_little(observation: &Observation, n: usize, call: &Call) -> bool {
-    let output_too_short = call
-        .output()
-        .is_some_and(|output| output.len() < gives(observation, call).1.len());
+    let (_, written) = gives(observation, call);
+    let outputs = call.outputs();
+    let mut pairs = outputs.iter().zip(&written);
+    let output_too_short = pairs.any(|(output, written)| output.len() < written.len());
     output_too_short || moved(observation, call).size() > n
 }
 
@@ -124,7 +175,10 @@ fn lends_too_little(observation: &Observation, n: usize, call: &Call) -> bool {
 fn content_of(call: &Call) -> Option<(u8, Vec<u8>)> {
     match call {
         Call::Put { id, content } => Some((*id as u8, content.clone())),
-        Call::PutText { text } => Some((text::ID, text::write(text))),
+        Call::PutText { text, origins } => {
+            let symbols = text::symbols(text, origins).expect("its symbols are judged before");
+            Some((text::ID, text::write(&symbols)))
+        }
         _ => None,
     }
 }
@@ -174,8 +228,8 @@ fn place_content(observation: &mut Observation, new: Attachment) {
     }
 }
 
-/// The numbers that an accepted call gives, and what it writes to its output.
-fn gives(observation: &Observation, call: &Call) -> (Vec<Number>, Vec<u8>) {
+/// The numbers that an accepted call gives, and what it writes to each output.
+fn gives(observation: &Observation, call: &Call) -> (Vec<Number>, Vec<Vec<u8>>) {
     match call {
         Call::ReadField { field } => {
             let value = observation.values[*field as usize - 1];
@@ -190,12 +244,13 @@ fn gives(observation: &Observation, call: &Call) -> (Vec<Number>, Vec<u8>) {
         }
         Call::Fetch { id, .. } => {
             let nibbles = observation.content(*id).expect("the id stands").to_vec();
-            (vec![Number::count(nibbles.len())], nibbles)
+            (vec![Number::count(nibbles.len())], vec![nibbles])
         }
         Call::FetchText { .. } => {
             let nibbles = observation.content(TEXT_ID).expect("id 4 stands");
             let text = text::read(nibbles).expect("id 4 holds a text");
-            (vec![Number::count(text.len())], text)
+            let given = vec![Number::count(text.len()), Number::set(observation.set())];
+            (given, vec![text::bytes(&text), text::origins(&text)])
         }
         _ => (Vec::new(), Vec::new()),
     }

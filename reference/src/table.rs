@@ -111,6 +111,7 @@ pub const ROWS: [Row; 49] = [
 
 pub const FIELDS: usize = 46;
 pub const RPTIN: usize = 0;
+pub const SID: usize = 10;
 pub const CK: usize = 47;
 pub const AC: usize = 48;
 

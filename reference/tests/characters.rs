@@ -6,14 +6,15 @@ mod common;
 use std::collections::BTreeSet;
 
 use common::all_flags::{line, run_case, run_list};
-use common::{SHORT, table_by_hand};
+use common::{SHORT, plain, table_by_hand};
 use reference::call::{Answer, Call};
-use reference::cases::{Case, Outcome, fixed, flag_tables};
+use reference::cases::material::{all_symbols, symbols_of};
+use reference::cases::{Case, Outcome, fixed, flag_tables, symbols};
 use reference::gate::{SEED, list_cases, record, text_cases, whole_cases};
 use reference::outside::characters;
 use reference::prng::Prng;
 use reference::refusal::refusal;
-use reference::text::{Table, read, table, write};
+use reference::text::{self, Symbol, Table, read, table, write};
 
 /// The nibbles that an entry stands for.
 fn nibbles_of(entry: u16) -> Vec<u8> {
@@ -72,10 +73,10 @@ fn entries_by_length() {
 fn entries_beside_the_writer() {
     for (byte, entry) in (0..=255).zip(table()) {
         if byte != b' ' {
-            assert_eq!(nibbles_of(entry), write(&[byte]), "{byte}");
+            assert_eq!(nibbles_of(entry), write(&symbols_of(&[byte])), "{byte}");
         }
         let before_a_digit = [nibbles_of(entry), vec![5]].concat();
-        assert_eq!(before_a_digit, write(&[byte, b'5']), "{byte}");
+        assert_eq!(before_a_digit, write(&symbols_of(&[byte, b'5'])), "{byte}");
     }
 }
 
@@ -83,29 +84,39 @@ fn entries_beside_the_writer() {
 fn entries_are_read_as_their_bytes() {
     for (byte, entry) in (0..=255).zip(table()) {
         let mut nibbles = nibbles_of(entry);
-        let alone = (byte != b' ').then_some(vec![byte]);
+        let alone = (byte != b' ').then_some(symbols_of(&[byte]));
         assert_eq!(read(&nibbles), alone, "{byte}");
         nibbles.push(5);
-        assert_eq!(read(&nibbles), Some(vec![byte, b'5']), "{byte}");
+        assert_eq!(read(&nibbles), Some(symbols_of(&[byte, b'5'])), "{byte}");
     }
 }
 
-/// Every row of one to three nibbles that the reader takes for one byte. A digit
-/// stands behind it, as a space is dropped at the end.
+/// Every row of one to three nibbles that is read as one symbol is the entry of a plain
+/// byte, or 15 and an original one. A digit stands behind it, as a plain space is
+/// dropped at the end.
 #[test]
-fn codes_of_the_reader_are_entries() {
-    let table = table();
+fn codes_that_are_read_are_entries() {
+    let (table, digit) = (table(), plain(b"5")[0]);
     let mut found = BTreeSet::new();
     for length in 1..=3 {
         for number in 0..1_u16 << (4 * length) {
             let code = nibbles_of(length << 12 | number);
-            if let Some(&[byte, b'5']) = read(&[code, vec![5]].concat()).as_deref() {
-                assert_eq!(table[usize::from(byte)], 4096 * length + number, "{byte}");
-                assert!(found.insert(byte), "{byte} has two codes");
+            let Some(&[symbol, last]) = read(&[code, vec![5]].concat()).as_deref() else {
+                continue;
+            };
+            if last == digit {
+                let byte = symbol.byte();
+                let entry = match symbol.origin() {
+                    0 => table[usize::from(byte)],
+                    _ => 0x3F00 + u16::from(byte),
+                };
+                assert_eq!(entry, 4096 * length + number, "{symbol:?}");
+                assert!(found.insert(symbol), "{symbol:?} has two codes");
             }
         }
     }
-    assert_eq!(found, (0..=255).collect());
+    assert_eq!(found, all_symbols().into_iter().collect());
+    assert_eq!(found.len(), 256 + SHORT.len());
 }
 
 fn former_contents() -> Vec<Table> {
@@ -166,14 +177,14 @@ fn records_by_hand() {
     assert_eq!(input, [&[9][..], &[0xFF, 0xFE].repeat(256)].concat());
 }
 
-/// Before the cases of the table of flags, the fixed ones and the gate's end with the
-/// same arrays.
+/// Before the cases of the table of flags and of symbols, the fixed ones and the gate's
+/// end with the same arrays.
 #[test]
 fn cases_end_with_arrays() {
     let before_flags = |mut cases: Vec<Case>| {
-        let flags = flag_tables::cases();
-        assert!(cases.ends_with(&flags));
-        cases.truncate(cases.len() - flags.len());
+        let behind = [flag_tables::cases(), symbols::cases()].concat();
+        assert!(cases.ends_with(&behind));
+        cases.truncate(cases.len() - behind.len());
         cases
     };
     let tables = |cases: Vec<Case>| -> Vec<Table> {
@@ -205,26 +216,27 @@ fn cases_end_with_arrays() {
 }
 
 /// The nibbles of a text without runs of three spaces; trailing ones are dropped.
-fn nibbles_by_hand(text: &[u8]) -> Vec<u8> {
-    let end = text.iter().rposition(|&byte| byte != b' ');
+fn nibbles_by_hand(text: &[Symbol]) -> Vec<u8> {
+    let end = text.iter().rposition(|&symbol| symbol != Symbol::SPACE);
     let written = end.map_or(&[][..], |end| &text[..=end]);
     let table = table_by_hand();
-    let codes = written
-        .iter()
-        .map(|&byte| nibbles_of(table[usize::from(byte)]));
+    let codes = written.iter().map(|symbol| match symbol.origin() {
+        0 => nibbles_of(table[usize::from(symbol.byte())]),
+        _ => vec![15, symbol.byte() / 16, symbol.byte() % 16],
+    });
     codes.flatten().collect()
 }
 
-fn length_by_hand(text: &[u8]) -> usize {
+fn length_by_hand(text: &[Symbol]) -> usize {
     nibbles_by_hand(text).len()
 }
 
 /// What the lists put and fetch, in order.
 #[derive(Default)]
 struct Texts {
-    put: Vec<Vec<u8>>,
+    put: Vec<Vec<Symbol>>,
     nibbles: Vec<Vec<u8>>,
-    fetched: Vec<Vec<u8>>,
+    fetched: Vec<Vec<Symbol>>,
 }
 
 fn texts() -> Texts {
@@ -234,7 +246,8 @@ fn texts() -> Texts {
         assert_eq!(ran.taken, list.script.len());
         for (call, answer) in ran.calls {
             match call {
-                Call::PutText { text } => {
+                Call::PutText { text, origins } => {
+                    let text = text::symbols(&text, &origins).unwrap();
                     let due = match length_by_hand(&text) {
                         1..=255 => Ok(Vec::new()),
                         _ => Err(refusal(12, 0)),
@@ -242,8 +255,13 @@ fn texts() -> Texts {
                     assert_eq!(answer.result, due, "{text:?}");
                     texts.put.push(text);
                 }
-                Call::Fetch { id: 4, .. } => texts.nibbles.push(given(answer)),
-                Call::FetchText { .. } => texts.fetched.push(given(answer)),
+                Call::Fetch { id: 4, .. } => texts.nibbles.extend(given(answer, &[0xEE])),
+                Call::FetchText { .. } => {
+                    let rows = given(answer, &[0xEE, 0xDD]);
+                    texts
+                        .fetched
+                        .push(text::symbols(&rows[0], &rows[1]).unwrap());
+                }
                 other => panic!("{other:?}"),
             }
         }
@@ -251,37 +269,44 @@ fn texts() -> Texts {
     texts
 }
 
-/// What a fetch gives. The rest of its output stays.
-fn given(answer: Answer) -> Vec<u8> {
+/// What a fetch gives. The rest of its outputs stays.
+fn given(answer: Answer, lent: &[u8]) -> Vec<Vec<u8>> {
     let length = answer.result.unwrap()[0].value.unwrap() as usize;
-    let mut output = answer.output.unwrap();
-    assert!(output[length..].iter().all(|&byte| byte == 0xEE));
-    output.truncate(length);
-    output
+    let mut outputs = answer.outputs;
+    assert_eq!(outputs.len(), lent.len());
+    for (output, lent) in outputs.iter_mut().zip(lent) {
+        assert!(output[length..].iter().all(|byte| byte == lent));
+        output.truncate(length);
+    }
+    outputs
 }
 
+/// The plain symbols stand behind the original ones of their bytes.
 #[test]
-fn lists_take_every_byte_through_the_writer() {
+fn lists_take_every_symbol_through_the_writer() {
     let texts = texts();
-    let (by_byte, others) = texts.put.split_at(3 * 256);
-    let alone = (0..=255).map(|byte| vec![byte]);
-    let behind = (0..=255).map(|byte| vec![b' ', byte]);
-    let in_front = (0..=255).map(|byte| vec![byte, b' ', b'0']);
-    let mut due: Vec<Vec<u8>> = alone.chain(behind).chain(in_front).collect();
-    assert_eq!(by_byte, due);
-    // Spaces alone are refused: the report's own text stands, or the one put before.
-    due[32] = vec![b'7'];
-    due[256 + 32] = vec![b' ', 31];
+    let all = all_symbols();
+    assert_eq!((all.len(), all[33]), (299, Symbol::SPACE));
+    let (by_symbol, others) = texts.put.split_at(3 * 299);
+    let [space, digit] = [Symbol::SPACE, plain(b"0")[0]];
+    let alone = all.iter().map(|&symbol| vec![symbol]);
+    let behind = all.iter().map(|&symbol| vec![space, symbol]);
+    let in_front = all.iter().map(|&symbol| vec![symbol, space, digit]);
+    let mut due: Vec<Vec<Symbol>> = alone.chain(behind).chain(in_front).collect();
+    assert_eq!(by_symbol, due);
+    // Spaces alone are refused: the text put before stands.
+    due[33] = vec![Symbol::original(b' ')];
+    due[299 + 33] = vec![space, Symbol::original(b' ')];
     let accepted = others.iter().filter(|text| length_by_hand(text) <= 255);
     due.extend(accepted.cloned());
     assert_eq!(texts.fetched, due);
-    // The nibbles of a byte beside a space are not fetched.
-    due.drain(256..3 * 256);
+    // The nibbles of a symbol beside a space are not fetched.
+    due.drain(299..3 * 299);
     let nibbles: Vec<Vec<u8>> = due.iter().map(|text| nibbles_by_hand(text)).collect();
     assert_eq!(texts.nibbles, nibbles);
     for first in 1..=3 {
         for second in (1..=3).filter(|&second| second != first) {
-            let is_pair = |text: &&Vec<u8>| {
+            let is_pair = |text: &&Vec<Symbol>| {
                 let lengths = [&text[..1], &text[1..]].map(length_by_hand);
                 text.len() == 2 && lengths == [first, second]
             };
@@ -291,7 +316,7 @@ fn lists_take_every_byte_through_the_writer() {
     }
     for last in 1..=3 {
         for nibbles in [255, 256] {
-            let ends_so = |text: &&Vec<u8>| {
+            let ends_so = |text: &&Vec<Symbol>| {
                 let end = &text[text.len() - 1..];
                 length_by_hand(text) == nibbles && length_by_hand(end) == last
             };

@@ -39,7 +39,7 @@ fn s_set_to_286_then_text_a1() {
     assert_eq!(buffer[25..27], [0x14, 0x18]);
     assert_eq!(judge(&buffer).unwrap().ck, 251);
     assert_eq!(buffer[36..38], [0xFB, 0]);
-    assert_eq!(put_text(&mut buffer, b"A1"), Ok(()));
+    assert_eq!(put_text(&mut buffer, b"A1", &[0, 0]), Ok(()));
     assert_eq!(buffer[36], 0xFB);
     assert_eq!(buffer[37..41], [0x10, 0x34, 0xC1, 0x10]);
     let report = judge(&buffer).unwrap();
@@ -82,9 +82,11 @@ fn s_below_its_range() {
     assert_eq!(buffer, expected);
 }
 
-fn nibbles_of_text(text: &[u8]) -> Vec<u8> {
+/// The nibbles of bytes that are all plain or all original.
+fn nibbles_of_text(text: &[u8], origin: u8) -> Vec<u8> {
     let mut buffer = fresh_buffer(200);
-    assert_eq!(put_text(&mut buffer, text), Ok(()));
+    let origins = vec![origin; text.len()];
+    assert_eq!(put_text(&mut buffer, text, &origins), Ok(()));
     let mut output = [0xEE; 255];
     let count = fetch(&buffer, 4, &mut output).unwrap();
     output[..count].to_vec()
@@ -92,10 +94,10 @@ fn nibbles_of_text(text: &[u8]) -> Vec<u8> {
 
 #[test]
 fn texts() {
-    assert_eq!(nibbles_of_text(b"12   3"), [1, 2, 11, 0, 3]);
+    assert_eq!(nibbles_of_text(b"12   3", 0), [1, 2, 11, 0, 3]);
     let twenty = [&[b' '; 20][..], b"B"].concat();
-    assert_eq!(nibbles_of_text(&twenty), [11, 15, 10, 10, 12, 2]);
-    assert_eq!(nibbles_of_text(b"a"), [15, 6, 1]);
+    assert_eq!(nibbles_of_text(&twenty, 0), [11, 15, 10, 10, 12, 2]);
+    assert_eq!(nibbles_of_text(b"a", 1), [15, 6, 1]);
 }
 
 #[test]
@@ -110,9 +112,10 @@ fn three_spaces_spelled_out() {
 #[test]
 fn eighty_five_escapes_fit_and_eighty_six_do_not() {
     let mut buffer = fresh_buffer(200);
-    assert_eq!(put_text(&mut buffer, &[b'a'; 85]), Ok(()));
+    assert_eq!(put_text(&mut buffer, &[b'a'; 85], &[1; 85]), Ok(()));
     let after = buffer.clone();
-    assert_eq!(put_text(&mut buffer, &[b'a'; 86]), refused(12, 0));
+    let refusal = put_text(&mut buffer, &[b'a'; 86], &[1; 86]);
+    assert_eq!(refusal, refused(12, 0));
     assert_eq!(buffer, after);
 }
 
@@ -177,7 +180,7 @@ fn al_counts_nibbles() {
 #[test]
 fn nineteen_spaces() {
     let nineteen = [&[b' '; 19][..], b"1"].concat();
-    assert_eq!(nibbles_of_text(&nineteen), [11, 15, 10, 1]);
+    assert_eq!(nibbles_of_text(&nineteen, 0), [11, 15, 10, 1]);
     let mut buffer = fresh_buffer(60);
     assert_eq!(put(&mut buffer, 4, &[10, 11, 15, 1]), refused(14, 0));
 }

@@ -120,7 +120,8 @@ fn r11_flags_and_attachments() {
     refuses(&buffer, 11, 0, |b| clear_flag(b, 1));
     refuses(&buffer, 11, 0, |b| fetch(b, 8, &mut [0; 3]));
     refuses(&buffer, 11, 0, |b| drop_attachment(b, 8));
-    refuses(&buffer, 11, 0, |b| fetch_text(b, &mut [0; 3]));
+    refuses(&buffer, 11, 0, |b| fetch_text(b, &mut [0; 3], &mut [0; 3]));
+    refuses(&buffer, 11, 0, |b| fetch_text(b, &mut [], &mut [0; 3]));
 }
 
 #[test]
@@ -159,17 +160,24 @@ fn r12_content() {
             refuses(&buffer, 12, 0, |b| put(b, id, &vec![16; length]));
         }
     }
-    refuses(&buffer, 12, 0, |b| put_text(b, b""));
-    refuses(&buffer, 12, 0, |b| put_text(b, &[b' '; 300]));
-    refuses(&buffer, 12, 0, |b| put_text(b, &[b'7'; 256]));
-    refuses(&buffer, 12, 0, |b| put_text(b, &[b'Z'; 128]));
+    refuses(&buffer, 12, 0, |b| put_text(b, b"", &[]));
+    refuses(&buffer, 12, 0, |b| put_text(b, &[b' '; 300], &[0; 300]));
+    refuses(&buffer, 12, 0, |b| put_text(b, &[b'7'; 256], &[0; 256]));
+    refuses(&buffer, 12, 0, |b| put_text(b, &[b'Z'; 128], &[0; 128]));
+    refuses(&buffer, 12, 0, |b| put_text(b, &[b'7'; 86], &[1; 86]));
+    refuses(&buffer, 12, 0, |b| put_text(b, &[b' '; 86], &[1; 86]));
     let mut after = buffer.clone();
-    for text in [
-        vec![b'7'; 255],
-        vec![b'Z'; 127],
-        [vec![b'a'; 85], vec![b' '; 9]].concat(),
+    for (text, origins) in [
+        (vec![b'7'; 255], vec![0; 255]),
+        (vec![b'Z'; 127], vec![0; 127]),
+        (vec![b'7'; 85], vec![1; 85]),
+        (vec![b' '; 85], vec![1; 85]),
+        (
+            [vec![b'a'; 85], vec![b' '; 9]].concat(),
+            [[1; 85].to_vec(), vec![0; 9]].concat(),
+        ),
     ] {
-        assert_eq!(put_text(&mut after, &text), Ok(()));
+        assert_eq!(put_text(&mut after, &text, &origins), Ok(()));
     }
 }
 
@@ -190,10 +198,12 @@ fn r14_content() {
     other_code[0] = 11;
     refuses(&buffer, 14, 0, |b| put(b, 1, &other_code));
     refuses(&buffer, 14, 0, |b| put(b, 4, &[1, 10]));
-    refuses(&buffer, 14, 0, |b| put(b, 4, &[15, 4, 1]));
+    refuses(&buffer, 14, 0, |b| put(b, 4, &[15, 2, 0, 10]));
     let mut after = buffer.clone();
-    assert_eq!(put(&mut after, 5, &[15, 4, 1]), Ok(()));
-    assert_eq!(put(&mut after, 4, &[15, 4, 0]), Ok(()));
+    assert_eq!(put(&mut after, 5, &[1, 10]), Ok(()));
+    for body in [[15, 4, 0], [15, 4, 1], [15, 2, 0]] {
+        assert_eq!(put(&mut after, 4, &body), Ok(()));
+    }
 }
 
 #[test]
@@ -202,7 +212,7 @@ fn r13_buffer() {
     for n in [38, 39] {
         let buffer = fresh_buffer(n);
         refuses(&buffer, 13, 0, |b| put(b, 5, &[1]));
-        refuses(&buffer, 13, 0, |b| put_text(b, b"1"));
+        refuses(&buffer, 13, 0, |b| put_text(b, b"1", &[0]));
     }
     let mut buffer = fresh_buffer(40);
     assert_eq!(put(&mut buffer, 5, &[1]), Ok(()));
@@ -221,20 +231,97 @@ fn r13_output() {
         assert_eq!(fetch(&buffer, 9, &mut output), refused(13, 0));
         assert_eq!(output, vec![0xEE; length]);
     }
-    for length in 0..2 {
-        let mut output = vec![0xEE; length];
-        assert_eq!(fetch_text(&buffer, &mut output), refused(13, 0));
-        assert_eq!(output, vec![0xEE; length]);
-    }
     let mut output = [0xEE; 5];
     assert_eq!(fetch(&buffer, 9, &mut output), Ok(3));
     assert_eq!(output, [3, 4, 5, 0xEE, 0xEE]);
     let mut output = [0xEE; 3];
     assert_eq!(fetch(&buffer, 9, &mut output), Ok(3));
     assert_eq!(output, [3, 4, 5]);
-    let mut output = [0xEE; 4];
-    assert_eq!(fetch_text(&buffer, &mut output), Ok(2));
-    assert_eq!(output, [b'A', b'1', 0xEE, 0xEE]);
+}
+
+#[test]
+fn r13_either_output_of_a_text() {
+    let buffer = fresh_with_tail(1, &[0, 6, 4, 12, 1, 1, 15, 4, 1]);
+    for text in 0..6 {
+        for origins in 0..6 {
+            let (mut bytes, mut marks) = (vec![0xEE; text], vec![0xDD; origins]);
+            let answer = fetch_text(&buffer, &mut bytes, &mut marks);
+            let (mut due, mut due_marks) = (vec![0xEE; text], vec![0xDD; origins]);
+            if text < 3 || origins < 3 {
+                assert_eq!(answer, refused(13, 0));
+            } else {
+                assert_eq!(answer.map(|given| given.symbols), Ok(3));
+                due[..3].copy_from_slice(b"A1A");
+                due_marks[..3].copy_from_slice(&[0, 0, 1]);
+            }
+            assert_eq!((bytes, marks), (due, due_marks), "{text} {origins}");
+        }
+    }
+}
+
+/// 13 for lengths that differ, then 14, then 12, then 13 for the buffer.
+#[test]
+fn the_order_of_put_text() {
+    let full = fresh_buffer(38);
+    let bad = [
+        (&b"a"[..], 0),
+        (b"\0", 0),
+        (b"1", 2),
+        (b" ", 255),
+        (b"a", 2),
+    ];
+    for (byte, origin) in bad {
+        refuses(&full, 14, 0, |b| put_text(b, byte, &[origin]));
+        refuses(&full, 13, 0, |b| put_text(b, byte, &[]));
+        refuses(&full, 13, 0, |b| put_text(b, byte, &[origin; 2]));
+        refuses(&full, 13, 0, |b| put_text(b, &[byte[0]; 2], &[origin]));
+        // Behind or before 86 originals, which alone are refused by 12.
+        let behind = (
+            [&[b'a'; 86], byte].concat(),
+            [&[1; 86][..], &[origin]].concat(),
+        );
+        let before = (
+            [byte, &[b'a'; 86]].concat(),
+            [&[origin][..], &[1; 86]].concat(),
+        );
+        for (text, origins) in [behind, before] {
+            refuses(&full, 14, 0, |b| put_text(b, &text, &origins));
+            refuses(&full, 13, 0, |b| put_text(b, &text[1..], &origins));
+        }
+        // Behind spaces that alone come to no nibbles.
+        let text = [b"   ", byte].concat();
+        refuses(&full, 14, 0, |b| put_text(b, &text, &[0, 0, 0, origin]));
+    }
+    refuses(&full, 13, 0, |b| put_text(b, b"", &[0]));
+    refuses(&full, 13, 0, |b| put_text(b, b" ", &[]));
+    refuses(&full, 13, 0, |b| put_text(b, &[b'a'; 86], &[1; 85]));
+    // 300 and 44 differ by 256.
+    refuses(&full, 13, 0, |b| put_text(b, &[b'a'; 300], &[0; 44]));
+    refuses(&full, 12, 0, |b| put_text(b, b"", &[]));
+    refuses(&full, 12, 0, |b| put_text(b, b" ", &[0]));
+    refuses(&full, 12, 0, |b| put_text(b, &[b'a'; 86], &[1; 86]));
+    refuses(&full, 13, 0, |b| put_text(b, b" ", &[1]));
+    refuses(&full, 13, 0, |b| put_text(b, &[b'a'; 85], &[1; 85]));
+}
+
+/// Ten digits, the space, 26 letters and six marks have a short code.
+#[test]
+fn r14_symbols() {
+    let buffer = fresh_buffer(60);
+    let mut plain = 0;
+    for byte in 0..=255 {
+        let mut after = buffer.clone();
+        assert_eq!(put_text(&mut after, &[byte, b'1'], &[1, 0]), Ok(()));
+        if put_text(&mut after, &[byte, b'1'], &[0, 0]).is_ok() {
+            plain += 1;
+        } else {
+            refuses(&buffer, 14, 0, |b| put_text(b, &[byte, b'1'], &[0, 0]));
+        }
+        for origin in [2, 3, 127, 128, 255] {
+            refuses(&buffer, 14, 0, |b| put_text(b, &[byte], &[origin]));
+        }
+    }
+    assert_eq!(plain, 43);
 }
 
 #[test]
@@ -257,9 +344,9 @@ fn puts_keep_the_order_and_drops_close_it() {
     assert_eq!(drop_attachment(&mut buffer, 9), Ok(()));
     assert_eq!(put(&mut buffer, 9, &[2]), Ok(()));
     assert_eq!(ids(&buffer), [2, 7, 9]);
-    assert_eq!(put_text(&mut buffer, b"1"), Ok(()));
+    assert_eq!(put_text(&mut buffer, b"1", &[0]), Ok(()));
     assert_eq!(put(&mut buffer, 4, &[2]), Ok(()));
-    assert_eq!(put_text(&mut buffer, b" 3"), Ok(()));
+    assert_eq!(put_text(&mut buffer, b" 3", &[0, 1]), Ok(()));
     assert_eq!(ids(&buffer), [2, 7, 9, 4]);
 }
 
@@ -286,7 +373,9 @@ fn a_refused_report_is_refused_whatever_the_call() {
         refuses(buffer, number, place, |b| put(b, 0, &[]));
         refuses(buffer, number, place, |b| fetch(b, 9, &mut []));
         refuses(buffer, number, place, |b| drop_attachment(b, 16));
-        refuses(buffer, number, place, |b| put_text(b, b""));
-        refuses(buffer, number, place, |b| fetch_text(b, &mut []));
+        refuses(buffer, number, place, |b| put_text(b, b"", &[]));
+        refuses(buffer, number, place, |b| put_text(b, b"a", &[]));
+        refuses(buffer, number, place, |b| put_text(b, b"a", &[0]));
+        refuses(buffer, number, place, |b| fetch_text(b, &mut [], &mut []));
     }
 }

@@ -337,8 +337,10 @@ fn every_call_of_the_list_refuses_such_a_report() {
     refuses(&buffer, 6, 2, |b| put(b, 1, &R, &table));
     refuses(&buffer, 6, 2, |b| fetch(b, 9, &mut [0; 3], &table));
     refuses(&buffer, 6, 2, |b| drop_attachment(b, 1, &table));
-    refuses(&buffer, 6, 2, |b| put_text(b, b"A", &table));
-    refuses(&buffer, 6, 2, |b| fetch_text(b, &mut [0; 3], &table));
+    refuses(&buffer, 6, 2, |b| put_text(b, b"A", &[0], &table));
+    refuses(&buffer, 6, 2, |b| {
+        fetch_text(b, &mut [0; 3], &mut [0; 3], &table)
+    });
     // The report is checked before the arguments.
     refuses(&buffer, 6, 2, |b| set_flag(b, 15, 2, &table));
     refuses(&buffer, 6, 2, |b| set_flag(b, 1, 2, &table));

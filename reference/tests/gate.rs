@@ -152,21 +152,73 @@ fn by_hand() -> Vec<(Call, &'static str, &'static str)> {
         (
             Call::PutText {
                 text: b"A1".to_vec(),
+                origins: vec![0, 2],
             },
-            "0A 0000000000000002 4131",
+            "0A 0000000000000002 4131 0000000000000002 0002",
+            "00 0E 0000000000000000",
+        ),
+        (
+            Call::PutText {
+                text: b"A1".to_vec(),
+                origins: vec![0],
+            },
+            "0A 0000000000000002 4131 0000000000000001 00",
+            "00 0D 0000000000000000",
+        ),
+        (
+            Call::PutText {
+                text: b"A1".to_vec(),
+                origins: vec![0, 0],
+            },
+            "0A 0000000000000002 4131 0000000000000002 0000",
             "01 00 0000000000000000",
         ),
         (
-            Call::FetchText { output: vec![7] },
-            "0B 0000000000000001 07",
-            "00 0D 0000000000000000 | 07",
+            Call::FetchText {
+                text: vec![7],
+                origins: vec![5, 6],
+            },
+            "0B 0000000000000001 07 0000000000000002 0506",
+            "00 0D 0000000000000000 | 07 0506",
         ),
         (
             Call::FetchText {
-                output: vec![7, 8, 9],
+                text: vec![7, 8, 9],
+                origins: vec![4, 5, 6, 7],
             },
-            "0B 0000000000000003 070809",
-            "01 00 0000000000000000 03 0000000000000002 | 413109",
+            "0B 0000000000000003 070809 0000000000000004 04050607",
+            "01 00 0000000000000000 03 0000000000000002 0A 0000000000000000
+             | 413109 00000607",
+        ),
+        (
+            Call::SetField {
+                field: 10,
+                value: 18,
+            },
+            "02 000000000000000A 0000000000000012",
+            "01 00 0000000000000000",
+        ),
+        (
+            Call::FetchText {
+                text: vec![7, 8],
+                origins: vec![5, 6],
+            },
+            "0B 0000000000000002 0708 0000000000000002 0506",
+            "01 00 0000000000000000 03 0000000000000002 0A 0000000000000002
+             | 4131 0000",
+        ),
+        (
+            Call::ClearField { field: 10 },
+            "03 000000000000000A",
+            "01 00 0000000000000000",
+        ),
+        (
+            Call::FetchText {
+                text: vec![],
+                origins: vec![],
+            },
+            "0B 0000000000000000 0000000000000000",
+            "00 0D 0000000000000000",
         ),
     ]
 }
@@ -204,7 +256,9 @@ fn unknown_kinds_are_no_calls() {
 #[test]
 fn counts_are_whole_numbers() {
     for count in ["0000000100000001", "8000000000000001", "FFFFFFFFFFFFFFFF"] {
-        assert_eq!(first_call(&hex(&format!("0A {count} 41"))), None);
+        let first = hex(&format!("0A {count} 41 0000000000000001 00"));
+        let second = hex(&format!("0A 0000000000000001 41 {count} 00"));
+        assert_eq!((first_call(&first), first_call(&second)), (None, None));
     }
 }
 
@@ -214,7 +268,7 @@ fn a_list_by_hand() {
     let log: Vec<u8> = by_hand().iter().flat_map(|line| logged(line.2)).collect();
     let mut buffer = fresh_buffer(60);
     let ran = run(&mut buffer, &script, 5000);
-    assert_eq!(ran.calls.len(), 20);
+    assert_eq!(ran.calls.len(), 26);
     assert_eq!(ran.taken, script.len());
     assert_eq!(ran.log, log);
     assert_eq!(buffer, buffer_after());
@@ -225,12 +279,12 @@ fn a_log_ends_a_list_before_the_entry_that_does_not_fit() {
     let calls: Vec<Call> = by_hand().into_iter().map(|line| line.0).collect();
     let script = script(&calls);
     let whole = List::of(fresh_buffer(60), &calls).room;
-    let (last, before) = (1 + 8 + 3, 37 + 3);
+    let (last, before) = (1 + 8 + 8, 37);
     for (room, taken, log) in [
         (whole, script.len(), whole),
         (whole - 1, script.len() - last, whole - before),
-        (whole - 3, script.len() - last, whole - before),
-        (whole - 4, script.len() - last, whole - before),
+        (whole - 36, script.len() - last, whole - before),
+        (whole - 37, script.len() - last, whole - before),
         (0, 0, 0),
         (10, 0, 0),
         (19, 0, 0),
@@ -272,6 +326,7 @@ fn labels_by_hand() {
         (Quantity::Attachments, 7),
         (Quantity::Bytes, 8),
         (Quantity::Nibbles, 9),
+        (Quantity::Set, 10),
     ] {
         let number = |value| Number { quantity, value };
         assert_eq!(number(Some(-1)).label(), label);
@@ -297,46 +352,58 @@ fn rows_by_hand() {
     .iter()
     .enumerate()
     {
-        for output in [None, Some(vec![]), Some(vec![5, 6])] {
+        for (outputs, written) in [
+            (vec![], vec![]),
+            (vec![vec![]], vec![]),
+            (vec![vec![5, 6]], vec![5, 6]),
+            (vec![vec![5, 6], vec![7]], vec![5, 6, 7]),
+            (vec![vec![], vec![7]], vec![7]),
+        ] {
             let answer = Answer {
                 result: Ok(three[..count].to_vec()),
-                output: output.clone(),
+                outputs,
             };
-            let record = [hex(&format!("{head} {row}")), output.unwrap_or_default()];
+            let record = [hex(&format!("{head} {row}")), written];
             assert_eq!(log::record(&answer), record.concat());
         }
     }
 }
 
-/// A record has 37 bytes and the output, refused or not. No call gives more than
-/// one number.
+/// A record has 37 bytes and the outputs, refused or not. Fetch text gives two
+/// numbers, and no other call more than one.
 #[test]
 fn records_of_every_list() {
     for list in list_cases::lists(SEED) {
         let (_, ran) = run_list(&list);
         let mut rest = &ran.log[..];
         for (call, answer) in &ran.calls {
-            let output = answer.output.clone().unwrap_or_default();
+            let output = answer.outputs.concat();
             assert_eq!(record_size(call), 37 + output.len());
             let (record, behind) = rest.split_at(37 + output.len());
-            let number = match &answer.result {
+            let row = match &answer.result {
                 Err(refusal) => {
                     assert_eq!(record[..2], [0, refusal.number], "{call:?}");
                     let place = refusal.place as u64;
                     assert_eq!(record[2..10], place.to_be_bytes(), "{call:?}");
-                    vec![0; 9]
+                    vec![0; 27]
                 }
                 Ok(numbers) => {
                     assert_eq!(record[..10], [1, 0, 0, 0, 0, 0, 0, 0, 0, 0], "{call:?}");
-                    let number = numbers.first().map(|number| {
-                        let value = number.value.unwrap_or(0).to_be_bytes();
-                        [&[number.label()][..], &value].concat()
-                    });
-                    number.unwrap_or(vec![0; 9])
+                    let most = match call {
+                        Call::FetchText { .. } => 2,
+                        _ => 1,
+                    };
+                    assert!(numbers.len() <= most, "{call:?}");
+                    let mut row = Vec::new();
+                    for number in numbers {
+                        row.push(number.label());
+                        row.extend(number.value.unwrap_or(0).to_be_bytes());
+                    }
+                    row.resize(27, 0);
+                    row
                 }
             };
-            assert_eq!(record[10..19], number, "{call:?}");
-            assert_eq!(record[19..37], [0; 18], "{call:?}");
+            assert_eq!(record[10..37], row, "{call:?}");
             assert_eq!(record[37..], output, "{call:?}");
             rest = behind;
         }
@@ -348,12 +415,15 @@ fn records_of_every_list() {
 fn a_refused_report_refuses_every_call() {
     let calls = [
         Call::ReadField { field: 99 },
-        Call::FetchText { output: vec![5, 6] },
+        Call::FetchText {
+            text: vec![5, 6],
+            origins: vec![7],
+        },
     ];
     let mut buffer = vec![0; 37];
     let ran = run(&mut buffer, &script(&calls), 100);
     let refused = logged("00 01 0000000000000000");
-    assert_eq!(ran.log, [&refused[..], &refused, &[5, 6]].concat());
+    assert_eq!(ran.log, [&refused[..], &refused, &[5, 6, 7]].concat());
 }
 
 #[test]
@@ -620,6 +690,55 @@ fn recover_records_by_hand() {
 }
 
 #[test]
+fn read_out_records_by_hand() {
+    let mut report = buffer_after();
+    report.truncate(41);
+    let read_out = |text, origins| Case::ReadOut {
+        report: report.clone(),
+        text: vec![0xEE; text],
+        origins: vec![0xDD; origins],
+    };
+    let input = [
+        &hex("0B 0029")[..],
+        &report,
+        &hex("0003 EEEEEE 0004 DDDDDDDD"),
+    ];
+    let answer = hex("02 00 0000000000000002 0000000000000000 4131EE 0000DDDD");
+    assert_eq!(both(&read_out(3, 4)), (input.concat(), answer));
+    let input = [&hex("0B 0029")[..], &report, &hex("0002 EEEE 0001 DD")];
+    let answer = hex("00 0D 0000000000000000 EEEE DD");
+    assert_eq!(both(&read_out(2, 1)), (input.concat(), answer));
+    let absent = Case::ReadOut {
+        report: fresh_buffer(38),
+        text: vec![],
+        origins: vec![0xDD],
+    };
+    let input = [&hex("0B 0026")[..], &fresh_buffer(38), &hex("0000 0001 DD")];
+    let answer = hex("00 0B 0000000000000000 DD");
+    assert_eq!(both(&absent), (input.concat(), answer));
+}
+
+/// A text of 2287 symbols is the longest; its outputs may have 2400 bytes.
+#[test]
+fn read_out_records_keep_their_limits() {
+    let read_out = |report, text, origins| Case::ReadOut {
+        report: vec![0; report],
+        text: vec![0; text],
+        origins: vec![0; origins],
+    };
+    assert_eq!(record::MOST_TEXT, 2400);
+    assert!(record::fits(&read_out(2000, 2400, 2400)));
+    assert!(!record::fits(&read_out(2001, 0, 0)));
+    assert!(!record::fits(&read_out(0, 2401, 0)));
+    assert!(!record::fits(&read_out(0, 0, 2401)));
+    let longest = whole_cases::cases(SEED).iter().any(|case| {
+        let outcome = run_case(case);
+        matches!(outcome, Outcome::ReadOut { result: Ok(given), .. } if given.symbols == 2287)
+    });
+    assert!(longest);
+}
+
+#[test]
 fn observations_have_the_wanted_size_and_sum() {
     let mut prng = Prng::new(1);
     let tails = (4..400).chain((400..3600).step_by(7)).chain(3600..=3631);
@@ -648,7 +767,7 @@ fn whole_files_meet_every_refusal_and_keep_their_limits() {
     let cases = whole_cases::cases(SEED);
     assert!(cases.iter().all(record::fits));
     let files = gate::whole(&cases);
-    assert!(files.stdin.len() + files.stdout.len() < 2_180_000);
+    assert!(files.stdin.len() + files.stdout.len() < 2_300_000);
     for (kind, refusals) in [
         ("judge", &[0, 1, 2, 3, 4, 5, 6, 7][..]),
         ("lister", &[0, 1, 2, 3, 4, 5, 6, 7]),
@@ -659,6 +778,7 @@ fn whole_files_meet_every_refusal_and_keep_their_limits() {
         ("restore", &[0, 1, 2, 3, 4, 5, 6, 7, 13]),
         ("recover", &[0, 1, 5, 6, 8, 9, 10, 13, 14]),
         ("load", &[0, 16]),
+        ("read out", &[0, 1, 2, 3, 4, 5, 6, 7, 11, 13]),
     ] {
         let met: Vec<u8> = files.tally.refusals(kind);
         assert_eq!(met, refusals, "{kind}");
@@ -754,7 +874,7 @@ fn list_files_meet_every_refusal_and_keep_their_limits() {
         Item::Load(marks) => marks.len() <= 200,
     }));
     let files = gate::lists(&items);
-    assert!(files.stdin.len() + files.stdout.len() < 1_880_000);
+    assert!(files.stdin.len() + files.stdout.len() < 1_980_000);
     let whole = lists.iter().filter(|list| {
         let (_, ran) = run_list(list);
         ran.calls.len() == CALLS && judge(&list.buffer).is_ok()
@@ -771,7 +891,7 @@ fn list_files_meet_every_refusal_and_keep_their_limits() {
         ("put", &[8, 12, 13, 14]),
         ("fetch", &[8, 11, 13]),
         ("drop", &[8, 11]),
-        ("put text", &[12, 13]),
+        ("put text", &[12, 13, 14]),
         ("fetch text", &[11, 13]),
     ] {
         let expected = [&report[..], refusals].concat();

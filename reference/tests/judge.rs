@@ -242,7 +242,11 @@ fn r6_text() {
     };
     assert_eq!(with_body(&[1, 10, 2]), Ok(1));
     assert_eq!(with_body(&[1, 10]), refused(6, 1));
-    assert_eq!(with_body(&[15, 4, 1]), refused(6, 1));
+    assert_eq!(with_body(&[15, 4, 1]), Ok(1));
+    assert_eq!(with_body(&[15, 2, 0]), Ok(1));
+    assert_eq!(with_body(&[10, 15, 2, 0]), Ok(1));
+    assert_eq!(with_body(&[15, 2, 0, 10]), refused(6, 1));
+    assert_eq!(with_body(&[10, 10, 10, 15, 2, 0]), refused(6, 1));
     assert_eq!(with_body(&[14, 0]), refused(6, 1));
     assert_eq!(with_body(&[15, 6]), refused(6, 1));
 }

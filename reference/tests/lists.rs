@@ -96,7 +96,7 @@ fn random_lists_agree() {
         ("put", &[0, 8, 12, 14, 13]),
         ("fetch", &[0, 8, 11, 13]),
         ("drop", &[0, 8, 11]),
-        ("put text", &[0, 12, 13]),
+        ("put text", &[0, 12, 13, 14]),
         ("fetch text", &[0, 11, 13]),
     ];
     for (call, numbers) in reached {
@@ -149,7 +149,7 @@ fn fixed_lists_agree() {
         }
         case.run(&mut flags);
     }
-    assert!(met.len() >= 34, "{met:?}");
+    assert!(met.len() >= 35, "{met:?}");
 }
 
 /// The calls of a script up to its end or the first entry that is none.
@@ -183,5 +183,5 @@ fn gate_lists_agree() {
             }
         }
     }
-    assert_eq!(met.len(), 36, "{met:?}");
+    assert_eq!(met.len(), 37, "{met:?}");
 }

@@ -17,6 +17,7 @@ fn refusal_of(case: &Case) -> Option<Refusal> {
         Outcome::Same(result) => result.err(),
         Outcome::Restore { result, .. } => result.err(),
         Outcome::Recover { result, .. } => result.err(),
+        Outcome::ReadOut { result, .. } => result.err(),
         Outcome::Calls(answers) => answers[0].0.result.clone().err(),
     }
 }
@@ -71,6 +72,10 @@ fn pairs_of_the_callers_refusals() {
         (12, 14),
         (12, 13),
         (14, 13),
+        // Put text's own.
+        (13, 14),
+        (13, 12),
+        (14, 12),
     ] {
         assert!(has_pair(is_call, first, second), "{first} {second}");
     }
@@ -96,4 +101,14 @@ fn pairs_of_packs_and_freshs_checks() {
     let is_fresh = |case: &Case| matches!(case, Case::Fresh { .. });
     assert!(has_pair(is_fresh, 9, 9));
     assert!(has_pair(is_fresh, 9, 13));
+}
+
+#[test]
+fn pairs_of_reading_out() {
+    let is_read_out = |case: &Case| matches!(case, Case::ReadOut { .. });
+    for report in 1..=7 {
+        assert!(has_pair(is_read_out, report, 11), "{report}");
+    }
+    assert!(has_pair(is_read_out, 4, 13));
+    assert!(has_pair(is_read_out, 11, 13));
 }

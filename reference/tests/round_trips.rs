@@ -8,7 +8,7 @@ use reference::cases::material::{
 };
 use reference::flags::quality_code;
 use reference::prng::Prng;
-use reference::text::{read, write};
+use reference::text::{Symbol, bytes, origins, read, write};
 
 #[test]
 fn observations_pack_and_are_read_back() {
@@ -80,7 +80,10 @@ fn texts_go_in_and_come_out_without_trailing_spaces() {
     for _ in 0..3000 {
         let pieces = prng.below(30);
         let text = random_text(&mut prng, pieces);
-        let spaces = text.iter().rev().take_while(|&&byte| byte == b' ').count();
+        let from_last = text.iter().rev();
+        let spaces = from_last
+            .take_while(|&&symbol| symbol == Symbol::SPACE)
+            .count();
         let kept = &text[..text.len() - spaces];
         let nibbles = write(&text);
         assert_eq!(nibbles.is_empty(), kept.is_empty());
@@ -88,10 +91,13 @@ fn texts_go_in_and_come_out_without_trailing_spaces() {
         if (1..=255).contains(&nibbles.len()) {
             let mut buffer = random_observation(&mut prng).packing();
             buffer.resize(buffer.len() + 150, 0);
-            assert_eq!(put_text(&mut buffer, &text), Ok(()));
-            let mut output = vec![0xEE; kept.len() + 2];
-            assert_eq!(fetch_text(&buffer, &mut output), Ok(kept.len()));
-            assert_eq!(output, [kept, &[0xEE; 2]].concat());
+            let put = put_text(&mut buffer, &bytes(&text), &origins(&text));
+            assert_eq!(put, Ok(()));
+            let (mut out, mut marks) = (vec![0xEE; kept.len() + 2], vec![0xDD; kept.len() + 1]);
+            let fetched = fetch_text(&buffer, &mut out, &mut marks);
+            assert_eq!(fetched.map(|given| given.symbols), Ok(kept.len()));
+            assert_eq!(out, [bytes(kept), vec![0xEE; 2]].concat());
+            assert_eq!(marks, [origins(kept), vec![0xDD]].concat());
         }
     }
 }

@@ -6,7 +6,7 @@ use std::io::Write;
 use std::process::{Command, Stdio};
 
 use common::all_flags::line;
-use common::{fresh_buffer, table_by_hand};
+use common::{fresh_buffer, fresh_with_tail, table_by_hand};
 use reference::cases::{Case, fixed, random};
 use reference::flag_table::FlagTable;
 use reference::line;
@@ -147,7 +147,10 @@ fn lists_by_hand() {
         calls: vec![
             Call::ReadField { field: 2 },
             Call::ReadField { field: 4 },
-            Call::FetchText { output: vec![1, 2] },
+            Call::FetchText {
+                text: vec![1, 2],
+                origins: vec![3],
+            },
             Call::Put {
                 id: 5,
                 content: vec![1],
@@ -156,13 +159,61 @@ fn lists_by_hand() {
     };
     let zeros = "00".repeat(27);
     let report = format!("00000059440000170A{zeros}F000");
-    let calls = "read-field 2 ; read-field 4 ; fetch-text 0102 ; put 5 01";
+    let calls = "read-field 2 ; read-field 4 ; fetch-text 0102 03 ; put 5 01";
     let answers = format!(
-        "ok 1900 {report} ; ok missing {report} ; refused 11 0 {report} 0102 ; refused 13 0 {report}"
+        "ok 1900 {report} ; ok missing {report} ; refused 11 0 {report} 0102 03 ; refused 13 0 {report}"
     );
     assert_eq!(
         line(&case),
         format!("calls {report} ; {calls} -> {answers}")
+    );
+}
+
+#[test]
+fn texts_by_hand() {
+    use reference::call::Call;
+    let zeros = "00".repeat(27);
+    let fresh = format!("00000059440000170A{zeros}F000");
+    // AC 1, AL 5, AID 4, nibbles 1, 10, 15, 4, 1 and the padding.
+    let report = format!("00000059440000170A{zeros}F010541AF410");
+    let held = fresh_with_tail(1, &[0, 5, 4, 1, 10, 15, 4, 1]);
+    let case = Case::Calls {
+        buffer: [fresh_buffer(38), vec![0xA5; 5]].concat(),
+        calls: vec![
+            Call::PutText {
+                text: b"1 A".to_vec(),
+                origins: vec![0, 0, 1],
+            },
+            Call::FetchText {
+                text: vec![0xEE; 4],
+                origins: vec![0xDD; 3],
+            },
+            Call::PutText {
+                text: Vec::new(),
+                origins: vec![0],
+            },
+        ],
+    };
+    let (before, after) = (format!("{fresh}A5A5A5A5A5"), format!("{report}A5"));
+    assert_eq!(after.len(), before.len());
+    let calls = "put-text 312041 000001 ; fetch-text EEEEEEEE DDDDDD ; put-text - 00";
+    let answers = format!("ok {after} ; ok 3 0 {after} 312041EE 000001 ; refused 13 0 {after}");
+    assert_eq!(
+        line(&case),
+        format!("calls {before} ; {calls} -> {answers}")
+    );
+    let read_out = |text: usize, origins: usize| Case::ReadOut {
+        report: held.clone(),
+        text: vec![0xEE; text],
+        origins: vec![0xDD; origins],
+    };
+    assert_eq!(
+        line(&read_out(4, 3)),
+        format!("read-out {report} EEEEEEEE DDDDDD -> ok 3 0 312041EE 000001")
+    );
+    assert_eq!(
+        line(&read_out(0, 3)),
+        format!("read-out {report} - DDDDDD -> refused 13 0 - DDDDDD")
     );
 }
 
@@ -200,7 +251,14 @@ fn vectors_meet_every_refusal_and_accept() {
         assert!(lines.iter().any(|line| line.contains(&refused)), "{number}");
     }
     let kinds = [
-        "judge ", "lister ", "fresh ", "unpack ", "pack ", "load ", "calls ",
+        "judge ",
+        "lister ",
+        "fresh ",
+        "unpack ",
+        "pack ",
+        "load ",
+        "read-out ",
+        "calls ",
     ];
     for kind in kinds {
         let of_kind = lines.iter().filter(|line| line.starts_with(kind));

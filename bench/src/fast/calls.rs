@@ -2,7 +2,7 @@
 
 use super::card::{CARD, REQUIRED, ROWS, code, replace};
 use super::report::{Report, card_of, content_valid, inspect, sixteen};
-use super::{Answer, Given, Label, flags, given, nibbles, refused, text};
+use super::{Answer, Fetched, Given, Label, Refusal, Set, flags, given, nibbles, refused, text};
 use crate::FlagTable;
 
 #[inline(always)]
@@ -197,17 +197,41 @@ pub fn remove(s: &mut [u8], id: usize, table: &FlagTable) -> Answer {
 }
 
 #[inline(never)]
-pub fn put_text(s: &mut [u8], t: &[u8], table: &FlagTable) -> Answer {
+pub fn put_text(s: &mut [u8], t: &[u8], origins: &[u8], table: &FlagTable) -> Answer {
     let r = inspect(s, 4, table)?;
-    let mut ns = [0; 260];
-    match text::write(t, &mut ns) {
-        None | Some(0) => refused(12, 0),
-        Some(n) => put_nibbles(s, &r, 4, &ns[..n]),
+    if t.len() != origins.len() {
+        return refused(13, 0);
+    }
+    let mut ns = [0; text::ROOM];
+    match text::write(t, origins, &mut ns) {
+        Ok(0) => refused(12, 0),
+        Ok(n) => put_nibbles(s, &r, 4, &ns[..n]),
+        Err(number) => refused(number, 0),
+    }
+}
+
+/// The deck's set, by a coded SID: one more than the scaled one, 0 where it is missing. A bit
+/// for each: ASCII has 4 and 18, EBCDIC the others of 1 to 24 but 22.
+#[inline(always)]
+fn set_of(sid: u32) -> Set {
+    const ASCII: u32 = 1 << 5 | 1 << 19;
+    const EBCDIC: u32 = 0x03FF_FFFC & !ASCII & !(1 << 23);
+    if sid < 32 && EBCDIC >> sid & 1 == 1 {
+        Set::Ebcdic
+    } else if sid < 32 && ASCII >> sid & 1 == 1 {
+        Set::Ascii
+    } else {
+        Set::Unknown
     }
 }
 
 #[inline(never)]
-pub fn fetch_text(s: &[u8], out: &mut [u8], table: &FlagTable) -> Answer {
+pub fn fetch_text(
+    s: &[u8],
+    out: &mut [u8],
+    origins: &mut [u8],
+    table: &FlagTable,
+) -> Result<Fetched, Refusal> {
     let r = inspect(s, 4, table)?;
     if r.place == 0 {
         return refused(11, 0);
@@ -215,11 +239,15 @@ pub fn fetch_text(s: &[u8], out: &mut [u8], table: &FlagTable) -> Answer {
     let mut ns = [0; 255];
     let ns = &mut ns[..r.al];
     nibbles::fetch(s, r.place + 3, ns);
-    // No two nibbles give more than 18 bytes.
-    if out.len() < 9 * ns.len() && out.len() < text::length(ns) {
+    let room = out.len().min(origins.len());
+    // No two nibbles give more than 18 symbols.
+    if room < 9 * ns.len() && room < text::length(ns) {
         return refused(13, 0);
     }
-    Ok(given(Label::Count, text::read(ns, out) as i64))
+    Ok(Fetched {
+        symbols: text::read(ns, &mut out[..room], &mut origins[..room]),
+        set: set_of(code(card_of(s), 10)),
+    })
 }
 
 #[inline(never)]

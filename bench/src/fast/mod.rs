@@ -6,6 +6,7 @@ pub mod calls;
 mod card;
 pub mod flags;
 mod nibbles;
+pub mod reader;
 mod report;
 pub mod script;
 mod text;
@@ -28,6 +29,7 @@ pub enum Label {
     Flag = 2,
     Count = 3,
     Bytes = 8,
+    Deck = 10,
     MissingValue = 129,
     MissingFlag = 130,
 }
@@ -50,6 +52,22 @@ const fn given(label: Label, number: i64) -> Given {
 }
 
 pub type Answer = Result<Given, Refusal>;
+
+/// The character set of the input deck.
+#[derive(Clone, Copy, Debug, PartialEq, Eq)]
+#[repr(u8)]
+pub enum Set {
+    Unknown = 0,
+    Ebcdic = 1,
+    Ascii = 2,
+}
+
+/// What fetch text gives: how many symbols it wrote, and the deck's set.
+#[derive(Clone, Copy, Debug, PartialEq, Eq)]
+pub struct Fetched {
+    pub symbols: usize,
+    pub set: Set,
+}
 
 #[cold]
 fn cold() {}

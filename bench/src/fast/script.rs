@@ -1,6 +1,6 @@
 //! A script of calls performed on one buffer, and the log of their answers.
 
-use super::{Answer, calls};
+use super::{Answer, Label, calls, given};
 use crate::FlagTable;
 
 #[derive(Clone, Copy, Debug, Default, PartialEq, Eq)]
@@ -23,10 +23,10 @@ fn counted(s: &[u8]) -> Option<(&[u8], &[u8])> {
     rest.split_at_checked(n as usize)
 }
 
-/// A record without its output: ten bytes, and three numbers with their labels.
+/// A record without its outputs: ten bytes, and three numbers with their labels.
 const FRONT: usize = 37;
 
-/// Writes a record up to its output. Calls give one number at most.
+/// Writes a record up to its outputs, with one number at most.
 #[inline(always)]
 fn record(front: &mut [u8; FRONT], answer: Answer) {
     let (accepted, refusal, place, label, number) = match answer {
@@ -53,6 +53,7 @@ fn perform<'a>(
     let (front, behind) = log.split_first_chunk_mut::<FRONT>()?;
     let (k, after) = number(rest)?;
     let k = k as usize;
+    let mut deck = None;
     let (answer, rest, written) = match kind {
         1 => (calls::read_field(b, k, table), after, FRONT),
         2 => {
@@ -79,21 +80,28 @@ fn perform<'a>(
         9 => (calls::remove(b, k, table), after, FRONT),
         10 => {
             let (text, after) = counted(rest)?;
-            (calls::put_text(b, text, table), after, FRONT)
+            let (origins, after) = counted(after)?;
+            (calls::put_text(b, text, origins, table), after, FRONT)
         }
         11 => {
-            let (output, after) = counted(rest)?;
-            let out = behind.get_mut(..output.len())?;
-            out.copy_from_slice(output);
-            (
-                calls::fetch_text(b, out, table),
-                after,
-                FRONT + output.len(),
-            )
+            let (first, after) = counted(rest)?;
+            let (second, after) = counted(after)?;
+            let outputs = first.len() + second.len();
+            let (out, origins) = behind.get_mut(..outputs)?.split_at_mut(first.len());
+            out.copy_from_slice(first);
+            origins.copy_from_slice(second);
+            let fetched = calls::fetch_text(b, out, origins, table);
+            deck = fetched.ok().map(|fetched| fetched.set);
+            let answer = fetched.map(|fetched| given(Label::Count, fetched.symbols as i64));
+            (answer, after, FRONT + outputs)
         }
         _ => return None,
     };
     record(front, answer);
+    if let Some(set) = deck {
+        front[19] = Label::Deck as u8;
+        front[27] = set as u8;
+    }
     Some((rest, written))
 }
 

@@ -27,26 +27,35 @@ const fn codes() -> [u16; 256] {
     t
 }
 
-/// The nibbles of each byte, three places and how many of them.
-static CODES: [[u8; 4]; 256] = spelled();
+/// By origin and byte: the nibbles of a symbol in three places, and how many there are; SPACE
+/// for a plain space and 0 where there is no such symbol.
+static CODES: [[u8; 4]; 512] = spelled();
 
-const fn spelled() -> [[u8; 4]; 256] {
-    let mut t = [[0; 4]; 256];
+const SPACE: u8 = 4;
+
+const fn spelled() -> [[u8; 4]; 512] {
+    let mut t = [[0; 4]; 512];
     let mut b = 0;
     while b < 256 {
         let c = CODE_TABLE[b];
-        let (high, middle, low) = ((c >> 8) as u8, (c >> 4 & 15) as u8, (c & 15) as u8);
-        t[b] = if c < 16 {
+        let (high, low) = ((c >> 4 & 15) as u8, (c & 15) as u8);
+        t[b] = if c < 10 {
             [low, 0, 0, 1]
+        } else if c == 10 {
+            [0, 0, 0, SPACE]
         } else if c < 256 {
-            [middle, low, 0, 2]
+            [high, low, 0, 2]
         } else {
-            [high, middle, low, 3]
+            [0, 0, 0, 0]
         };
+        t[256 + b] = [15, (b / 16) as u8, (b % 16) as u8, 3];
         b += 1;
     }
     t
 }
+
+/// The byte of each nibble from 0 to 10.
+static SINGLES: [u8; 11] = *b"0123456789 ";
 
 /// The byte of each pair from 12,0 to 14,15; 0 where undefined.
 static PAIRS: [u8; 256] = PAIR_TABLE;
@@ -79,23 +88,12 @@ const SPACES: usize = 4;
 const RUN: usize = 5;
 /// After a 12; 13 and 14 follow.
 const PAIR: usize = 6;
-const ESCAPE: usize = 9;
-/// After 15 and a high half: 2, 3, 4, 5, 7, or one with no short code.
-const HALF: usize = 10;
-
-const fn half_state(n: usize) -> usize {
-    match n {
-        2..=5 => HALF + n - 2,
-        7 => HALF + 4,
-        _ => HALF + 5,
-    }
-}
-
-const HALVES: [usize; 6] = [2, 3, 4, 5, 7, 8];
+/// After 15 and a high half.
+const HALF: usize = 9;
+const ESCAPE: usize = 10;
 
 const fn next(state: usize, n: usize) -> usize {
     match state {
-        INVALID => INVALID,
         CLEAR | FULL | ONE | SPACES => match n {
             0..=9 => CLEAR,
             10 => match state {
@@ -127,43 +125,34 @@ const fn next(state: usize, n: usize) -> usize {
                 CLEAR
             }
         }
-        ESCAPE => half_state(n),
-        _ => {
-            if CODE_TABLE[HALVES[state - HALF] * 16 + n] < 256 {
-                INVALID
-            } else {
-                CLEAR
-            }
-        }
+        HALF => CLEAR,
+        ESCAPE => HALF,
+        _ => INVALID,
     }
 }
 
-/// For each nibble the state after each of the sixteen, 4 bits each.
-static BY_NIBBLE: [u64; 16] = by_nibble();
-/// The same for two nibbles.
+// A state is kept as the place of its six bits in a row, and a row has the next state's place
+// there. So a step is one shift: of a distance it takes the low six bits alone. Four bits are
+// left for the eleventh state, which is enough: an escape's next two nibbles lead to CLEAR.
+const PLACE: usize = 6;
+const START: u64 = (PLACE * CLEAR) as u64;
+
+/// For two nibbles the place after them, by the state before.
 static BY_BYTE: [u64; 256] = by_byte();
-
-const fn by_nibble() -> [u64; 16] {
-    let mut t = [0; 16];
-    let mut n = 0;
-    while n < 16 {
-        let mut s = 0;
-        while s < 16 {
-            t[n] |= (next(s, n) as u64) << (4 * s);
-            s += 1;
-        }
-        n += 1;
-    }
-    t
-}
+/// For a first nibble the place after it.
+static FIRST: [u64; 16] = first();
+/// For a last nibble START if a text may end with it, else 0, by the state before.
+static LAST: [u64; 16] = last();
 
 const fn by_byte() -> [u64; 256] {
     let mut t = [0; 256];
     let mut b = 0;
     while b < 256 {
         let mut s = 0;
-        while s < 16 {
-            t[b] |= (next(next(s, b / 16), b % 16) as u64) << (4 * s);
+        while s <= ESCAPE {
+            let place = (PLACE * next(next(s, b / 16), b % 16)) as u64;
+            assert!(s < ESCAPE || place == START);
+            t[b] |= place << (PLACE * s);
             s += 1;
         }
         b += 1;
@@ -171,35 +160,79 @@ const fn by_byte() -> [u64; 256] {
     t
 }
 
+const fn first() -> [u64; 16] {
+    let mut t = [0; 16];
+    let mut n = 0;
+    while n < 16 {
+        t[n] = (PLACE * next(CLEAR, n)) as u64;
+        n += 1;
+    }
+    t
+}
+
+const fn last() -> [u64; 16] {
+    let mut t = [0; 16];
+    let mut n = 0;
+    while n < 16 {
+        let mut s = 0;
+        while s <= ESCAPE {
+            if next(s, n) == CLEAR {
+                t[n] |= START << (PLACE * s);
+            }
+            s += 1;
+        }
+        n += 1;
+    }
+    t
+}
+
+/// The row shifted to a place.
+#[inline(always)]
+fn step(row: u64, place: u64) -> u64 {
+    row.wrapping_shr(place as u32)
+}
+
 /// Whether the writer gives these nibbles for some text, in a packed buffer.
 pub fn valid(s: &[u8], mut at: usize, mut len: usize) -> bool {
-    let mut state = CLEAR as u64;
+    let mut place = START;
     if at % 2 == 1 && len > 0 {
-        state = BY_NIBBLE[(s[at / 2] & 15) as usize] >> (4 * state) & 15;
+        place = FIRST[(s[at / 2] & 15) as usize];
         at += 1;
         len -= 1;
     }
     let end = at / 2 + len / 2;
     for &b in &s[at / 2..end] {
-        state = BY_BYTE[b as usize] >> (4 * state) & 15;
+        place = step(BY_BYTE[b as usize], place);
     }
     if len % 2 == 1 {
-        state = BY_NIBBLE[(s[end] >> 4) as usize] >> (4 * state) & 15;
+        place = step(LAST[(s[end] >> 4) as usize], place);
     }
-    state == CLEAR as u64
+    place % 64 == START
 }
 
 /// The same of nibbles one a byte, each under 16.
 pub fn valid_nibbles(ns: &[u8]) -> bool {
-    let mut state = CLEAR as u64;
+    let mut place = START;
     let (pairs, rest) = ns.as_chunks::<2>();
     for n in pairs {
-        state = BY_BYTE[(n[0] << 4 | n[1] & 15) as usize] >> (4 * state) & 15;
+        place = step(BY_BYTE[(n[0] << 4 | n[1] & 15) as usize], place);
     }
     for &n in rest {
-        state = BY_NIBBLE[(n & 15) as usize] >> (4 * state) & 15;
+        place = step(LAST[(n & 15) as usize], place);
     }
-    state == CLEAR as u64
+    place % 64 == START
+}
+
+/// The byte of a nibble from 0 to 10.
+#[inline(always)]
+pub fn single(n: u8) -> u8 {
+    SINGLES[n as usize]
+}
+
+/// The byte of a pair that begins with 12 to 14.
+#[inline(always)]
+pub fn pair(high: u8, low: u8) -> u8 {
+    PAIRS[(high << 4 | low) as usize]
 }
 
 /// The length of the text of valid nibbles.
@@ -219,35 +252,58 @@ pub fn length(ns: &[u8]) -> usize {
     n
 }
 
-/// Writes the text of valid nibbles to the head of out, which is long enough; gives its length.
-pub fn read(ns: &[u8], out: &mut [u8]) -> usize {
+/// Fills a run of 3 to 18 symbols by pieces that overlap.
+#[inline(always)]
+fn fill(to: &mut [u8], b: u8) {
+    if let Some(piece) = to.first_chunk_mut::<8>() {
+        *piece = [b; 8];
+        if let Some(piece) = to.get_mut(8..16) {
+            piece.copy_from_slice(&[b; 8]);
+        }
+        if let Some(piece) = to.last_chunk_mut::<8>() {
+            *piece = [b; 8];
+        }
+    } else if let Some(piece) = to.first_chunk_mut::<4>() {
+        *piece = [b; 4];
+        if let Some(piece) = to.last_chunk_mut::<4>() {
+            *piece = [b; 4];
+        }
+    } else {
+        to[0] = b;
+        to[1] = b;
+        to[2] = b;
+    }
+}
+
+/// Writes the bytes of the symbols of valid nibbles, and their origins, to the heads of two
+/// outputs of one length, which is enough; gives how many there are.
+pub fn read(ns: &[u8], out: &mut [u8], origins: &mut [u8]) -> usize {
     let mut o = 0;
     let mut i = 0;
     while i < ns.len() {
         let n = ns[i];
-        if n < 10 {
-            out[o] = b'0' + n;
+        if n > 11 {
+            if n < 15 {
+                out[o] = pair(n, ns[i + 1]);
+                origins[o] = 0;
+                i += 2;
+            } else {
+                out[o] = ns[i + 1] << 4 | ns[i + 2];
+                origins[o] = 1;
+                i += 3;
+            }
+            o += 1;
+        } else if n < 11 {
+            out[o] = single(n);
+            origins[o] = 0;
             o += 1;
             i += 1;
-        } else if n < 12 {
-            let (run, taken) = if n == 10 {
-                (1, 1)
-            } else {
-                (ns[i + 1] as usize + 3, 2)
-            };
-            for b in &mut out[o..o + run] {
-                *b = b' ';
-            }
-            o += run;
-            i += taken;
-        } else if n < 15 {
-            out[o] = PAIRS[(n << 4 | ns[i + 1]) as usize];
-            o += 1;
-            i += 2;
         } else {
-            out[o] = ns[i + 1] << 4 | ns[i + 2];
-            o += 1;
-            i += 3;
+            let end = o + ns[i + 1] as usize + 3;
+            fill(&mut out[o..end], b' ');
+            fill(&mut origins[o..end], 0);
+            o = end;
+            i += 2;
         }
     }
     o
@@ -279,31 +335,69 @@ pub fn characters(table: &mut [u16; 256]) {
     table[usize::from(b'/')] = 0x20E1;
 }
 
-/// Writes a text's nibbles; none if there are over 255.
-pub fn write(text: &[u8], out: &mut [u8; 260]) -> Option<usize> {
-    let mut at = 0usize;
-    let mut spaces = 0usize;
-    for &b in text {
-        if b == b' ' {
-            spaces += 1;
-            continue;
-        }
-        if spaces > 0 {
-            at = write_spaces(spaces, out, at)?;
-            spaces = 0;
-        }
-        let code = &CODES[b as usize];
-        out[at..at + 4].copy_from_slice(code);
-        at += code[3] as usize;
-        if at > 255 {
-            return None;
-        }
-    }
-    Some(at)
+/// The code of a symbol; that of none where the origin is over 1.
+#[inline(always)]
+fn code(b: u8, origin: u8) -> [u8; 4] {
+    let code = CODES.get((origin as usize) << 8 | b as usize);
+    code.copied().unwrap_or_default()
 }
 
-fn write_spaces(spaces: usize, out: &mut [u8; 260], mut at: usize) -> Option<usize> {
+/// Room for 255 nibbles, and for a code that is copied whole behind them.
+pub const ROOM: usize = 259;
+
+/// Writes a text's nibbles, or gives the refusal's number: 14 if a symbol is none, else 12 if
+/// there are over 255.
+pub fn write(text: &[u8], origins: &[u8], out: &mut [u8; ROOM]) -> Result<usize, u8> {
+    let mut at = 0u32;
+    let mut i = 0;
+    let origins = &origins[..text.len()];
+    while i < text.len() {
+        let code = code(text[i], origins[i]);
+        if code[3] == 0 {
+            return Err(14);
+        }
+        if code[3] == SPACE {
+            let run = spaces(&text[i..], &origins[i..]);
+            i += run;
+            if i < text.len() {
+                at = write_spaces(run, out, at).ok_or_else(|| over(&text[i..], &origins[i..]))?;
+            }
+            continue;
+        }
+        let Some(to) = out.get_mut(at as usize..at as usize + 4) else {
+            return Err(over(&text[i..], &origins[i..]));
+        };
+        to.copy_from_slice(&code);
+        at += u32::from(code[3]);
+        i += 1;
+    }
+    if at > 255 { Err(12) } else { Ok(at as usize) }
+}
+
+/// How many plain spaces a text begins with.
+#[inline(always)]
+fn spaces(text: &[u8], origins: &[u8]) -> usize {
+    let symbols = text.iter().zip(origins);
+    symbols
+        .take_while(|&(&b, &origin)| b == b' ' && origin == 0)
+        .count()
+}
+
+/// The refusal of a text that is too long, by the symbols that are left of it.
+#[cold]
+fn over(text: &[u8], origins: &[u8]) -> u8 {
+    let mut symbols = text.iter().zip(origins);
+    if symbols.all(|(&b, &origin)| code(b, origin)[3] > 0) {
+        12
+    } else {
+        14
+    }
+}
+
+/// None if there are over 255 nibbles.
+fn write_spaces(spaces: usize, out: &mut [u8; ROOM], at: u32) -> Option<u32> {
     let fulls = spaces / 18;
+    let mut at = at as usize;
     if at.checked_add(fulls.checked_mul(2)?)? > 255 {
         return None;
     }
@@ -329,8 +423,5 @@ fn write_spaces(spaces: usize, out: &mut [u8; 260], mut at: usize) -> Option<usi
             at += 2;
         }
     }
-    if at > 255 {
-        return None;
-    }
-    Some(at)
+    (at <= 255).then_some(at as u32)
 }

@@ -4,24 +4,25 @@ use Prim.Native.Nat.{ℕ, _≤_, _<_}
 use native.Mathlib.Omega.{arith}
 use mathlib.Core.Path.{_≡_, refl, sym, ap, _∙_}
 use mathlib.Core.Bool.{Bool, true, false, not, cond, _&&_}
-use mathlib.Core.List.{List, [], _∷_}
+use mathlib.Core.List.{List, [], _∷_, _++_}
 use mathlib.Core.Option.{none}
 use lib.ListN.{length, take, drop, length-append}
 use lib.Seq.{take-at}
 use lib.Dec.{ltb, leb}
-use borrow.Author.Tests.{ltb-true, ltb-false, leb-true, leb-false, not-false}
+use borrow.Author.Tests.{ltb-true, ltb-false, leb-true, leb-false, eq-eqb, ne-eqb, not-false}
 use Rattle.format.specs.Bits.{Bytes}
-use Rattle.format.specs.Order.{Check, first, between}
+use Rattle.format.specs.Order.{Check, first, between, allMarks}
 use Rattle.format.specs.Flags.{FlagTable}
 use Rattle.format.specs.Nibbles.{attachment}
-use Rattle.format.specs.ShipText.{writeText}
-use Rattle.format.specs.Observation.{size}
+use Rattle.format.specs.ShipText.{Symbol, symbolsIn, allAdmitted, writeText}
+use Rattle.format.specs.Observation.{Observation, size}
 use Rattle.format.specs.Report.{observationOf, bodyValid}
-use Rattle.format.specs.Calls.{Editing, edits, made, put, putText, Given, gives, outputsOf, allNibbles, withContent, idCheck, lengthCheck, contentCheck, callChecks, Answer}
+use Rattle.format.specs.Calls.{Editing, edits, made, put, putText, Given, gives, outputsOf, allNibbles, withContent, idCheck, lengthCheck, contentCheck}
+use Rattle.format.specs.Calls.{pairedCheck, symbolsCheck, callChecks, Answer}
 use Rattle.format.specs.Buffer.{layout, after, effect}
 use Rattle.format.specs.Reply.{refusal}
-use Rattle.laws.proofs.Sequences.{test-case}
-use Rattle.laws.proofs.Order.{range-low, range-high, range-fine, first-nil, no-check}
+use Rattle.laws.proofs.Sequences.{and-true, test-case}
+use Rattle.laws.proofs.Order.{range-low, range-high, range-fine, first-nil, no-check, no-checks}
 use Rattle.laws.proofs.ShipText.{text-valid, text-all-nibbles}
 use Rattle.laws.proofs.Attachments.{FineAt}
 use Rattle.laws.proofs.AttachmentEdits.{put-checked}
@@ -85,55 +86,100 @@ module _ (marks : FlagTable) {b : List ℕ} {j : ℕ} {r : Report} (bs : Bytes b
 
 -- ---- put text
 
-written-by : (t : Bool) (m n : ℕ) → Written.Fits n ≡ cond t (Written.Fits m) Written.TooLong → (t ≡ true) × (n ≡ m)
-written-by true m n e = (refl, (cc))
-written-by false m n e = let z : _≡_ {A = ℕ} 0 1 = cc in absurd (omega arith)
+-- what the writer's answer says
+fits-by : (t u : Bool) (m n : ℕ) → Written.Fits n ≡ cond t (cond u (Written.Fits m) Written.TooLong) Written.Unfit → (t ≡ true) × (u ≡ true) × (n ≡ m)
+fits-by true true m n e = (refl, refl, cc)
+fits-by true false m n e = let z : _≡_ {A = ℕ} 0 1 = cc in absurd (omega arith)
+fits-by false u m n e = let z : _≡_ {A = ℕ} 0 1 = cc in absurd (omega arith)
 
-long-by : (t : Bool) (m : ℕ) → Written.TooLong ≡ cond t (Written.Fits m) Written.TooLong → t ≡ false
-long-by true m e = let z : _≡_ {A = ℕ} 0 1 = cc in absurd (omega arith)
-long-by false m e = refl
+long-by : (t u : Bool) (m : ℕ) → Written.TooLong ≡ cond t (cond u (Written.Fits m) Written.TooLong) Written.Unfit → (t ≡ true) × (u ≡ false)
+long-by true true m e = let z : _≡_ {A = ℕ} 0 1 = cc in absurd (omega arith)
+long-by true false m e = (refl, refl)
+long-by false u m e = let z : _≡_ {A = ℕ} 0 1 = cc in absurd (omega arith)
 
-module _ (marks : FlagTable) {b : List ℕ} {r : Report} {t before ns : List ℕ} {w : Written} (bs : Bytes b) (f : Found marks b 4 r) (bt : Bytes t) (wrote : Writes t before ns w) where
-  pub text-long : w ≡ Written.TooLong → after (refusal 12 0) b [] ≡ effect marks b (edits (putText t))
-  unfolding callChecks outputsOf writtenOf
-  text-long e =
-      let h = leb-false (length (writeText t)) 255 (long-by _ _ (sym e ∙ wrote .answer)) in
-      call-refuses marks b (observationOf b) (edits (putText t)) bs (f .judged) [] (lengthCheck (writeText t)) (contentCheck marks 4 (writeText t) ∷ []) refl
-      first-nil (range-high 1 255 (length (writeText t)) h)
+unfit-by : (t u : Bool) (m : ℕ) → Written.Unfit ≡ cond t (cond u (Written.Fits m) Written.TooLong) Written.Unfit → t ≡ false
+unfit-by true true m e = let z : _≡_ {A = ℕ} 0 1 = cc in absurd (omega arith)
+unfit-by true false m e = let z : _≡_ {A = ℕ} 0 1 = cc in absurd (omega arith)
+unfit-by false u m e = refl
 
-  module _ {n : ℕ} (e : w ≡ Written.Fits n) where
-    fits : (length (writeText t) ≤ 255) × (n ≡ length (writeText t))
-    unfolding writtenOf
-    fits =
-        let q = written-by (leb (length (writeText t)) 255) (length (writeText t)) n (sym e ∙ wrote .answer) in
-        (leb-true (length (writeText t)) 255 (q .0), q .1)
+module _ (marks : FlagTable) {b : List ℕ} {r : Report} (bs : Bytes b) (f : Found marks b 4 r) (t os : List ℕ) where
+  abbrev xs : List Symbol
+  xs = symbolsIn t os
 
-    pub text-empty : n < 1 → after (refusal 12 0) b [] ≡ effect marks b (edits (putText t))
-    unfolding callChecks outputsOf
-    text-empty h =
-        call-refuses marks b (observationOf b) (edits (putText t)) bs (f .judged) [] (lengthCheck (writeText t)) (contentCheck marks 4 (writeText t) ∷ []) refl
-        first-nil (range-low 1 255 (length (writeText t)) (omega (arith, fits .1)))
+  abbrev ns : List ℕ
+  ns = writeText xs
 
-    -- the text's nibbles stand at the front of what was written
-    is-text : take n ns ≡ writeText t
-    is-text = ap (take n) (wrote .nibbles (fits .0)) ∙ take-at (writeText t) (drop (length (writeText t)) before) n (sym (fits .1))
+  abbrev s : Observation
+  s = observationOf b
 
-    pub text-within : n ≤ length ns
-    text-within =
-        omega (arith, fits .1, ap length (wrote .nibbles (fits .0)), length-append (writeText t) (drop (length (writeText t)) before))
+  pub text-unpaired : (length t ≡ length os → ⊥) → after (refusal 13 0) b [] ≡ effect marks b (edits (putText t os))
+  unfolding callChecks outputsOf
+  text-unpaired h =
+      call-refuses marks b s (edits (putText t os)) bs (f .judged) [] (pairedCheck t os) (symbolsCheck t os ∷ lengthCheck ns ∷ contentCheck marks 4 ns ∷ []) refl
+      first-nil (ap not (ne-eqb (length t) (length os) h))
 
-    module _ (filled : 1 ≤ n) where
-      valid : allNibbles (writeText t) && bodyValid marks 4 (writeText t) ≡ true
+  module _ (paired : length t ≡ length os) {before out : List ℕ} {w : Written} (wrote : Writes t os before out w) where
+    paired-passes : first (pairedCheck t os ∷ []) ≡ none
+    paired-passes = no-check (pairedCheck t os) [] (ap not (eq-eqb (length t) (length os) paired)) first-nil
+
+    pub text-unfit : w ≡ Written.Unfit → after (refusal 14 0) b [] ≡ effect marks b (edits (putText t os))
+    unfolding callChecks outputsOf writtenOf
+    text-unfit e =
+        call-refuses marks b s (edits (putText t os)) bs (f .judged) (pairedCheck t os ∷ []) (symbolsCheck t os) (lengthCheck ns ∷ contentCheck marks 4 ns ∷ []) refl
+        paired-passes (ap not (unfit-by (allMarks os && allAdmitted xs) (leb (length ns) 255) (length ns) (sym e ∙ wrote .answer)))
+
+    -- the symbols are such that a text may hold them
+    module _ (admitted : allMarks os && allAdmitted xs ≡ true) where
+      symbols-pass : first (pairedCheck t os ∷ symbolsCheck t os ∷ []) ≡ none
+      symbols-pass =
+          no-check (pairedCheck t os) (symbolsCheck t os ∷ []) (ap not (eq-eqb (length t) (length os) paired))
+          (no-check (symbolsCheck t os) [] (ap not admitted) first-nil)
+
+      refused-by-length : lengthCheck ns .fits ≡ true → after (refusal 12 0) b [] ≡ effect marks b (edits (putText t os))
+      unfolding callChecks outputsOf
+      refused-by-length h =
+          call-refuses marks b s (edits (putText t os)) bs (f .judged) (pairedCheck t os ∷ symbolsCheck t os ∷ []) (lengthCheck ns) (contentCheck marks 4 ns ∷ []) refl
+          symbols-pass h
+
+      valid : allNibbles ns && bodyValid marks 4 ns ≡ true
       unfolding bodyValid
-      valid = rw (text-all-nibbles t bt) (text-valid t bt)
+      valid = let all = and-true (allMarks os) (allAdmitted xs) admitted .1 in rw (text-all-nibbles xs all) (text-valid xs all)
 
-      pub text-fineAt : FineAt marks (attachment 4 (take n ns))
-      text-fineAt =
-          rw is-text (put-checked marks 4 (writeText t) refl (range-fine 1 255 (length (writeText t)) (omega (arith, fits .1)) (fits .0)) valid)
+    pub text-long : w ≡ Written.TooLong → after (refusal 12 0) b [] ≡ effect marks b (edits (putText t os))
+    unfolding writtenOf
+    text-long e =
+        let q = long-by (allMarks os && allAdmitted xs) (leb (length ns) 255) (length ns) (sym e ∙ wrote .answer) in
+        refused-by-length (q .0) (range-high 1 255 (length ns) (leb-false (length ns) 255 (q .1)))
 
-      pub text-effect : putting b 4 (take n ns) ≡ effect marks b (edits (putText t))
-      unfolding callChecks gives made
-      text-effect =
-          ap (putting b 4) is-text
-          ∙ putting-effect marks bs f (putText t) 4 (writeText t) refl refl
-          (length-passes (writeText t) _ (omega (arith, fits .1)) (fits .0) (content-passes marks 4 (writeText t) valid))
+    module _ {n : ℕ} (e : w ≡ Written.Fits n) where
+      fits : (allMarks os && allAdmitted xs ≡ true) × (length ns ≤ 255) × (n ≡ length ns)
+      unfolding writtenOf
+      fits =
+          let q = fits-by (allMarks os && allAdmitted xs) (leb (length ns) 255) (length ns) n (sym e ∙ wrote .answer) in
+          (q .0, leb-true (length ns) 255 (q .1), q .2)
+
+      pub text-empty : n < 1 → after (refusal 12 0) b [] ≡ effect marks b (edits (putText t os))
+      text-empty h = refused-by-length (fits .0) (range-low 1 255 (length ns) (omega (arith, fits .2)))
+
+      laid : out ≡ ns ++ drop (length ns) before
+      laid = wrote .nibbles (fits .0) (fits .1)
+
+      -- the text's nibbles stand at the front of what was written
+      is-text : take n out ≡ ns
+      is-text = ap (take n) laid ∙ take-at ns (drop (length ns) before) n (sym (fits .2))
+
+      pub text-within : n ≤ length out
+      text-within = omega (arith, fits .2, ap length laid, length-append ns (drop (length ns) before))
+
+      module _ (filled : 1 ≤ n) where
+        pub text-fineAt : FineAt marks (attachment 4 (take n out))
+        text-fineAt =
+            rw is-text (put-checked marks 4 ns refl (range-fine 1 255 (length ns) (omega (arith, fits .2)) (fits .1)) (valid (fits .0)))
+
+        pub text-effect : putting b 4 (take n out) ≡ effect marks b (edits (putText t os))
+        unfolding callChecks gives made
+        text-effect =
+            ap (putting b 4) is-text
+            ∙ putting-effect marks bs f (putText t os) 4 ns refl refl
+            (no-checks (pairedCheck t os ∷ symbolsCheck t os ∷ []) (lengthCheck ns ∷ contentCheck marks 4 ns ∷ []) (symbols-pass (fits .0))
+            (length-passes ns _ (omega (arith, fits .2)) (fits .1) (content-passes marks 4 ns (valid (fits .0)))))

@@ -91,13 +91,17 @@ fn put_written(s: &mut [u8], found: Report, ns: &[u8; 255], n: usize) -> Reply
 }
 
 // Puts the ship text to a report that was inspected.
-fn put_text_found(s: &mut [u8], found: Report, text: &[u8]) -> Reply
+fn put_text_found(s: &mut [u8], found: Report, text: &[u8], origins: &[u8]) -> Reply
     requires { ⌜ FoundBySome (now s) 4 found ⌝ }
-    ensures { λ r. ⌜ Leaves (now (s .entry)) (call.edits (call.putText (now (text .entry)))) (after (answerOf r) (now (s .exit)) []) ⌝ }
+    ensures { λ r. ⌜ Leaves (now (s .entry)) (call.edits (call.putText (now (text .entry)) (now (origins .entry)))) (after (answerOf r) (now (s .exit)) []) ⌝ }
 {
+    if text.len() != origins.len() {
+        return Reply::Refused(13, 0);
+    }
     let mut ns = [0u8; 255];
-    let w = text_writer::write(text, &mut ns);
+    let w = text_writer::write(text, origins, &mut ns);
     match w {
+        Written::Unfit => Reply::Refused(14, 0),
         Written::TooLong => Reply::Refused(12, 0),
         Written::Fits(n) => {
             if n < 1 {
@@ -108,13 +112,14 @@ fn put_text_found(s: &mut [u8], found: Report, text: &[u8]) -> Reply
     }
 }
 
-// Puts the ship text.
-pub fn put_text(s: &mut [u8], text: &[u8], marks: &FlagTable) -> Reply
-    ensures { λ r. ⌜ after (answerOf r) (now (s .exit)) [] ≡ effect (now (marks .entry)) (now (s .entry)) (call.edits (call.putText (now (text .entry)))) ⌝ }
+// Puts the ship text: bytes, and for each a mark of origin, 0 plain and 1 original.
+pub fn put_text(s: &mut [u8], text: &[u8], origins: &[u8], marks: &FlagTable) -> Reply
+    ensures { λ r. ⌜ after (answerOf r) (now (s .exit)) []
+        ≡ effect (now (marks .entry)) (now (s .entry)) (call.edits (call.putText (now (text .entry)) (now (origins .entry)))) ⌝ }
 {
     let i = report::inspect(s, 4, *marks);
     match i {
         Inspected::Refused(n, p) => Reply::Refused(n, p),
-        Inspected::Fine(found) => put_text_found(s, found, text),
+        Inspected::Fine(found) => put_text_found(s, found, text, origins),
     }
 }

@@ -1,16 +1,21 @@
--- Runs of entries, stored one after another, and the table that the rules give, which the reader reads back.
+-- Runs of entries, stored one after another, and the table that the rules give, which agrees with the symbols.
 -- Assumes nothing.
-use Prim.Native.Nat.{ℕ, zero, suc, _+_, _%_, _<_}
+use Prim.Native.Nat.{ℕ, zero, suc, _+_, _<_}
 use native.Mathlib.Omega.{arith}
 use native.Mathlib.Nat.{add-zero}
 use mathlib.Core.Path.{_≡_, refl, sym, ap, _∙_}
+use mathlib.Core.Bool.{true}
 use mathlib.Core.List.{List, [], _∷_, _++_, append-nil}
 use lib.ListN.{length, getD, set, drop-of-length-le}
 use lib.Seq.{sets}
-use Rattle.format.specs.ShipText.{upFrom, entry, charTable, charCode, codeNibbles}
+use lib.Dec.{ltb}
+use borrow.Author.Tests.{ltb-true}
+use Rattle.format.specs.ShipText.{upFrom, entry, charTable, charCode, codeNibbles, Symbol, plain, original, admitted, symbolNibbles}
 use Rattle.laws.proofs.Characters.{up-from-length, char-table-length, char-table-entry, entry-parts}
-use Rattle.laws.proofs.Agreement.{entry-read, read-byte, read-entry}
-use Rattle.characters.specs.Table.{Formed, ReadBack}
+use Rattle.laws.proofs.Agreement.{plain-entry, short-entry}
+use Rattle.laws.proofs.Sequences.{test-case}
+use Rattle.laws.proofs.ShipText.{admitted-plain, symbol-read, read-symbol}
+use Rattle.characters.specs.Table.{Formed, ReadBack, nibblesBy, admittedBy}
 use Rattle.laws.proofs.Stores.{stores, stores-over}
 
 -- ---- the loop
@@ -61,8 +66,23 @@ module _ (t : List ℕ) (e : t ≡ charTable) where
     count = λ b h. rw (at b h) (entry-parts b h .0 ∙ ap (λ (x : ℕ). length (codeNibbles x)) (sym (entry-parts b h .1)));
   }
 
+  nibbles-by : (x : Symbol) → admitted x ≡ true → nibblesBy t x ≡ symbolNibbles x
+  unfolding symbolNibbles
+  nibbles-by (plain b) h = rw e (plain-entry b (admitted-plain b h .0))
+  nibbles-by (original b) h = refl
+
+  admitted-by : (x : Symbol) → admittedBy t x ≡ admitted x
+  unfolding admitted
+  admitted-by (plain b) = test-case (ltb b 256) (λ h. rw (h, e, short-entry b (ltb-true b 256 h))) (λ h. rw h)
+  admitted-by (original b) = refl
+
   pub read-back : ReadBack t
   read-back = record {
-    reads = λ b h. rw (at b h) (entry-read b h);
-    only = λ b ns v f. read-entry b ns v f ∙ ap (λ (x : ℕ). codeNibbles (x % 4096)) (sym (at b (read-byte b ns v f)));
+    admits = admitted-by;
+    reads = λ x h.
+        let k = sym (admitted-by x) ∙ h in
+        rw (nibbles-by x k) (symbol-read x k);
+    only = λ x ns v f.
+        let r = read-symbol x ns v f in
+        r .1 ∙ sym (nibbles-by x (r .0));
   }

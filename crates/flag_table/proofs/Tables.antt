@@ -12,9 +12,9 @@ use lib.Seq.{drop-cons, drop-drop, getD-drop, getD-take}
 use lib.Bits.{bitOr, or-add-and, or-lt, and-le-l, and-le-r}
 use lib.Dec.{eqb, leb}
 use borrow.Author.Tests.{le-leb, leb-true, leb-false, eq-eqb, ne-eqb}
-use Rattle.format.specs.Order.{Refusal, first, between}
+use Rattle.format.specs.Order.{Refusal, first, between, allMarks}
 use Rattle.format.specs.Flags.{FlagTable, markOf, allYes}
-use Rattle.format.specs.Loading.{rows, tableOf, allMarks, someYes, everyRow, loadChecks, loadAnswerBy, loadAnswer, inForceBy, inForce}
+use Rattle.format.specs.Loading.{rows, tableOf, someYes, everyRow, loadChecks, loadAnswerBy, loadAnswer, inForceBy, inForce}
 use Rattle.laws.proofs.Sequences.{and-true, test-case}
 use Rattle.laws.proofs.Order.{first-fits, first-skip, first-nil}
 use Rattle.flag_table.specs.Claims.{AnyValue, RowByRow}

@@ -1,20 +1,21 @@
--- Four lists of examples, each checked by one computed fact. The first has the figures of FORMAT 12. The second has cases in
+-- Five lists of examples, each checked by one computed fact. The first has the figures of FORMAT 12. The second has cases in
 -- which two refusals fit at once, for the orders of FORMAT 5 to 7, zeroed bytes, unpack and pack, and edges of FORMAT 2 to 9.
--- The third has the table of the characters, the fourth tables of permitted flags.
+-- The third has the table of the characters, the fourth tables of permitted flags, the fifth plain and original symbols.
 -- Assumes nothing.
-use Prim.Native.Nat.{ℕ, zero, suc, _+_, _-_, _/_, _^_}
+use Prim.Native.Nat.{ℕ, zero, suc, _+_, _-_, _/_, _%_, _^_}
 use mathlib.Core.List.{List, [], _∷_, _++_, map}
 use mathlib.Core.Option.{Option, none, some}
 use lib.ListN.{length, getD, take, drop, set, replicate}
 use lib.Dec.{T}
 use lib.IntN.{ℤ, pos, negsuc}
-use Rattle.format.specs.Order.{Refusal, first}
+use Rattle.format.specs.Order.{Refusal, first, allMarks}
 use Rattle.format.specs.Field.{Field, minus, table, fieldAt, required, scaled, coded, scaledOf, codedOf, inRange, entryOf, codeOf, entries, codes}
 use Rattle.format.specs.Bits.{bits, number, bitsOf, bitField, total, offset, readFields, writeFields}
 use Rattle.format.specs.Nibbles.{attachment, nibbles, bytes, padded, attachmentNibbles, tailNibbles, attachmentsOf, among}
 use Rattle.format.specs.Flags.{FlagTable, markOf, weights, weight, totalWeight, allMissing, qualityCode, allYes, flagsFit, flagBody, withFlag, flagsValid}
-use Rattle.format.specs.ShipText.{charCode, short, pairByte, codeNibbles, upFrom, entry, charTable, classify, byteOf, escapable, isSpace, symbolNibbles, fulls, rest, spaceRun, writeFrom}
-use Rattle.format.specs.ShipText.{writeText, spaces, textStep, stateAfter, symbolsOf, readFrom, endFrom, atEnd, textValid, readText}
+use Rattle.format.specs.ShipText.{charCode, short, pairByte, codeNibbles, upFrom, entry, charTable, Symbol, plain, original, byteOf, originOf, symbolOf, symbolsIn, admitted, allAdmitted}
+use Rattle.format.specs.ShipText.{isSpace, symbolNibbles, fulls, rest, spaceRun, writeFrom, writeText, spaces, textStep, stateAfter, symbolsOf, readFrom, endFrom, atEnd, textValid, readText}
+use Rattle.format.specs.ShipText.{setOfSource, setOfNumber, deckSet, setNumber}
 use Rattle.format.specs.Observation.{Observation, widths, checksum, cardNumbers, cardNibbles, packing}
 use Rattle.format.specs.Report.{observationOf, codesOf, checksumOf, fieldChecks, bodyValid, attachmentChecks, reportChecks, Verdict, refused, accepted, judge}
 use Rattle.format.specs.Calls.{Call, reads, edits, fetches, readField, setField, clearField, readFlag, setFlag, clearFlag, put, fetch, remove, putText, fetchText}
@@ -24,7 +25,8 @@ use Rattle.format.specs.Machine.{course}
 use Rattle.format.specs.Buffer.{layout, effect, Shown, calls, run, claim}
 use Rattle.format.specs.Whole.{freshObservation, freshChecks, Wrote, fresh, presenceFrom, countPresent, Unpacked, unpackGives, unpack, packChecks, entriesGiven}
 use Rattle.format.specs.Whole.{countFrom, packObservation, packOrder, pack}
-use Rattle.format.specs.Loading.{rows, tableOf, allMarks, someYes, everyRow, loadChecks, loadAnswer, inForce}
+use Rattle.format.specs.Loading.{rows, tableOf, someYes, everyRow, loadChecks, loadAnswer, inForce}
+use Rattle.format.specs.Display.{openingRefusal, displayed, handed}
 use Rattle.format.specs.Lister.{digitsFrom, fieldLines, listing}
 use Rattle.format.specs.declared.Scaled.{Scaled}
 use Rattle.format.proofs.Test.{Example, same, every}
@@ -54,6 +56,7 @@ quantityNumber Quantity.rptin = 6
 quantityNumber Quantity.attachments = 7
 quantityNumber Quantity.bytes = 8
 quantityNumber Quantity.nibbles = 9
+quantityNumber Quantity.deck = 10
 
 quantities : Answer → List ℕ
 quantities (Answer.refused r) = []
@@ -114,7 +117,7 @@ sBytes = effect allYes freshBytes (edits (setField 31 (scaled (pos 286)))) .buff
 
 -- and the text A1 put, in a buffer with four bytes more
 textBytes : List ℕ
-textBytes = effect allYes (sBytes ++ (7 ∷ 7 ∷ 7 ∷ 7 ∷ [])) (edits (putText (65 ∷ 49 ∷ []))) .buffer
+textBytes = effect allYes (sBytes ++ (7 ∷ 7 ∷ 7 ∷ 7 ∷ [])) (edits (putText (65 ∷ 49 ∷ []) (0 ∷ 0 ∷ []))) .buffer
 
 -- a report of these coded fields, this checksum, this count and this tail
 reportWith : List ℕ → ℕ → ℕ → List ℕ → List ℕ
@@ -154,6 +157,17 @@ roomy = freshBytes ++ replicate 22 5
 wide : List ℕ
 wide = freshBytes ++ replicate 140 5
 
+-- a text of plain symbols; symbols as numbers, first their bytes and then their marks of origin
+plainly : List ℕ → List Symbol
+plainly t = map plain t
+
+symbolNumbers : List Symbol → List ℕ
+symbolNumbers xs = map byteOf xs ++ map originOf xs
+
+-- put text of plain symbols alone
+putPlain : List ℕ → Call
+putPlain t = edits (putText t (replicate (length t) 0))
+
 -- ---- the figures of FORMAT 12, and the lister's lines
 
 pub examples : List Example
@@ -176,7 +190,7 @@ examples =
     -- text A1: all bytes, CK, and back
     ∷ example textBytes (take 37 sBytes ++ (0x10 ∷ 0x34 ∷ 0xC1 ∷ 0x10 ∷ 7 ∷ []))
     ∷ example (checksumOf textBytes ∷ []) (251 ∷ [])
-    ∷ example (answersOf textBytes (fetches (fetchText (3 ∷ 3 ∷ 3 ∷ [])) ∷ [])) (1 ∷ 1 ∷ 0 ∷ 2 ∷ 65 ∷ 49 ∷ 3 ∷ [])
+    ∷ example (answersOf textBytes (fetches (fetchText (3 ∷ 3 ∷ 3 ∷ []) (5 ∷ 5 ∷ 5 ∷ [])) ∷ [])) (1 ∷ 1 ∷ 0 ∷ 2 ∷ 1 ∷ 0 ∷ 0 ∷ 65 ∷ 49 ∷ 3 ∷ 0 ∷ 0 ∷ 5 ∷ [])
     -- CK where every field is at its highest, and where every code is 1
     ∷ example (total highestCodes ∷ checksum highestCodes ∷ []) (19643 ∷ 8 ∷ [])
     ∷ example (checksum (replicate 46 1) ∷ []) (46 ∷ [])
@@ -185,18 +199,18 @@ examples =
     -- S: just below its range, and its lowest value
     ∷ example (answersOf freshBytes (edits (setField 31 (scaled (minus 1000))) ∷ [])) (refuses 9 31)
     ∷ example (codedOf (fieldAt 31) (scaled (minus 999)) .0 ∷ signed (scaledOf (fieldAt 31) (coded 1) .0)) (1 ∷ 1 ∷ 998 ∷ [])
-    -- texts with a short run of spaces, with a long one, with an escape; and back
-    ∷ example (writeText (49 ∷ 50 ∷ 32 ∷ 32 ∷ 32 ∷ 51 ∷ [])) (1 ∷ 2 ∷ 11 ∷ 0 ∷ 3 ∷ [])
-    ∷ example (readText (1 ∷ 2 ∷ 11 ∷ 0 ∷ 3 ∷ [])) (49 ∷ 50 ∷ 32 ∷ 32 ∷ 32 ∷ 51 ∷ [])
-    ∷ example (writeText (replicate 20 32 ++ (66 ∷ []))) (11 ∷ 15 ∷ 10 ∷ 10 ∷ 12 ∷ 2 ∷ [])
-    ∷ example (readText (11 ∷ 15 ∷ 10 ∷ 10 ∷ 12 ∷ 2 ∷ [])) (replicate 20 32 ++ (66 ∷ []))
-    ∷ example (writeText (97 ∷ [])) (15 ∷ 6 ∷ 1 ∷ [])
-    ∷ example (readText (15 ∷ 6 ∷ 1 ∷ [])) (97 ∷ [])
+    -- texts with a short run of spaces, with a long one, with an original symbol; and back
+    ∷ example (writeText (plainly (49 ∷ 50 ∷ 32 ∷ 32 ∷ 32 ∷ 51 ∷ []))) (1 ∷ 2 ∷ 11 ∷ 0 ∷ 3 ∷ [])
+    ∷ example (symbolNumbers (readText (1 ∷ 2 ∷ 11 ∷ 0 ∷ 3 ∷ []))) (49 ∷ 50 ∷ 32 ∷ 32 ∷ 32 ∷ 51 ∷ replicate 6 0)
+    ∷ example (writeText (plainly (replicate 20 32 ++ (66 ∷ [])))) (11 ∷ 15 ∷ 10 ∷ 10 ∷ 12 ∷ 2 ∷ [])
+    ∷ example (symbolNumbers (readText (11 ∷ 15 ∷ 10 ∷ 10 ∷ 12 ∷ 2 ∷ []))) (replicate 20 32 ++ (66 ∷ replicate 21 0))
+    ∷ example (writeText (original 97 ∷ [])) (15 ∷ 6 ∷ 1 ∷ [])
+    ∷ example (symbolNumbers (readText (15 ∷ 6 ∷ 1 ∷ []))) (97 ∷ 1 ∷ [])
     -- a run of three spaces in another form: in put, and in a report
     ∷ example (answersOf roomy (edits (put 4 badText) ∷ [])) (refuses 14 0)
     ∷ example (judged (judge allYes (reportOf freshCodes 1 (0 ∷ 4 ∷ 4 ∷ badText)))) (refuses 6 1)
-    -- the most escapes that fit, and one more
-    ∷ example (answersOf wide (edits (putText (replicate 85 97)) ∷ edits (putText (replicate 86 97)) ∷ [])) (yes ++ refuses 12 0)
+    -- the most original symbols that fit, and one more
+    ∷ example (answersOf wide (edits (putText (replicate 85 97) (replicate 85 1)) ∷ edits (putText (replicate 86 97) (replicate 86 1)) ∷ [])) (yes ++ refuses 12 0)
     -- the quality code of flag 1 at R and flag 6 at L
     ∷ example (qualityCode (1 ∷ 0 ∷ 0 ∷ 0 ∷ 0 ∷ 6 ∷ replicate 8 0) ∷ []) (3 ∷ [])
     ∷ example (answersOf roomy flagCalls)
@@ -211,7 +225,8 @@ unfolding signed optional given valueNumbers observationNumbers refusal judged a
     freshObservationExample sBytes textBytes reportWith reportOf highestCodes freshCodes badText flagless put1 flagCalls answersOf roomy wide examples
     same every first table fieldAt required scaledOf codedOf inRange entryOf codeOf entries codes bits number bitsOf bitField total readFields
     writeFields nibbles bytes padded attachmentNibbles tailNibbles attachmentsOf among weights weight totalWeight allMissing qualityCode allYes flagsFit
-    flagBody withFlag flagsValid charCode short pairByte codeNibbles classify byteOf escapable isSpace symbolNibbles fulls rest spaceRun writeFrom
+    flagBody withFlag flagsValid charCode short pairByte codeNibbles byteOf originOf symbolOf symbolsIn admitted allAdmitted allMarks setOfSource setOfNumber deckSet
+    setNumber plainly symbolNumbers putPlain isSpace symbolNibbles fulls rest spaceRun writeFrom
     writeText spaces textStep stateAfter symbolsOf readFrom endFrom atEnd textValid readText widths checksum cardNumbers cardNibbles packing
     observationOf fieldChecks bodyValid attachmentChecks reportChecks judge stands contentOf putIn removeFrom made gives outputsOf writes overfull
     overEach allNibbles callChecks checks step layout effect course calls run claim freshObservation freshChecks fresh digitsFrom fieldLines listing
@@ -296,13 +311,13 @@ orders =
     ∷ example
     (answersOf freshBytes
     (edits (put 16 []) ∷ edits (put 1 []) ∷ edits (put 5 (replicate 256 16)) ∷ edits (put 5 (16 ∷ [])) ∷ edits (put 1 (0 ∷ [])) ∷ edits (put 5 (1 ∷ []))
-    ∷ edits (putText (32 ∷ [])) ∷ edits (putText (65 ∷ [])) ∷ []))
+    ∷ putPlain (32 ∷ []) ∷ putPlain (65 ∷ []) ∷ []))
     (refuses 8 0 ++ (refuses 12 0 ++ (refuses 12 0 ++ (refuses 14 0 ++ (refuses 14 0 ++ (refuses 13 0 ++ (refuses 12 0 ++ refuses 13 0)))))))
     ∷ example
     (answersOf (textBytes)
-    (fetches (fetch 16 []) ∷ fetches (fetch 5 []) ∷ fetches (fetch 4 (7 ∷ 7 ∷ [])) ∷ fetches (fetch 4 (7 ∷ 7 ∷ 7 ∷ 7 ∷ [])) ∷ fetches (fetchText (7 ∷ []))
+    (fetches (fetch 16 []) ∷ fetches (fetch 5 []) ∷ fetches (fetch 4 (7 ∷ 7 ∷ [])) ∷ fetches (fetch 4 (7 ∷ 7 ∷ 7 ∷ 7 ∷ [])) ∷ fetches (fetchText (7 ∷ []) (7 ∷ 7 ∷ []))
     ∷ edits (remove 5) ∷ edits (remove 0) ∷ []))
-    (refuses 8 0 ++ (refuses 11 0 ++ (refuses 13 0 ++ (7 ∷ 7 ∷ 1 ∷ 1 ∷ 0 ∷ 3 ∷ 12 ∷ 1 ∷ 1 ∷ 7 ∷ (refuses 13 0 ++ (7 ∷ (refuses 11 0 ++ refuses 8 0)))))))
+    (refuses 8 0 ++ (refuses 11 0 ++ (refuses 13 0 ++ (7 ∷ 7 ∷ 1 ∷ 1 ∷ 0 ∷ 3 ∷ 12 ∷ 1 ∷ 1 ∷ 7 ∷ (refuses 13 0 ++ (7 ∷ 7 ∷ 7 ∷ (refuses 11 0 ++ refuses 8 0)))))))
     -- what stands behind a report that has been longer (FORMAT 6.3)
     ∷ example (drop 37 (claim allYes roomy (edits (put 9 (1 ∷ 2 ∷ 3 ∷ [])) ∷ edits (put 8 (4 ∷ 5 ∷ [])) ∷ edits (remove 9) ∷ []) .state)) (16 ∷ 40 ∷ 69 ∷ 0 ∷ 0 ∷ 0 ∷ replicate 17 5)
     ∷ example (drop 37 (claim allYes roomy (edits (put 9 (1 ∷ 2 ∷ 3 ∷ [])) ∷ edits (remove 9) ∷ []) .state)) (0 ∷ 0 ∷ 0 ∷ 0 ∷ replicate 19 5)
@@ -340,7 +355,8 @@ orders =
     -- what each number is
     ∷ example (quantities (effect allYes textBytes (reads (readField 1)) .answer) ++ quantities (effect allYes textBytes (reads (readField 4)) .answer)) (1 ∷ 1 ∷ [])
     ∷ example (quantities (effect allYes (effect allYes roomy put1 .buffer) (reads (readFlag 1)) .answer)) (2 ∷ [])
-    ∷ example (quantities (effect allYes textBytes (fetches (fetch 4 (replicate 9 7))) .answer) ++ quantities (effect allYes textBytes (fetches (fetchText (replicate 9 7))) .answer)) (3 ∷ 3 ∷ [])
+    ∷ example (quantities (effect allYes textBytes (fetches (fetch 4 (replicate 9 7))) .answer) ++ quantities (effect allYes textBytes (fetches (fetchText (replicate 9 7) (replicate 9 7))) .answer))
+    (3 ∷ 3 ∷ 10 ∷ [])
     ∷ example (quantities (effect allYes textBytes (edits (clearField 4)) .answer) ++ quantities (effect allYes textBytes (edits (remove 4)) .answer)) []
     ∷ example (quantities (unpack allYes textBytes (replicate 46 (pos 5)) (replicate 7 5) .answer)) (4 ∷ 5 ∷ 6 ∷ 7 ∷ 8 ∷ 9 ∷ [])
     ∷ example (quantities (pack allYes wholeValues requiredBits 0 [] (replicate 39 7) .answer)) (8 ∷ [])
@@ -365,11 +381,12 @@ orders =
     ∷ example (answersOf freshBytes (edits (clearField 1) ∷ edits (clearField 2) ∷ edits (clearField 6) ∷ edits (clearField 7) ∷ edits (clearField 5) ∷ []))
     (refuses 10 1 ++ (refuses 10 2 ++ (refuses 10 6 ++ (refuses 10 7 ++ yes))))
     -- runs of 17, 18 and 36 spaces, and 21
-    ∷ example (writeText (replicate 17 32 ++ (66 ∷ []))) (11 ∷ 14 ∷ 12 ∷ 2 ∷ [])
-    ∷ example (writeText (replicate 18 32 ++ (66 ∷ []))) (11 ∷ 15 ∷ 12 ∷ 2 ∷ [])
-    ∷ example (writeText (replicate 36 32 ++ (66 ∷ []))) (11 ∷ 15 ∷ 11 ∷ 15 ∷ 12 ∷ 2 ∷ [])
-    ∷ example (readText (11 ∷ 15 ∷ 11 ∷ 0 ∷ 1 ∷ [])) (replicate 21 32 ++ (49 ∷ []))
-    ∷ example (answersOf roomy (edits (put 4 (11 ∷ 15 ∷ 11 ∷ 0 ∷ 1 ∷ [])) ∷ edits (put 4 (15 ∷ 8 ∷ 0 ∷ [])) ∷ fetches (fetchText (7 ∷ 7 ∷ [])) ∷ [])) (1 ∷ 1 ∷ 1 ∷ 1 ∷ 0 ∷ 1 ∷ 128 ∷ 7 ∷ [])
+    ∷ example (writeText (plainly (replicate 17 32 ++ (66 ∷ [])))) (11 ∷ 14 ∷ 12 ∷ 2 ∷ [])
+    ∷ example (writeText (plainly (replicate 18 32 ++ (66 ∷ [])))) (11 ∷ 15 ∷ 12 ∷ 2 ∷ [])
+    ∷ example (writeText (plainly (replicate 36 32 ++ (66 ∷ [])))) (11 ∷ 15 ∷ 11 ∷ 15 ∷ 12 ∷ 2 ∷ [])
+    ∷ example (symbolNumbers (readText (11 ∷ 15 ∷ 11 ∷ 0 ∷ 1 ∷ []))) (replicate 21 32 ++ (49 ∷ replicate 22 0))
+    ∷ example (answersOf roomy (edits (put 4 (11 ∷ 15 ∷ 11 ∷ 0 ∷ 1 ∷ [])) ∷ edits (put 4 (15 ∷ 8 ∷ 0 ∷ [])) ∷ fetches (fetchText (7 ∷ 7 ∷ []) (9 ∷ 9 ∷ [])) ∷ []))
+    (1 ∷ 1 ∷ 1 ∷ 1 ∷ 0 ∷ 1 ∷ 1 ∷ 0 ∷ 0 ∷ 128 ∷ 7 ∷ 1 ∷ 9 ∷ [])
     -- bodies that end within a code
     ∷ example (answersOf roomy (edits (put 4 (1 ∷ 11 ∷ [])) ∷ edits (put 4 (1 ∷ 12 ∷ [])) ∷ edits (put 4 (1 ∷ 15 ∷ [])) ∷ [])) (refuses 14 0 ++ (refuses 14 0 ++ refuses 14 0))
     -- the lister: a field of two digits, values 10 and -10, and input past 1856 bytes
@@ -383,12 +400,12 @@ orders =
     ∷ example (packed wholeValues requiredBits (manyAttachments 15 ++ (0 ∷ 1 ∷ 7 ∷ 9 ∷ [])) []) (refuses 5 16)
     ∷ example (packed wholeValues requiredBits (manyAttachments 15 ++ (0 ∷ [])) []) (refuses 1 16)
     -- nineteen spaces are 11 15 10, and not 10 11 15
-    ∷ example (writeText (replicate 19 32 ++ (66 ∷ []))) (11 ∷ 15 ∷ 10 ∷ 12 ∷ 2 ∷ [])
+    ∷ example (writeText (plainly (replicate 19 32 ++ (66 ∷ [])))) (11 ∷ 15 ∷ 10 ∷ 12 ∷ 2 ∷ [])
     ∷ example
     (answersOf roomy
     (edits (put 4 (10 ∷ 11 ∷ 15 ∷ 12 ∷ 2 ∷ [])) ∷ edits (put 4 (11 ∷ 15 ∷ 10 ∷ 12 ∷ 2 ∷ [])) ∷ edits (put 4 (1 ∷ 10 ∷ [])) ∷ edits (put 4 (15 ∷ 4 ∷ 1 ∷ []))
     ∷ edits (put 4 (14 ∷ 0 ∷ [])) ∷ edits (put 4 (15 ∷ 6 ∷ [])) ∷ []))
-    (refuses 14 0 ++ (1 ∷ (refuses 14 0 ++ (refuses 14 0 ++ (refuses 14 0 ++ refuses 14 0)))))
+    (refuses 14 0 ++ (1 ∷ (refuses 14 0 ++ (1 ∷ (refuses 14 0 ++ refuses 14 0)))))
     ∷ []
 
 pub orders-hold : T (every orders)
@@ -397,7 +414,8 @@ unfolding manyAttachments longTail longReport codesWith codesWithout spoilt one 
     observationNumbers refusal judged answer joined answers yes refuses example freshExample freshBytes freshObservationExample sBytes textBytes reportWith reportOf
     highestCodes freshCodes badText flagless put1 flagCalls answersOf roomy wide same every first table fieldAt required scaledOf codedOf inRange entryOf codeOf entries
     codes bits number bitsOf bitField total readFields writeFields nibbles bytes padded attachmentNibbles tailNibbles attachmentsOf among weights weight totalWeight
-    allMissing qualityCode allYes flagsFit flagBody withFlag flagsValid charCode short pairByte codeNibbles classify byteOf escapable isSpace symbolNibbles fulls rest spaceRun
+    allMissing qualityCode allYes flagsFit flagBody withFlag flagsValid charCode short pairByte codeNibbles byteOf originOf symbolOf symbolsIn admitted allAdmitted
+    allMarks setOfSource setOfNumber deckSet setNumber plainly symbolNumbers putPlain isSpace symbolNibbles fulls rest spaceRun
     writeFrom writeText spaces textStep stateAfter symbolsOf readFrom endFrom atEnd textValid readText widths checksum cardNumbers cardNibbles packing observationOf
     fieldChecks bodyValid attachmentChecks reportChecks judge stands contentOf putIn removeFrom made gives outputsOf writes overfull overEach allNibbles callChecks checks
     step layout effect course calls run claim freshObservation freshChecks fresh digitsFrom fieldLines listing
@@ -499,9 +517,9 @@ tables =
     ∷ example
     (under noA withA
     (reads (readField 1) ∷ edits (setField 31 (scaled (pos 1))) ∷ edits (clearField 4) ∷ reads (readFlag 1) ∷ edits (setFlag 1 1) ∷ edits (clearFlag 1)
-    ∷ edits (put 1 flagless) ∷ edits (remove 1) ∷ edits (putText (65 ∷ [])) ∷ []))
+    ∷ edits (put 1 flagless) ∷ edits (remove 1) ∷ putPlain (65 ∷ []) ∷ []))
     (joined (replicate 9 (refuses 6 1)))
-    ∷ example (under noA withA (fetches (fetch 1 (7 ∷ [])) ∷ fetches (fetchText (8 ∷ [])) ∷ [])) (refuses 6 1 ++ (7 ∷ (refuses 6 1 ++ one 8)))
+    ∷ example (under noA withA (fetches (fetch 1 (7 ∷ [])) ∷ fetches (fetchText (8 ∷ []) (9 ∷ [])) ∷ [])) (refuses 6 1 ++ (7 ∷ (refuses 6 1 ++ (8 ∷ 9 ∷ []))))
     ∷ example (claim noA withA (edits (clearFlag 1) ∷ edits (remove 1) ∷ []) .state) withA
     ∷ example (answer (unpack noA withA (replicate 46 (pos 5)) (replicate 19 5) .answer)) (refuses 6 1)
     -- pack's tail, by the attachment's position
@@ -516,12 +534,104 @@ tables =
     ∷ []
 
 pub tables-hold : T (every tables)
-unfolding without only noA under withA contentA loading packedUnder tables rows allMarks someYes everyRow loadChecks loadAnswer inForce one wholeValues requiredBits unpack
+unfolding without only noA under withA contentA loading packedUnder tables rows someYes everyRow loadChecks loadAnswer inForce one wholeValues requiredBits unpack
     unpackGives presenceFrom countPresent packChecks entriesGiven countFrom packObservation packOrder pack signed optional given valueNumbers observationNumbers refusal
     judged answer joined answers yes refuses example freshExample freshBytes freshObservationExample flagless put1 roomy same every first table fieldAt required scaledOf
     codedOf inRange entryOf codeOf entries codes bits number bitsOf total readFields writeFields nibbles bytes padded attachmentNibbles tailNibbles attachmentsOf among
-    weights weight totalWeight allMissing qualityCode allYes flagsFit flagBody withFlag flagsValid charCode short pairByte codeNibbles classify byteOf escapable isSpace
+    weights weight totalWeight allMissing qualityCode allYes flagsFit flagBody withFlag flagsValid charCode short pairByte codeNibbles byteOf originOf symbolOf symbolsIn
+    admitted allAdmitted allMarks setOfSource setOfNumber deckSet setNumber plainly symbolNumbers putPlain isSpace
     symbolNibbles fulls rest spaceRun writeFrom writeText spaces textStep stateAfter symbolsOf readFrom endFrom atEnd textValid readText widths checksum cardNumbers
     cardNibbles packing observationOf fieldChecks bodyValid attachmentChecks reportChecks judge stands contentOf putIn removeFrom made gives outputsOf writes overfull
     overEach allNibbles callChecks checks step layout effect course calls run claim freshObservation freshChecks fresh digitsFrom fieldLines listing
 tables-hold = tt
+
+-- ---- plain and original symbols
+
+-- put text of original symbols alone
+putOriginals : List ℕ → Call
+putOriginals t = edits (putText t (replicate (length t) 1))
+
+-- a report of one attachment, 4, with these nibbles
+textReport : List ℕ → List ℕ
+textReport ns = reportOf freshCodes 1 (length ns / 16 ∷ length ns % 16 ∷ 4 ∷ ns)
+
+optionalSymbol : Option Symbol → List ℕ
+optionalSymbol none = 0 ∷ []
+optionalSymbol (some x) = 1 ∷ byteOf x ∷ originOf x ∷ []
+
+-- the first n steps of a reader
+handedOut : List Symbol → ℕ → List ℕ
+handedOut xs n = joined (map (λ (i : ℕ). optionalSymbol (handed xs i)) (upFrom 0 n))
+
+refusalOf : Option Refusal → List ℕ
+refusalOf none = yes
+refusalOf (some r) = refusal r
+
+pub symbols : List Example
+symbols =
+    -- an escape is an original symbol, whatever its byte; in a report, in put and in put text
+    example (symbolNumbers (readText (15 ∷ 4 ∷ 1 ∷ [])) ++ symbolNumbers (readText (12 ∷ 1 ∷ []))) (65 ∷ 1 ∷ 65 ∷ 0 ∷ [])
+    ∷ example (take 1 (judged (judge allYes (textReport (15 ∷ 4 ∷ 1 ∷ [])))) ++ take 1 (judged (judge allYes (textReport (15 ∷ 2 ∷ 0 ∷ []))))) (1 ∷ 1 ∷ [])
+    ∷ example (answersOf roomy (edits (put 4 (15 ∷ 4 ∷ 1 ∷ [])) ∷ edits (put 4 (15 ∷ 2 ∷ 0 ∷ [])) ∷ putOriginals (65 ∷ 32 ∷ []) ∷ fetches (fetch 4 (replicate 6 7)) ∷ []))
+    (1 ∷ 1 ∷ 1 ∷ 1 ∷ 1 ∷ 0 ∷ 6 ∷ 15 ∷ 4 ∷ 1 ∷ 15 ∷ 2 ∷ 0 ∷ [])
+    -- an original 32 breaks a run, and is not dropped at the end; plain spaces behind it are
+    ∷ example (writeText (plain 32 ∷ plain 32 ∷ original 32 ∷ plain 32 ∷ plain 65 ∷ [])) (10 ∷ 10 ∷ 15 ∷ 2 ∷ 0 ∷ 10 ∷ 12 ∷ 1 ∷ [])
+    ∷ example (symbolNumbers (readText (10 ∷ 10 ∷ 15 ∷ 2 ∷ 0 ∷ 10 ∷ 12 ∷ 1 ∷ []))) (32 ∷ 32 ∷ 32 ∷ 32 ∷ 65 ∷ 0 ∷ 0 ∷ 1 ∷ 0 ∷ 0 ∷ [])
+    ∷ example (writeText (plain 65 ∷ original 32 ∷ plain 32 ∷ [])) (12 ∷ 1 ∷ 15 ∷ 2 ∷ 0 ∷ [])
+    ∷ example (symbolNumbers (readText (12 ∷ 1 ∷ 15 ∷ 2 ∷ 0 ∷ []))) (65 ∷ 32 ∷ 0 ∷ 1 ∷ [])
+    ∷ example (writeText (plainly (replicate 19 32) ++ (original 32 ∷ (plainly (replicate 18 32) ++ (original 255 ∷ [])))))
+    (11 ∷ 15 ∷ 10 ∷ 15 ∷ 2 ∷ 0 ∷ 11 ∷ 15 ∷ 15 ∷ 15 ∷ 15 ∷ [])
+    -- put text: the report, 13 for unequal lengths, 14, 12, 13 for the buffer
+    ∷ example (answersOf (spoilt freshBytes) (edits (putText (97 ∷ []) []) ∷ [])) (refuses 4 0)
+    ∷ example (answersOf freshBytes (edits (putText (97 ∷ 65 ∷ []) (2 ∷ [])) ∷ edits (putText [] (0 ∷ [])) ∷ [])) (refuses 13 0 ++ refuses 13 0)
+    ∷ example (answersOf freshBytes (putPlain (97 ∷ []) ∷ edits (putText (65 ∷ []) (2 ∷ [])) ∷ edits (putText (65 ∷ 66 ∷ []) (0 ∷ 255 ∷ [])) ∷ []))
+    (refuses 14 0 ++ (refuses 14 0 ++ refuses 14 0))
+    ∷ example (answersOf freshBytes (edits (putText (32 ∷ []) (2 ∷ [])) ∷ edits (putText (65 ∷ 32 ∷ []) (0 ∷ 2 ∷ [])) ∷ edits (putText (65 ∷ []) (0 ∷ 0 ∷ [])) ∷ []))
+    (refuses 14 0 ++ (refuses 14 0 ++ refuses 13 0))
+    ∷ example (answersOf freshBytes (edits (putText (replicate 87 97) (replicate 86 1 ++ one 0)) ∷ edits (putText (replicate 87 97) (replicate 86 1 ++ one 2)) ∷ []))
+    (refuses 14 0 ++ refuses 14 0)
+    ∷ example (answersOf freshBytes (edits (putText [] []) ∷ putPlain (replicate 40 32) ∷ putOriginals (replicate 86 32) ∷ putOriginals (32 ∷ []) ∷ []))
+    (refuses 12 0 ++ (refuses 12 0 ++ (refuses 12 0 ++ refuses 13 0)))
+    -- fetch text: both outputs, and either too short
+    ∷ example (answersOf roomy (edits (putText (65 ∷ 65 ∷ 32 ∷ []) (0 ∷ 1 ∷ 0 ∷ [])) ∷ fetches (fetchText (7 ∷ 7 ∷ 7 ∷ []) (9 ∷ 9 ∷ [])) ∷ []))
+    (1 ∷ 1 ∷ 1 ∷ 0 ∷ 2 ∷ 1 ∷ 0 ∷ 0 ∷ 65 ∷ 65 ∷ 7 ∷ 0 ∷ 1 ∷ [])
+    ∷ example (answersOf textBytes (fetches (fetchText (7 ∷ 7 ∷ []) (9 ∷ [])) ∷ fetches (fetchText (7 ∷ []) (9 ∷ 9 ∷ [])) ∷ []))
+    (refuses 13 0 ++ (7 ∷ 7 ∷ 9 ∷ (refuses 13 0 ++ (7 ∷ 9 ∷ 9 ∷ []))))
+    ∷ example (answersOf freshBytes (fetches (fetchText (7 ∷ []) (9 ∷ [])) ∷ [])) (refuses 11 0 ++ (7 ∷ 9 ∷ []))
+    -- the deck's set, by the source ID from 0 to 25; by the scaled SID of the moment, whose code is one more
+    ∷ example (map (λ (n : ℕ). setNumber (setOfSource n)) (upFrom 0 26))
+    (0 ∷ 1 ∷ 1 ∷ 1 ∷ 2 ∷ (replicate 13 1 ++ (2 ∷ 1 ∷ 1 ∷ 1 ∷ 0 ∷ 1 ∷ 1 ∷ 0 ∷ [])))
+    ∷ example
+    (answersOf textBytes
+    (edits (setField 10 (scaled (pos 4))) ∷ fetches (fetchText (7 ∷ 7 ∷ []) (9 ∷ 9 ∷ [])) ∷ edits (setField 10 (scaled (pos 3))) ∷ fetches (fetchText (7 ∷ 7 ∷ []) (9 ∷ 9 ∷ []))
+    ∷ edits (setField 10 (scaled (pos 254))) ∷ fetches (fetchText (7 ∷ 7 ∷ []) (9 ∷ 9 ∷ [])) ∷ edits (clearField 10) ∷ fetches (fetchText (7 ∷ 7 ∷ []) (9 ∷ 9 ∷ [])) ∷ []))
+    (joined (map (λ (n : ℕ). 1 ∷ 1 ∷ 1 ∷ 0 ∷ 2 ∷ 1 ∷ 0 ∷ n ∷ 65 ∷ 49 ∷ 0 ∷ 0 ∷ []) (2 ∷ 1 ∷ 0 ∷ 0 ∷ [])))
+    -- an escaped 65 in an EBCDIC deck; original 0, original digit
+    ∷ example
+    (answersOf roomy (edits (setField 10 (scaled (pos 1))) ∷ edits (put 4 (15 ∷ 4 ∷ 1 ∷ [])) ∷ fetches (fetchText (7 ∷ []) (9 ∷ [])) ∷ []))
+    (1 ∷ 1 ∷ 1 ∷ 1 ∷ 0 ∷ 1 ∷ 1 ∷ 0 ∷ 1 ∷ 65 ∷ 1 ∷ [])
+    ∷ example (symbolNumbers (readText (15 ∷ 0 ∷ 0 ∷ 15 ∷ 3 ∷ 1 ∷ []))) (0 ∷ 49 ∷ 1 ∷ 1 ∷ [])
+    ∷ example (quantities (effect allYes textBytes (fetches (fetchText (replicate 9 7) (replicate 9 7))) .answer)) (3 ∷ 10 ∷ [])
+    -- the reader for display: its refusals; each symbol in its turn, then the end
+    ∷ example (refusalOf (openingRefusal allYes textBytes) ++ (refusalOf (openingRefusal allYes freshBytes) ++ refusalOf (openingRefusal allYes (spoilt textBytes))))
+    (1 ∷ (refuses 11 0 ++ refuses 4 0))
+    ∷ example (handedOut (displayed allYes (textReport (12 ∷ 1 ∷ 10 ∷ 10 ∷ 15 ∷ 4 ∷ 1 ∷ []))) 6)
+    (1 ∷ 65 ∷ 0 ∷ 1 ∷ 32 ∷ 0 ∷ 1 ∷ 32 ∷ 0 ∷ 1 ∷ 65 ∷ 1 ∷ 0 ∷ 0 ∷ [])
+    ∷ example (handedOut (displayed allYes (textReport (11 ∷ 15 ∷ 10 ∷ 12 ∷ 1 ∷ 15 ∷ 2 ∷ 0 ∷ []))) 22)
+    (joined (replicate 19 (1 ∷ 32 ∷ 0 ∷ [])) ++ (1 ∷ 65 ∷ 0 ∷ 1 ∷ 32 ∷ 1 ∷ 0 ∷ []))
+    ∷ example (refusalOf (openingRefusal allYes (textReport badText)) ++ handedOut (displayed allYes (textReport badText)) 2) (refuses 6 1 ++ (0 ∷ 0 ∷ []))
+    ∷ example (refusalOf (openingRefusal noA withA) ++ handedOut (displayed noA withA) 1) (refuses 6 1 ++ one 0)
+    ∷ example (handedOut (displayed allYes freshBytes) 2 ++ handedOut (displayed allYes (spoilt textBytes)) 2) (0 ∷ 0 ∷ 0 ∷ 0 ∷ [])
+    ∷ []
+
+pub symbols-hold : T (every symbols)
+unfolding putOriginals textReport optionalSymbol handedOut refusalOf symbols openingRefusal displayed handed upFrom spoilt one quantityNumber quantities without noA withA flagless put1
+    rows badText signed optional given valueNumbers
+    observationNumbers refusal judged answer joined answers yes refuses example freshBytes sBytes textBytes reportWith reportOf freshCodes answersOf roomy same every first
+    table fieldAt required scaledOf codedOf inRange entryOf codeOf entries codes bits number bitsOf bitField total readFields writeFields nibbles bytes padded
+    attachmentNibbles tailNibbles attachmentsOf among weights weight totalWeight allMissing qualityCode allYes flagsFit flagBody withFlag flagsValid charCode short
+    pairByte codeNibbles byteOf originOf symbolOf symbolsIn admitted allAdmitted allMarks setOfSource setOfNumber deckSet setNumber plainly symbolNumbers putPlain isSpace
+    symbolNibbles fulls rest spaceRun writeFrom writeText spaces textStep stateAfter symbolsOf readFrom endFrom atEnd textValid readText widths checksum cardNumbers
+    cardNibbles packing observationOf fieldChecks bodyValid attachmentChecks reportChecks judge stands contentOf putIn removeFrom made gives outputsOf writes overfull
+    overEach allNibbles callChecks checks step layout effect course calls run claim
+symbols-hold = tt

@@ -3,7 +3,7 @@
 -- Assumes nothing.
 use Prim.Native.Nat.{ℕ, zero, suc, _+_, _/_, _%_, _^_}
 use mathlib.Core.Bool.{Bool, true, false, cond, not, _&&_}
-use mathlib.Core.List.{List, [], _∷_}
+use mathlib.Core.List.{List, [], _∷_, map}
 use lib.ListN.{length}
 use lib.Dec.{T, eqb, ltb}
 use lib.IntN.{ℤ, pos, negsuc, _+ℤ_}
@@ -11,7 +11,7 @@ use Rattle.format.specs.Field.{Field, minus, table}
 use Rattle.format.specs.Bits.{total}
 use Rattle.format.specs.Observation.{widths}
 use Rattle.format.specs.Flags.{weights}
-use Rattle.format.specs.ShipText.{charCode, short, codeNibbles, pairByte, classify, byteOf, escapable, isSpace, symbolNibbles, fulls, rest, spaceRun, writeFrom}
+use Rattle.format.specs.ShipText.{charCode, short, codeNibbles, pairByte, Symbol, plain, original, byteOf, originOf, isSpace, symbolNibbles, fulls, rest, spaceRun, writeFrom}
 use Rattle.format.specs.ShipText.{writeText, spaces, textStep, stateAfter, symbolsOf, readFrom, endFrom, atEnd, textValid, readText}
 use Rattle.format.proofs.Test.{same}
 
@@ -112,33 +112,38 @@ weights-agree = tt
 
 -- ---- characters: table F4-3, with { and } for its two overpunches
 
+-- what is read is this symbol
+unfoldable pub alike : List Symbol → Symbol → Bool
+alike xs x = same (map byteOf xs) (byteOf x ∷ []) && same (map originOf xs) (originOf x ∷ [])
+
 -- the bytes of a column's rows, from row n on
 unfoldable pub column : ℕ → ℕ → List ℕ → Bool
 column z n [] = true
 column z n (b ∷ bs) =
-    same (writeText (b ∷ [])) (z ∷ n ∷ []) && (same (readText (z ∷ n ∷ [])) (b ∷ []) && column z (suc n) bs)
+    same (writeText (plain b ∷ [])) (z ∷ n ∷ []) && (alike (readText (z ∷ n ∷ [])) (plain b) && column z (suc n) bs)
 
 unfoldable pub single : ℕ → List ℕ → Bool
 single n [] = true
-single n (b ∷ bs) = same (writeText (b ∷ [])) (n ∷ []) && (same (readText (n ∷ [])) (b ∷ []) && single (suc n) bs)
+single n (b ∷ bs) = same (writeText (plain b ∷ [])) (n ∷ []) && (alike (readText (n ∷ [])) (plain b) && single (suc n) bs)
 
 -- the pairs of a column from row n on are undefined, m of them
 unfoldable pub blankFrom : ℕ → ℕ → ℕ → Bool
 blankFrom z n zero = true
 blankFrom z n (suc m) = not (textValid (z ∷ n ∷ [])) && blankFrom z (suc n) m
 
--- how many bytes below n have a short code, and whether each other one is 15 and the byte
+-- how many bytes below n have a short code, and whether each byte, as an original symbol, is 15 and the byte, there and back
 unfoldable pub countShort : ℕ → ℕ
 countShort zero = 0
 countShort (suc n) = cond (short n) 1 0 + countShort n
 
 unfoldable pub escaped : ℕ → Bool
 escaped zero = true
-escaped (suc n) = cond (short n) true (same (writeText (n ∷ [])) (15 ∷ n / 16 ∷ n % 16 ∷ [])) && escaped n
+escaped (suc n) =
+    same (writeText (original n ∷ [])) (15 ∷ n / 16 ∷ n % 16 ∷ []) && (alike (readText (15 ∷ n / 16 ∷ n % 16 ∷ [])) (original n) && escaped n)
 
 pub characters-agree : T (
     -- the digits, and a space
-    single 0 (48 ∷ 49 ∷ 50 ∷ 51 ∷ 52 ∷ 53 ∷ 54 ∷ 55 ∷ 56 ∷ 57 ∷ []) && (same (writeText (32 ∷ 48 ∷ [])) (10 ∷ 0 ∷ [])
+    single 0 (48 ∷ 49 ∷ 50 ∷ 51 ∷ 52 ∷ 53 ∷ 54 ∷ 55 ∷ 56 ∷ 57 ∷ []) && (same (writeText (plain 32 ∷ plain 48 ∷ [])) (10 ∷ 0 ∷ [])
     -- 12: { A B C D E F G H I & +
     && (column 12 0 (123 ∷ 65 ∷ 66 ∷ 67 ∷ 68 ∷ 69 ∷ 70 ∷ 71 ∷ 72 ∷ 73 ∷ 38 ∷ 43 ∷ [])
     -- 13: } J K L M N O P Q R -
@@ -148,6 +153,6 @@ pub characters-agree : T (
     -- the blank positions, and no other byte is short
     && (blankFrom 12 12 4 && (blankFrom 13 11 5 && (blankFrom 14 0 1 && (blankFrom 14 10 6 && (eqb (countShort 256) 43 && escaped 256)))))))))
     )
-unfolding same charCode short codeNibbles pairByte classify byteOf escapable isSpace symbolNibbles fulls rest spaceRun writeFrom writeText spaces textStep stateAfter
+unfolding same charCode short codeNibbles pairByte byteOf originOf alike isSpace symbolNibbles fulls rest spaceRun writeFrom writeText spaces textStep stateAfter
     symbolsOf readFrom endFrom atEnd textValid readText column single blankFrom countShort escaped
 characters-agree = tt

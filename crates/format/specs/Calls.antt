@@ -1,16 +1,16 @@
 -- FORMAT 6.1 and 6.3: the calls, their refusals 8 to 14, and the steps of the plain machine. It sees no byte of a buffer.
 use Prim.Native.Nat.{ℕ, _-_}
 use mathlib.Core.Bool.{Bool, true, false, cond, not, _&&_, _||_}
-use mathlib.Core.List.{List, [], _∷_, _++_}
+use mathlib.Core.List.{List, [], _∷_, _++_, map}
 use mathlib.Core.Option.{Option, none, some}
 use lib.ListN.{length, getD, drop, set}
 use lib.Dec.{ltb, leb, eqb}
 use lib.IntN.{ℤ, pos}
-use Rattle.format.specs.Order.{Refusal, Check, check, first, between}
+use Rattle.format.specs.Order.{Refusal, Check, check, first, between, allMarks}
 use Rattle.format.specs.Field.{fieldAt, isField, required, inRange}
 use Rattle.format.specs.Nibbles.{Attachment, attachment}
 use Rattle.format.specs.Flags.{isFlag, FlagTable, flagInRange, flagAt, withFlag}
-use Rattle.format.specs.ShipText.{writeText, readText}
+use Rattle.format.specs.ShipText.{Symbol, byteOf, originOf, symbolsIn, allAdmitted, writeText, readText, deckSet, setNumber}
 use Rattle.format.specs.Observation.{Observation, observation, size}
 use Rattle.format.specs.Report.{bodyValid}
 use Rattle.format.specs.declared.Scaled.{Scaled}
@@ -22,7 +22,7 @@ pub data Reading : Type 0 where
   readField : ℕ → Reading
   readFlag : ℕ → Reading
 
--- those that edit: set k to v; clear k; set, clear flag j; put id, content; drop id; put text
+-- those that edit: set k to v; clear k; set, clear flag j; put id, content; drop id; put text with a mark of origin for each symbol
 pub data Editing : Type 0 where
   setField : ℕ → Scaled → Editing
   clearField : ℕ → Editing
@@ -30,12 +30,12 @@ pub data Editing : Type 0 where
   clearFlag : ℕ → Editing
   put : ℕ → List ℕ → Editing
   remove : ℕ → Editing
-  putText : List ℕ → Editing
+  putText : List ℕ → List ℕ → Editing
 
--- those that fetch, to an output: fetch id; fetch text
+-- those that fetch, to an output: fetch id; fetch text, with a second output for the marks of origin
 pub data Fetching : Type 0 where
   fetch : ℕ → List ℕ → Fetching
-  fetchText : List ℕ → Fetching
+  fetchText : List ℕ → List ℕ → Fetching
 
 pub data Call : Type 0 where
   reads : Reading → Call
@@ -78,6 +78,10 @@ withContent s i ns = withAttachments s (putIn i ns (s .attachments))
 abbrev pub content : Observation → ℕ → List ℕ
 content s i = contentOf i (s .attachments)
 
+-- the symbols of the ship text, where id 4 stands
+abbrev pub shipText : Observation → List Symbol
+shipText s = readText (content s 4)
+
 -- ---- a step that is not refused
 
 -- the observation that an edit makes
@@ -88,7 +92,7 @@ made s (setFlag j v) = withContent s 1 (withFlag (content s 1) j v)
 made s (clearFlag j) = withContent s 1 (withFlag (content s 1) j 0)
 made s (put i ns) = withContent s i ns
 made s (remove i) = withAttachments s (removeFrom i (s .attachments))
-made s (putText t) = withContent s 4 (writeText t)
+made s (putText t os) = withContent s 4 (writeText (symbolsIn t os))
 
 -- a call that reads or fetches makes none
 abbrev pub edited : Observation → Call → Option Observation
@@ -108,13 +112,14 @@ next s c = afterEdit s (edited s c)
 pub data Quantity : Type 0 where
   value : Quantity  -- a field's scaled value
   flag : Quantity  -- a flag's value
-  count : Quantity  -- how many bytes a fetch wrote
+  count : Quantity  -- how many bytes a fetch wrote to each output
   word : Quantity  -- the presence word
   present : Quantity  -- how many fields are present
   rptin : Quantity  -- RPTIN
   attachments : Quantity  -- AC
   bytes : Quantity  -- a report's size in bytes
   nibbles : Quantity  -- so many nibbles: the length of unpack's tail
+  deck : Quantity  -- the deck's set: 0 unknown, 1 EBCDIC, 2 ASCII
 
 -- a number that is given, or that it is missing
 pub record Given : Type 0 where
@@ -142,21 +147,21 @@ gives s (reads (readField k)) = given value (valueNumber (valueAt s k)) ∷ []
 gives s (reads (readFlag j)) = given flag (flagNumber (flagAt (content s 1) j)) ∷ []
 gives s (edits e) = []
 gives s (fetches (fetch i out)) = counted count (length (content s i)) ∷ []
-gives s (fetches (fetchText out)) = counted count (length (readText (content s 4))) ∷ []
+gives s (fetches (fetchText out origins)) = counted count (length (shipText s)) ∷ counted deck (setNumber (deckSet (valueAt s 10))) ∷ []
 
 -- the outputs that a call is lent, refused or not
 unfoldable pub outputsOf : Call → List (List ℕ)
 outputsOf (reads r) = []
 outputsOf (edits e) = []
 outputsOf (fetches (fetch i out)) = out ∷ []
-outputsOf (fetches (fetchText out)) = out ∷ []
+outputsOf (fetches (fetchText out origins)) = out ∷ origins ∷ []
 
 -- what a step that is not refused writes to each of them, from the first byte on
 unfoldable pub writes : Observation → Call → List (List ℕ)
 writes s (reads r) = []
 writes s (edits e) = []
 writes s (fetches (fetch i out)) = content s i ∷ []
-writes s (fetches (fetchText out)) = readText (content s 4) ∷ []
+writes s (fetches (fetchText out origins)) = map byteOf (shipText s) ∷ map originOf (shipText s) ∷ []
 
 -- ---- the refusals 8 to 14, by the table of permitted flags, the observation, the buffer's length n and the call
 
@@ -210,8 +215,16 @@ overfull (xs ∷ more) (out ∷ outs) = ltb (length out) (length xs) || overfull
 abbrev pub roomCheck : ℕ → Observation → Call → Check
 roomCheck n s c = check (shorter n (edited s c) || overfull (writes s c) (outputsOf c)) 13 0
 
--- a call's checks before the last one, which is 13 for room: as far as it has them 8, 9, 10, 11, 12, 14, in this order.
--- FORMAT 6.1 leaves out what never applies: 14 of put text, and 13 of a call that lengthens no report and has no output
+-- put text, before 12. 13: not one mark for each symbol; 14: a mark over 1, or a symbol that no text may hold
+abbrev pub pairedCheck : List ℕ → List ℕ → Check
+pairedCheck t os = check (not (eqb (length t) (length os))) 13 0
+
+abbrev pub symbolsCheck : List ℕ → List ℕ → Check
+symbolsCheck t os = check (not (allMarks os && allAdmitted (symbolsIn t os))) 14 0
+
+-- a call's checks before the last one, which is 13 for room: as far as it has them 8, 9, 10, 11, 12, 14, in this order; put text has
+-- 13 and 14 of its own before 12. FORMAT 6.1 leaves out what never applies: the second 14 of put text, and 13 of a call that
+-- lengthens no report and has no output
 unfoldable pub callChecks : FlagTable → Observation → Call → List Check
 callChecks marks s (reads (readField k)) = fieldNumberCheck k ∷ []
 callChecks marks s (reads (readFlag j)) = flagNumberCheck j ∷ standsCheck s 1 ∷ []
@@ -221,9 +234,11 @@ callChecks marks s (edits (setFlag j v)) = flagNumberCheck j ∷ flagValueCheck 
 callChecks marks s (edits (clearFlag j)) = flagNumberCheck j ∷ standsCheck s 1 ∷ []
 callChecks marks s (edits (put i ns)) = idCheck i ∷ lengthCheck ns ∷ contentCheck marks i ns ∷ []
 callChecks marks s (edits (remove i)) = idCheck i ∷ standsCheck s i ∷ []
-callChecks marks s (edits (putText t)) = lengthCheck (writeText t) ∷ contentCheck marks 4 (writeText t) ∷ []
+callChecks marks s (edits (putText t os)) =
+    let ns = writeText (symbolsIn t os) in
+    pairedCheck t os ∷ symbolsCheck t os ∷ lengthCheck ns ∷ contentCheck marks 4 ns ∷ []
 callChecks marks s (fetches (fetch i out)) = idCheck i ∷ standsCheck s i ∷ []
-callChecks marks s (fetches (fetchText out)) = standsCheck s 4 ∷ []
+callChecks marks s (fetches (fetchText out origins)) = standsCheck s 4 ∷ []
 
 unfoldable pub checks : FlagTable → ℕ → Observation → Call → List Check
 checks marks n s c = callChecks marks s c ++ (roomCheck n s c ∷ [])

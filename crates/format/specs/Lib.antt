@@ -8,6 +8,7 @@ pub mod Observation
 pub mod Report
 pub mod Calls
 pub mod Reply
+pub mod Display
 pub mod Machine
 pub mod Buffer
 pub mod Whole

@@ -4,8 +4,8 @@ use mathlib.Core.Bool.{Bool, true, false, not, _&&_, _||_}
 use mathlib.Core.List.{List, [], _∷_}
 use mathlib.Core.Option.{Option, none, some}
 use lib.ListN.{length, take, drop}
-use lib.Dec.{leb, eqb}
-use Rattle.format.specs.Order.{Refusal, Check, check, first}
+use lib.Dec.{eqb}
+use Rattle.format.specs.Order.{Refusal, Check, check, first, allMarks}
 use Rattle.format.specs.Flags.{FlagTable}
 use Rattle.format.specs.Calls.{Answer, refused, accepted}
 
@@ -16,11 +16,6 @@ rows (suc n) lent = take 10 lent ∷ rows n (drop 10 lent)
 
 abbrev pub tableOf : List ℕ → FlagTable
 tableOf lent = rows 14 lent
-
--- every byte is 0 or 1
-unfoldable pub allMarks : List ℕ → Bool
-allMarks [] = true
-allMarks (m ∷ ms) = leb m 1 && allMarks ms
 
 -- a row with a yes; and every row has one
 unfoldable pub someYes : List ℕ → Bool

@@ -1,6 +1,6 @@
 -- FORMAT 5.1: refusals, and the order in which they are judged.
 use Prim.Native.Nat.{ℕ}
-use mathlib.Core.Bool.{Bool, cond, _&&_}
+use mathlib.Core.Bool.{Bool, true, cond, _&&_}
 use mathlib.Core.List.{List, [], _∷_}
 use mathlib.Core.Option.{Option, none, some}
 use lib.Dec.{leb}
@@ -26,3 +26,8 @@ first (c ∷ more) = cond (c .fits) (some (c .refusal)) (first more)
 -- low ≤ x ≤ high
 abbrev pub between : ℕ → ℕ → ℕ → Bool
 between low high x = leb low x && leb x high
+
+-- marks, each 0 or 1
+unfoldable pub allMarks : List ℕ → Bool
+allMarks [] = true
+allMarks (m ∷ ms) = leb m 1 && allMarks ms

@@ -3,9 +3,9 @@ use Prim.Native.Nat.{ℕ}
 use mathlib.Core.List.{[], _∷_}
 use mathlib.Core.Option.{none, some}
 use lib.IntN.{pos}
-use Rattle.format.specs.Calls.{value, flag, count, given, counted, Answer, refused, accepted}
+use Rattle.format.specs.Calls.{value, flag, count, deck, given, counted, Answer, refused, accepted}
 use Rattle.format.specs.declared.Reply.{Reply}
-use Rattle.format.specs.declared.Reply.the-variants.{Refused, Done, Value, MissingValue, Flag, MissingFlag, Count}
+use Rattle.format.specs.declared.Reply.the-variants.{Refused, Done, Value, MissingValue, Flag, MissingFlag, Count, Text}
 
 -- the refusal of this number and place
 abbrev pub refusal : ℕ → ℕ → Answer
@@ -19,3 +19,4 @@ answerOf MissingValue = accepted (given value none ∷ [])
 answerOf (Flag v) = accepted (given flag (some (pos v)) ∷ [])
 answerOf MissingFlag = accepted (given flag none ∷ [])
 answerOf (Count n) = accepted (counted count n ∷ [])
+answerOf (Text n k) = accepted (counted count n ∷ counted deck k ∷ [])

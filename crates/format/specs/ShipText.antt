@@ -1,11 +1,13 @@
--- FORMAT 3.5, the ship text of id 4: the characters and their table, the writer, the reader. They work on symbols: a plain one is a byte with a
--- short code, an original one is a byte that is escaped. Each byte of a text is one of the two.
+-- FORMAT 3.5, the ship text of id 4: the characters and their table, symbols, the writer, the reader, the deck's set.
 use Prim.Native.Nat.{ℕ, zero, suc, _+_, _-_, _*_, _/_, _%_}
-use mathlib.Core.Bool.{Bool, true, false, cond, not, _&&_}
+use mathlib.Core.Bool.{Bool, true, false, cond, _&&_, _||_}
 use mathlib.Core.List.{List, [], _∷_, _++_, map}
+use mathlib.Core.Option.{Option, none, some}
 use lib.ListN.{length, replicate}
 use lib.Dec.{ltb, eqb}
+use lib.IntN.{ℤ, pos, negsuc}
 use Rattle.format.specs.Order.{between}
+use Rattle.format.specs.declared.Scaled.{Scaled}
 use Rattle.format.specs.declared.TextState.{TextState}
 use Rattle.format.specs.declared.TextState.the-variants.{Between, Run, Pair, Escape, Half, Invalid}
 use Rattle.format.specs.declared.TextStep.{TextStep}
@@ -60,26 +62,44 @@ charTable = map entry (upFrom 0 256)
 
 -- ---- symbols
 
+-- a text is a row of symbols: a plain one is a character, an original one a byte of the input deck, whichever
 pub data Symbol : Type 0 where
   plain : ℕ → Symbol
   original : ℕ → Symbol
-
--- a byte of a call's text
-unfoldable pub classify : ℕ → Symbol
-classify b = cond (short b) (plain b) (original b)
 
 unfoldable pub byteOf : Symbol → ℕ
 byteOf (plain b) = b
 byteOf (original b) = b
 
--- the bytes that the writer escapes
-unfoldable pub escapable : ℕ → Bool
-escapable b = ltb b 256 && not (short b)
+-- its mark of origin: 0 plain, 1 original
+unfoldable pub originOf : Symbol → ℕ
+originOf (plain b) = 0
+originOf (original b) = 1
+
+-- the symbol of a byte and its mark
+unfoldable pub symbolOf : ℕ → ℕ → Symbol
+symbolOf b o = cond (eqb o 0) (plain b) (original b)
+
+-- the symbols of bytes and their marks, one for each
+unfoldable pub symbolsIn : List ℕ → List ℕ → List Symbol
+symbolsIn [] os = []
+symbolsIn (b ∷ bs) [] = []
+symbolsIn (b ∷ bs) (o ∷ os) = symbolOf b o ∷ symbolsIn bs os
+
+-- the symbols that a text may hold: a plain one has a short code
+unfoldable pub admitted : Symbol → Bool
+admitted (plain b) = ltb b 256 && short b
+admitted (original b) = ltb b 256
+
+unfoldable pub allAdmitted : List Symbol → Bool
+allAdmitted [] = true
+allAdmitted (x ∷ xs) = admitted x && allAdmitted xs
 
 unfoldable pub isSpace : Symbol → Bool
 isSpace (plain b) = eqb b 32
 isSpace (original b) = false
 
+-- of the symbols that a text may hold a plain one has its short code; an original one has 15 and its byte
 unfoldable pub symbolNibbles : Symbol → List ℕ
 symbolNibbles (plain b) = codeNibbles (charCode b)
 symbolNibbles (original b) = 15 ∷ b / 16 ∷ b % 16 ∷ []
@@ -107,12 +127,9 @@ unfoldable pub writeFrom : ℕ → List Symbol → List ℕ
 writeFrom s [] = []
 writeFrom s (x ∷ xs) = elim (isSpace x) [ true ↦ writeFrom (suc s) xs | false ↦ spaceRun s ++ (symbolNibbles x ++ writeFrom 0 xs) ]
 
-abbrev pub writeSymbols : List Symbol → List ℕ
-writeSymbols t = writeFrom 0 t
-
--- the writer: the nibbles of a text
-unfoldable pub writeText : List ℕ → List ℕ
-writeText t = writeSymbols (map classify t)
+-- the writer: the nibbles of a row of symbols
+unfoldable pub writeText : List Symbol → List ℕ
+writeText xs = writeFrom 0 xs
 
 -- ---- the reader
 
@@ -131,7 +148,7 @@ textStep (Between s) n =
 textStep (Run s) n = cond (eqb (s % 18) 0 && ltb n 16) (On (Between (s + (n + 3)))) (On Invalid)
 textStep (Pair s z) n = cond (eqb (pairByte z n) 0) (On Invalid) (Plain s (pairByte z n))
 textStep (Escape s) n = cond (ltb n 16) (On (Half s n)) (On Invalid)
-textStep (Half s h) n = cond (ltb n 16 && escapable (h * 16 + n)) (Original s (h * 16 + n)) (On Invalid)
+textStep (Half s h) n = cond (ltb h 16 && ltb n 16) (Original s (h * 16 + n)) (On Invalid)
 textStep Invalid n = On Invalid
 
 unfoldable pub stateAfter : TextStep → TextState
@@ -161,10 +178,40 @@ atEnd (Escape s) = false
 atEnd (Half s h) = false
 atEnd Invalid = false
 
--- a valid content of id 4. That it is one that the writer gives for some text is proved (crate laws)
+-- a valid content of id 4. That it is one that the writer gives for some row of symbols that a text may hold is proved (crate laws)
 unfoldable pub textValid : List ℕ → Bool
 textValid ns = atEnd (endFrom (Between 0) ns)
 
--- the text of a valid content. That it is the shortest for which the writer gives it is proved (crate laws)
-unfoldable pub readText : List ℕ → List ℕ
-readText ns = map byteOf (readFrom (Between 0) ns)
+-- the symbols of a valid content. That they are the shortest row for which the writer gives it, of those that a text may hold, is
+-- proved (crate laws)
+unfoldable pub readText : List ℕ → List Symbol
+readText ns = readFrom (Between 0) ns
+
+-- ---- the deck's set
+
+-- the character set of the input deck
+pub data DeckSet : Type 0 where
+  unknown : DeckSet
+  ebcdic : DeckSet
+  ascii : DeckSet
+
+-- by the source ID
+unfoldable pub setOfSource : ℕ → DeckSet
+setOfSource n =
+    cond (between 1 3 n || (between 5 17 n || (between 19 21 n || between 23 24 n))) ebcdic
+    (cond (eqb n 4 || eqb n 18) ascii unknown)
+
+unfoldable pub setOfNumber : ℤ → DeckSet
+setOfNumber (pos n) = setOfSource n
+setOfNumber (negsuc n) = unknown
+
+-- by the scaled SID, where it is present
+unfoldable pub deckSet : Option Scaled → DeckSet
+deckSet none = unknown
+deckSet (some v) = setOfNumber (v .0)
+
+-- as a number that is given, by convention
+unfoldable pub setNumber : DeckSet → ℕ
+setNumber unknown = 0
+setNumber ebcdic = 1
+setNumber ascii = 2

@@ -48,4 +48,6 @@ pub enum Reply {
     MissingFlag,
     // How many bytes a fetch wrote.
     Count(usize),
+    // How many symbols a fetch of the ship text wrote, and the number of the deck's set.
+    Text(usize, u8),
 }

@@ -1,9 +1,9 @@
--- Every answer fits 64 bits: a refusal's place, and each number that a call gives, negative ones too.
+-- Every answer fits 64 bits: a refusal's place, and each number that a call gives, negative ones too. No refusal of a report has the number 0.
 -- Assumes nothing.
 use Prim.{Unit, tt}
 use Prim.Native.Nat.{ℕ, zero, suc, _+_, _-_, _^_, _≤_, _<_}
 use native.Mathlib.Omega.{arith}
-use mathlib.Core.Path.{_≡_, refl, sym, ap, subst, _∙_}
+use mathlib.Core.Path.{_≡_, refl, sym, subst, _∙_}
 use mathlib.Core.Bool.{Bool, true, false, cond, not, _&&_}
 use mathlib.Core.List.{List, [], _∷_, _++_}
 use mathlib.Core.Option.{Option, none, some}
@@ -17,6 +17,7 @@ use Rattle.format.specs.Field.{Field, table, inRange}
 use Rattle.format.specs.Bits.{Bytes, offset}
 use Rattle.format.specs.Nibbles.{Attachment, Nibbles, idAt, behind}
 use Rattle.format.specs.Flags.{FlagTable, flagAt}
+use Rattle.format.specs.ShipText.{DeckSet, unknown, ebcdic, ascii, deckSet, setNumber}
 use Rattle.format.specs.Observation.{Observation, widths, size}
 use Rattle.format.specs.Report.{codesOf, countOf, tailOf, fieldChecks, attachmentChecks, reportChecks, observationOf, Verdict, verdict, judge}
 use Rattle.format.specs.Calls.{Call, reads, edits, fetches, readField, setField, clearField, readFlag, setFlag, clearFlag, put, fetch, remove, putText, fetchText, contentOf, content, valueNumber}
@@ -49,33 +50,37 @@ abbrev pub AnswerFits : Answer → Type 0
 AnswerFits (refused r) = r .place < 2 ^ 64
 AnswerFits (accepted gs) = GivenFit gs
 
--- ---- places
+-- ---- refusals
 
--- the first refusal of these checks, if there is one, has a place below 64
+-- its place is below 64, and its number is not 0
+abbrev Close : Refusal → Type 0
+Close r = (r .place < 64) × (1 ≤ r .number)
+
+-- the first refusal of these checks, if there is one, is so
 unfoldable Near : List Check → Type 0
-Near cs = (r : Refusal) → first cs ≡ some r → r .place < 64
+Near cs = (r : Refusal) → first cs ≡ some r → Close r
 
 near-nil : Near []
 unfolding Near first
 near-nil r e = let z : _≡_ {A = ℕ} 0 1 = cc in absurd (omega arith)
 
 -- a check, and those behind it, which count where it does not fit
-near-cons : (c : Check) (more : List Check) → c .refusal .place < 64 → (c .fits ≡ false → Near more) → Near (c ∷ more)
+near-cons : (c : Check) (more : List Check) → Close (c .refusal) → (c .fits ≡ false → Near more) → Near (c ∷ more)
 unfolding Near first
 near-cons c more h rest r = go (c .fits) refl
   where
-    go : (t : Bool) → c .fits ≡ t → cond t (some (c .refusal)) (first more) ≡ some r → r .place < 64
-    go true q e = let s : c .refusal ≡ r = cc in subst (λ (x : Refusal). x .place < 64) s h
+    go : (t : Bool) → c .fits ≡ t → cond t (some (c .refusal)) (first more) ≡ some r → Close r
+    go true q e = let s : c .refusal ≡ r = cc in subst Close s h
     go false q e = rest q r e
 
-near-one : (c : Check) → c .refusal .place < 64 → Near (c ∷ [])
+near-one : (c : Check) → Close (c .refusal) → Near (c ∷ [])
 near-one c h = near-cons c [] h (λ q. near-nil)
 
 near-append : (xs ys : List Check) → Near xs → Near ys → Near (xs ++ ys)
 unfolding Near
 near-append xs ys hx hy r = go (first xs) refl
   where
-    go : (o : Option Refusal) → first xs ≡ o → first (xs ++ ys) ≡ some r → r .place < 64
+    go : (o : Option Refusal) → first xs ≡ o → first (xs ++ ys) ≡ some r → Close r
     go none q e = hy r (sym (first-append-skip xs ys q) ∙ e)
     go (some x) q e = hx r (q ∙ sym (first-append-some xs ys x q) ∙ e)
 
@@ -85,16 +90,16 @@ unfolding fieldChecks
 fields-near k [] cs h = near-nil
 fields-near k (f ∷ fs) [] h = near-nil
 fields-near k (f ∷ fs) (c ∷ cs) h =
-    near-cons _ _ (omega arith) (λ q. near-cons _ _ (omega arith) (λ p. fields-near (suc k) fs cs (omega arith)))
+    near-cons _ _ (omega arith, omega arith) (λ q. near-cons _ _ (omega arith, omega arith) (λ p. fields-near (suc k) fs cs (omega arith)))
 
 attachments-near : (marks : FlagTable) (n i : ℕ) (seen ns : List ℕ) → i + n ≤ 64 → Near (attachmentChecks marks n i seen ns)
 unfolding attachmentChecks
 attachments-near marks zero i seen ns h = near-nil
 attachments-near marks (suc n) i seen ns h =
-    near-cons _ _ (omega arith)
-    (λ q1. near-cons _ _ (omega arith)
-    (λ q2. near-cons _ _ (omega arith)
-    (λ q3. near-cons _ _ (omega arith) (λ q4. attachments-near marks n (suc i) (idAt ns ∷ seen) (behind ns) (omega arith)))))
+    near-cons _ _ (omega arith, omega arith)
+    (λ q1. near-cons _ _ (omega arith, omega arith)
+    (λ q2. near-cons _ _ (omega arith, omega arith)
+    (λ q3. near-cons _ _ (omega arith, omega arith) (λ q4. attachments-near marks n (suc i) (idAt ns ∷ seen) (behind ns) (omega arith)))))
 
 count-low : (b : List ℕ) → countOf b < 16
 unfolding widths table
@@ -105,37 +110,42 @@ count-low b =
 report-near : (marks : FlagTable) (b : List ℕ) → Near (reportChecks marks b)
 unfolding reportChecks
 report-near marks b =
-    near-cons _ _ (omega arith)
+    near-cons _ _ (omega arith, omega arith)
     (λ q. near-append (fieldChecks 1 table (codesOf b)) _ (fields-near 1 table (codesOf b) (omega (arith, table-length)))
-    (near-cons _ _ (omega arith)
+    (near-cons _ _ (omega arith, omega arith)
     (λ p. near-append (attachmentChecks marks (countOf b) 1 [] (tailOf b)) _ (attachments-near marks (countOf b) 1 [] (tailOf b) (omega (arith, count-low b)))
-    (near-one _ (omega arith)))))
+    (near-one _ (omega arith, omega arith)))))
 
-judge-fits : (marks : FlagTable) (b : List ℕ) (r : Refusal) → judge marks b ≡ Verdict.refused r → r .place < 2 ^ 64
+judge-close : (marks : FlagTable) (b : List ℕ) (r : Refusal) → judge marks b ≡ Verdict.refused r → Close r
 unfolding judge Near
-judge-fits marks b r = go (first (reportChecks marks b)) refl
+judge-close marks b r = go (first (reportChecks marks b)) refl
   where
-    go : (o : Option Refusal) → first (reportChecks marks b) ≡ o → verdict o (observationOf b) ≡ Verdict.refused r → r .place < 2 ^ 64
+    go : (o : Option Refusal) → first (reportChecks marks b) ≡ o → verdict o (observationOf b) ≡ Verdict.refused r → Close r
     go none q e = let z : _≡_ {A = ℕ} 0 1 = cc in absurd (omega arith)
-    go (some x) q e = let s : x ≡ r = cc in let h = report-near marks b x q in omega (arith, ap (λ (y : Refusal). y .place) s)
+    go (some x) q e = let s : x ≡ r = cc in subst Close s (report-near marks b x q)
+
+-- no refusal of a report has the number 0
+pub judge-number : (marks : FlagTable) (b : List ℕ) (r : Refusal) → judge marks b ≡ Verdict.refused r → 1 ≤ r .number
+judge-number marks b r e = judge-close marks b r e .1
 
 -- a call's: a number is judged before it is a place
 number-near : (low high x : ℕ) (more : List Check) → (x ≤ high → Near more) → Near (check (not (between low high x)) 8 0 ∷ more)
-number-near low high x more h = near-cons _ _ (omega arith) (λ q. h (between-in low high x (between low high x) refl q .1))
+number-near low high x more h = near-cons _ _ (omega arith, omega arith) (λ q. h (between-in low high x (between low high x) refl q .1))
 
 calls-near : (marks : FlagTable) (s : Observation) (c : Call) → Near (callChecks marks s c)
 unfolding callChecks
 calls-near marks s (reads (readField k)) = number-near 1 46 k _ (λ h. near-nil)
-calls-near marks s (reads (readFlag j)) = number-near 1 14 j _ (λ h. near-one _ (omega arith))
-calls-near marks s (edits (setField k v)) = number-near 1 46 k _ (λ h. near-one _ (omega arith))
-calls-near marks s (edits (clearField k)) = number-near 1 46 k _ (λ h. near-one _ (omega arith))
-calls-near marks s (edits (setFlag j v)) = number-near 1 14 j _ (λ h. near-cons _ _ (omega arith) (λ q. near-one _ (omega arith)))
-calls-near marks s (edits (clearFlag j)) = number-near 1 14 j _ (λ h. near-one _ (omega arith))
-calls-near marks s (edits (put i ns)) = number-near 1 15 i _ (λ h. near-cons _ _ (omega arith) (λ q. near-one _ (omega arith)))
-calls-near marks s (edits (remove i)) = number-near 1 15 i _ (λ h. near-one _ (omega arith))
-calls-near marks s (edits (putText t)) = near-cons _ _ (omega arith) (λ q. near-one _ (omega arith))
-calls-near marks s (fetches (fetch i out)) = number-near 1 15 i _ (λ h. near-one _ (omega arith))
-calls-near marks s (fetches (fetchText out)) = near-one _ (omega arith)
+calls-near marks s (reads (readFlag j)) = number-near 1 14 j _ (λ h. near-one _ (omega arith, omega arith))
+calls-near marks s (edits (setField k v)) = number-near 1 46 k _ (λ h. near-one _ (omega arith, omega arith))
+calls-near marks s (edits (clearField k)) = number-near 1 46 k _ (λ h. near-one _ (omega arith, omega arith))
+calls-near marks s (edits (setFlag j v)) = number-near 1 14 j _ (λ h. near-cons _ _ (omega arith, omega arith) (λ q. near-one _ (omega arith, omega arith)))
+calls-near marks s (edits (clearFlag j)) = number-near 1 14 j _ (λ h. near-one _ (omega arith, omega arith))
+calls-near marks s (edits (put i ns)) = number-near 1 15 i _ (λ h. near-cons _ _ (omega arith, omega arith) (λ q. near-one _ (omega arith, omega arith)))
+calls-near marks s (edits (remove i)) = number-near 1 15 i _ (λ h. near-one _ (omega arith, omega arith))
+calls-near marks s (edits (putText t os)) =
+    near-cons _ _ (omega arith, omega arith) (λ p. near-cons _ _ (omega arith, omega arith) (λ q. near-cons _ _ (omega arith, omega arith) (λ r. near-one _ (omega arith, omega arith))))
+calls-near marks s (fetches (fetch i out)) = number-near 1 15 i _ (λ h. near-one _ (omega arith, omega arith))
+calls-near marks s (fetches (fetchText out origins)) = near-one _ (omega arith, omega arith)
 
 -- ---- numbers that are given
 
@@ -178,7 +188,7 @@ value-fits (cons {f = f} {e = e} {fs = fs} h t) l zero = entry-fits f e h (and-t
 value-fits (cons {f = f} {fs = fs} h t) l (suc i) = value-fits t (and-true (narrow f) (allNarrow fs) l .1) i
 
 -- attachments: 255 nibbles at most
-content-low : (marks : FlagTable) {seen : List ℕ} {list : List Attachment} (i : ℕ) → Fine marks seen list
+pub content-low : (marks : FlagTable) {seen : List ℕ} {list : List Attachment} (i : ℕ) → Fine marks seen list
     → (length (contentOf i list) ≤ 255) × Nibbles (contentOf i list)
 unfolding contentOf
 content-low marks i empty = (omega arith, λ k. omega arith)
@@ -186,6 +196,12 @@ content-low marks i (one {a = a} {more = more} at new f) =
     cond-case (λ (ns : List ℕ). (length ns ≤ 255) × Nibbles ns) (eqb (a .id) i) (a .content) (contentOf i more)
     (λ e. (at .short, at .nibbles))
     (λ e. content-low marks i f)
+
+set-small : (d : DeckSet) → setNumber d < 2 ^ 63
+unfolding setNumber
+set-small unknown = omega arith
+set-small ebcdic = omega arith
+set-small ascii = omega arith
 
 gives-fit : (marks : FlagTable) (s : Observation) (c : Call) → Good marks s → GivenFit (gives s c)
 unfolding gives
@@ -196,7 +212,9 @@ gives-fit marks s (reads (readFlag j)) g =
     (cond-case NumberFits (eqb v 0) none (some (pos v)) (λ e. tt) (λ e. omega arith), tt)
 gives-fit marks s (edits e) g = tt
 gives-fit marks s (fetches (fetch i out)) g = let h = content-low marks i (g .fine) .0 in (omega arith, tt)
-gives-fit marks s (fetches (fetchText out)) g = let h = content-low marks 4 (g .fine) .0 in (omega (arith, read-text-length (content s 4)), tt)
+gives-fit marks s (fetches (fetchText out origins)) g =
+    let h = content-low marks 4 (g .fine) .0 in
+    (omega (arith, read-text-length (content s 4)), (set-small (deckSet (getD (s .values) 9 none)), tt))
 
 -- ---- answers
 
@@ -216,7 +234,7 @@ unfolding effect
 effect-fits marks b c h = go (judge marks b) refl
   where
     go : (v : Verdict) → judge marks b ≡ v → AnswerFits (effectOn marks v b c .answer)
-    go (Verdict.refused r) q = judge-fits marks b r q
+    go (Verdict.refused r) q = omega (arith, judge-close marks b r q .0)
     go (Verdict.accepted s) q = step-fits marks (length b) s c (judged marks b s h q .good)
 
 -- every answer of a list
@@ -232,7 +250,7 @@ unfolding claim run
 claim-fits marks b cs h = go (judge marks b) refl
   where
     go : (v : Verdict) → judge marks b ≡ v → Each ShownFits cs (claimOn marks v b cs .answers)
-    go (Verdict.refused r) q = refusals-fit r cs (judge-fits marks b r q)
+    go (Verdict.refused r) q = refusals-fit r cs (omega (arith, judge-close marks b r q .0))
     go (Verdict.accepted s) q =
         each-answer (stepping marks (length b)) (λ (m : Standing). Kept marks (length b) (m .observation)) ShownFits
         (λ m c k. (step-fits marks (length b) (m .observation) c (k .good), step-kept marks (length b) (m .observation) c k))

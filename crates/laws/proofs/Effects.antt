@@ -12,7 +12,7 @@ use Rattle.format.specs.Flags.{FlagTable}
 use Rattle.format.specs.Observation.{Observation, size}
 use Rattle.format.specs.Report.{Verdict, judge}
 use Rattle.format.specs.Calls.{Call, Reading, Editing, Fetching, reads, edits, fetches, made, edited, afterEdit, next, shorter, gives, overfull, overEach, outputsOf}
-use Rattle.format.specs.Calls.{writes, roomCheck, callChecks, checks, Answer, Stepped, steppedBy, step, over}
+use Rattle.format.specs.Calls.{writes, roomCheck, callChecks, checks, Answer, Stepped, steppedBy, step}
 use Rattle.format.specs.Buffer.{layout, bufferAfter, after, effect}
 use Rattle.format.specs.Reply.{refusal}
 use Rattle.laws.proofs.Order.{first-fits, first-append-skip, no-check, no-checks, first-nil}
@@ -101,15 +101,11 @@ module _ (marks : FlagTable) (b : List ℕ) (s : Observation) (bs : Bytes b) (j 
   unfolding outputsOf writes overfull overEach
   read-done r passed = effect-same marks b s (reads r) bs j [] refl passed refl refl
 
-  -- one output, to which xs are written
-  module _ (f : Fetching) (xs out : List ℕ) (lent : outputsOf (fetches f) ≡ out ∷ []) (wrote : writes s (fetches f) ≡ xs ∷ []) (passed : first (callChecks marks s (fetches f)) ≡ none) where
-    pub fetch-done : (o : List ℕ) → length xs ≤ length out → o ≡ over xs out → after (Answer.accepted (gives s (fetches f))) b (o ∷ []) ≡ effect marks b (fetches f)
-    unfolding overfull overEach
-    fetch-done o fits is =
-        effect-same marks b s (fetches f) bs j (o ∷ []) refl passed (rw (wrote, lent, le-ltb (length out) (length xs) fits)) (rw (wrote, lent, is))
+  -- a fetch: its outputs after it; 13, where one is too short
+  module _ (f : Fetching) (passed : first (callChecks marks s (fetches f)) ≡ none) where
+    pub fetch-done : (os : List (List ℕ)) → overfull (writes s (fetches f)) (outputsOf (fetches f)) ≡ false → os ≡ overEach (writes s (fetches f)) (outputsOf (fetches f))
+        → after (Answer.accepted (gives s (fetches f))) b os ≡ effect marks b (fetches f)
+    fetch-done os fits is = effect-same marks b s (fetches f) bs j os refl passed fits is
 
-    -- 13, for it
-    pub fetch-short : length out < length xs → after (refusal 13 0) b (out ∷ []) ≡ effect marks b (fetches f)
-    unfolding overfull
-    fetch-short short =
-        ap (after (refusal 13 0) b) (sym lent) ∙ effect-room marks b s (fetches f) bs j passed (rw (wrote, lent, lt-ltb (length out) (length xs) short))
+    pub fetch-short : overfull (writes s (fetches f)) (outputsOf (fetches f)) ≡ true → after (refusal 13 0) b (outputsOf (fetches f)) ≡ effect marks b (fetches f)
+    fetch-short short = effect-room marks b s (fetches f) bs j passed short

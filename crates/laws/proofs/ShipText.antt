@@ -1,61 +1,48 @@
--- The laws of ship text: what was written is read back without its trailing spaces, what is read is what was written, so that
--- a body is valid exactly when some text is written so, and what is read is the shortest such text; and the bounds.
+-- The laws of ship text: what was written is read back without its trailing plain spaces, what is read is what was written, so
+-- that a body is valid exactly when some row of symbols is written so, and what is read is the shortest such row; and the bounds.
 -- Assumes nothing.
 use Prim.Native.Nat.{ℕ, zero, suc, _+_, _*_, _/_, _%_, _≤_, _<_}
 use native.Mathlib.Omega.{arith}
 use native.Mathlib.Numerals.{add-one}
 use mathlib.Core.Path.{_≡_, refl, sym, ap, ap₂, _∙_}
-use mathlib.Core.Bool.{Bool, true, false, cond, not, _&&_}
-use mathlib.Core.List.{List, [], _∷_, _++_, map, append-assoc, append-nil, map-append}
-use lib.ListN.{length, replicate, length-append, length-replicate, length-map}
+use mathlib.Core.Bool.{true, false, cond, _&&_}
+use mathlib.Core.List.{List, [], _∷_, _++_, append-assoc, append-nil}
+use lib.ListN.{length, take, length-append, length-replicate}
+use lib.Seq.{take-append-seam}
 use lib.Dec.{ltb, leb, eqb}
-use borrow.Author.Tests.{ltb-true, eqb-true, eqb-false, lt-ltb, le-ltb, le-leb, eq-eqb, ne-eqb, not-true}
+use borrow.Author.Tests.{ltb-true, eqb-true, eqb-false, lt-ltb, le-ltb, le-leb, eq-eqb, ne-eqb}
 use Rattle.format.specs.declared.TextState.{TextState}
 use Rattle.format.specs.declared.TextState.the-variants.{Between, Run, Pair, Escape, Half, Invalid}
 use Rattle.format.specs.declared.TextStep.{TextStep}
 use Rattle.format.specs.declared.TextStep.the-variants.{On, Plain, Original}
-use Rattle.format.specs.ShipText.{charCode, short, pairByte, codeNibbles, Symbol, plain, original, classify, byteOf, escapable, isSpace, symbolNibbles, fulls, rest}
-use Rattle.format.specs.ShipText.{spaceRun, writeFrom, writeSymbols, writeText, spaces, textStep, stateAfter, symbolsOf, readFrom, endFrom, atEnd, textValid, readText}
+use Rattle.format.specs.ShipText.{charCode, short, pairByte, codeNibbles, Symbol, plain, original, admitted, allAdmitted, isSpace, symbolNibbles, fulls, rest}
+use Rattle.format.specs.ShipText.{spaceRun, writeFrom, writeText, spaces, textStep, stateAfter, symbolsOf, readFrom, endFrom, atEnd, textValid, readText}
 use Rattle.format.specs.Calls.{allNibbles}
 use Rattle.laws.proofs.Sequences.{and-true, true-false, cond-case, test-case}
-use Rattle.format.specs.Bits.{Bytes}
-use Rattle.laws.proofs.Characters.{Coded, a-digit, a-pair, coded, escape-code, code-bound, digit-code, paired}
+use Rattle.laws.proofs.Characters.{Coded, a-digit, a-pair, coded, code-bound, digit-code, paired}
 
 -- ---- symbols that a text may hold
-
--- a plain byte has a short code, an original one is escapable
-unfoldable pub ok : Symbol → Bool
-ok (plain b) = ltb b 256 && short b
-ok (original b) = escapable b
-
-unfoldable pub fine : List Symbol → Bool
-fine [] = true
-fine (x ∷ xs) = ok x && fine xs
 
 -- a symbol behind s spaces
 abbrev word : ℕ → Symbol → List Symbol
 word s x = spaces s ++ (x ∷ [])
 
-fine-cons : (x : Symbol) (t : List Symbol) → ok x ≡ true → fine t ≡ true → fine (x ∷ t) ≡ true
-unfolding fine
-fine-cons x t e f = rw e f
+admitted-parts : (x : Symbol) (t : List Symbol) → allAdmitted (x ∷ t) ≡ true → (admitted x ≡ true) × (allAdmitted t ≡ true)
+unfolding allAdmitted
+admitted-parts x t e = and-true (admitted x) (allAdmitted t) e
 
-fine-parts : (x : Symbol) (t : List Symbol) → fine (x ∷ t) ≡ true → (ok x ≡ true) × (fine t ≡ true)
-unfolding fine
-fine-parts x t e = and-true (ok x) (fine t) e
+admitted-word : (s : ℕ) (x : Symbol) (t : List Symbol) → admitted x ≡ true → allAdmitted t ≡ true → allAdmitted (word s x ++ t) ≡ true
+unfolding allAdmitted spaces admitted short charCode
+admitted-word zero x t e f = rw e f
+admitted-word (suc s) x t e f = admitted-word s x t e f
 
-fine-word : (s : ℕ) (x : Symbol) (t : List Symbol) → ok x ≡ true → fine t ≡ true → fine (word s x ++ t) ≡ true
-unfolding fine spaces ok short charCode
-fine-word zero x t e f = rw e f
-fine-word (suc s) x t e f = fine-word s x t e f
+pub admitted-plain : (b : ℕ) → admitted (plain b) ≡ true → (b < 256) × (short b ≡ true)
+unfolding admitted
+admitted-plain b e = let t = and-true (ltb b 256) (short b) e in (ltb-true b 256 (t .0), t .1)
 
-ok-plain : (b : ℕ) → ok (plain b) ≡ true → (b < 256) × (short b ≡ true)
-unfolding ok
-ok-plain b e = let t = and-true (ltb b 256) (short b) e in (ltb-true b 256 (t .0), t .1)
-
-ok-original : (b : ℕ) → ok (original b) ≡ true → (b < 256) × (short b ≡ false)
-unfolding ok escapable
-ok-original b e = let t = and-true (ltb b 256) (not (short b)) e in (ltb-true b 256 (t .0), not-true (short b) (t .1))
+admitted-original : (b : ℕ) → admitted (original b) ≡ true → b < 256
+unfolding admitted
+admitted-original b e = ltb-true b 256 e
 
 -- ---- the writer, one symbol at a time
 
@@ -72,11 +59,11 @@ write-case : (P : List ℕ → Type 0) (s : ℕ) (x : Symbol) (t : List Symbol) 
     → (isSpace x ≡ false → P (spaceRun s ++ (symbolNibbles x ++ writeFrom 0 t))) → P (writeFrom s (x ∷ t))
 write-case P s x t f g = test-case (isSpace x) (λ e. rw (write-space s x t e) (f e)) (λ e. rw (write-symbol s x t e) (g e))
 
-write-word : (k s : ℕ) (x : Symbol) (t : List Symbol) → isSpace x ≡ false → writeFrom s (word k x ++ t) ≡ (spaceRun (k + s) ++ symbolNibbles x) ++ writeSymbols t
-unfolding spaces
+write-word : (k s : ℕ) (x : Symbol) (t : List Symbol) → isSpace x ≡ false → writeFrom s (word k x ++ t) ≡ (spaceRun (k + s) ++ symbolNibbles x) ++ writeText t
+unfolding spaces writeText
 write-word zero s x t e =
     let z : 0 + s ≡ s = omega arith in
-    rw z (write-symbol s x t e ∙ sym (append-assoc (spaceRun s) (symbolNibbles x) (writeSymbols t)))
+    rw z (write-symbol s x t e ∙ sym (append-assoc (spaceRun s) (symbolNibbles x) (writeText t)))
 write-word (suc k) s x t e =
     let z : suc k + s ≡ k + suc s = omega arith in
     rw z (write-space s (plain 32) (word k x ++ t) (unfold isSpace in refl) ∙ write-word k (suc s) x t e)
@@ -226,20 +213,20 @@ reads-coded s b (a-pair h k e z) =
     (reads-on (rw (le-ltb (v / 16) 10 (omega arith), ne-eqb (v / 16) 10 (λ q. omega arith), ne-eqb (v / 16) 11 (λ q. omega arith), lt-ltb (v / 16) 15 (omega arith))))
     (reads-one {step = Plain s b} (rw (e, ne-eqb b 0 z))))
 
-reads-escaped : (s h n : ℕ) → h < 16 → n < 16 → escapable (h * 16 + n) ≡ true → Reads (Between s) (symbolNibbles (original (h * 16 + n))) (word s (original (h * 16 + n))) (Between 0)
+reads-escaped : (s h n : ℕ) → h < 16 → n < 16 → Reads (Between s) (symbolNibbles (original (h * 16 + n))) (word s (original (h * 16 + n))) (Between 0)
 unfolding textStep symbolsOf stateAfter
-reads-escaped s h n k l e =
+reads-escaped s h n k l =
     rw (original-three h n l)
     (reads-append {mid = Escape s} (reads-on refl)
-    (reads-append {mid = Half s h} (reads-on (rw (lt-ltb h 16 k))) (reads-one {step = Original s (h * 16 + n)} (rw (lt-ltb n 16 l, e)))))
+    (reads-append {mid = Half s h} (reads-on (rw (lt-ltb h 16 k))) (reads-one {step = Original s (h * 16 + n)} (rw (lt-ltb h 16 k, lt-ltb n 16 l)))))
 
-reads-symbol : (s : ℕ) (x : Symbol) → ok x ≡ true → isSpace x ≡ false → Reads (Between s) (symbolNibbles x) (word s x) (Between 0)
-unfolding ok isSpace
-reads-symbol s (plain b) o i = let p = ok-plain b o in reads-coded s b (coded b (p .0) (p .1) i)
+reads-symbol : (s : ℕ) (x : Symbol) → admitted x ≡ true → isSpace x ≡ false → Reads (Between s) (symbolNibbles x) (word s x) (Between 0)
+unfolding isSpace
+reads-symbol s (plain b) o i = let p = admitted-plain b o in reads-coded s b (coded b (p .0) (p .1) i)
 reads-symbol s (original b) o i =
-    let small : b < 256 = ok-original b o .0 in
+    let small : b < 256 = admitted-original b o in
     let e : b / 16 * 16 + b % 16 ≡ b = omega arith in
-    rw e at (reads-escaped s (b / 16) (b % 16) (omega arith) (omega arith) (rw e o))
+    rw e at (reads-escaped s (b / 16) (b % 16) (omega arith) (omega arith))
 
 -- ---- what was written is read back
 
@@ -260,11 +247,11 @@ record Written (s : ℕ) (t : List Symbol) (ns : List ℕ) : Type 0 where
   reads : Reads (Between 0) ns text (Between 0)
   whole : spaces s ++ t ≡ text ++ spaces dropped
 
-written : (t : List Symbol) (s : ℕ) → fine t ≡ true → Written s t (writeFrom s t)
+written : (t : List Symbol) (s : ℕ) → allAdmitted t ≡ true → Written s t (writeFrom s t)
 unfolding writeFrom spaces
 written [] s f = record { text = []; dropped = s; reads = reads-none (Between 0); whole = append-nil (spaces s) }
 written (x ∷ t) s f =
-    let p = fine-parts x t f in
+    let p = admitted-parts x t f in
     write-case (Written s (x ∷ t)) s x t
     (λ e. let w = written t (suc s) (p .1) in
     record {
@@ -280,16 +267,6 @@ written (x ∷ t) s f =
       reads = reads-append (reads-run s) (reads-append (reads-symbol s x (p .0) e) (w .reads));
       whole = sym (append-assoc (spaces s) (x ∷ []) t) ∙ ap (λ (l : List Symbol). word s x ++ l) (w .whole) ∙ sym (append-assoc (word s x) (w .text) (spaces (w .dropped)));
     })
-
--- a content is valid if the writer gives it
-symbols-valid : (t : List Symbol) → fine t ≡ true → textValid (writeSymbols t) ≡ true
-unfolding textValid atEnd
-symbols-valid t f = ap atEnd (written t 0 f .reads .end)
-
--- and what is read of it is the text without spaces at its end
-symbols-back : (t : List Symbol) → fine t ≡ true → (k : ℕ) × (t ≡ readFrom (Between 0) (writeSymbols t) ++ spaces k)
-unfolding spaces
-symbols-back t f = let w = written t 0 f in (w .dropped, w .whole ∙ ap (λ (l : List Symbol). l ++ spaces (w .dropped)) (sym (w .reads .text)))
 
 -- ---- spaces at the end of a text
 
@@ -322,14 +299,14 @@ data Brings (st : TextState) (n : ℕ) : TextStep → Type 0 where
   nothing : Brings st n (On Invalid)
   a-state : {to : TextState} → consumed to ≡ consumed st ++ (n ∷ []) → Brings st n (On to)
   a-word : {step : TextStep} (s : ℕ) (x : Symbol) → symbolsOf step ≡ word s x → stateAfter step ≡ Between 0
-      → ok x ≡ true → isSpace x ≡ false → spaceRun s ++ symbolNibbles x ≡ consumed st ++ (n ∷ []) → Brings st n step
+      → admitted x ≡ true → isSpace x ≡ false → spaceRun s ++ symbolNibbles x ≡ consumed st ++ (n ∷ []) → Brings st n step
 
-brings-plain : {st : TextState} {n : ℕ} (s b : ℕ) → ok (plain b) ≡ true → eqb b 32 ≡ false → spaceRun s ++ symbolNibbles (plain b) ≡ consumed st ++ (n ∷ []) → Brings st n (Plain s b)
+brings-plain : {st : TextState} {n : ℕ} (s b : ℕ) → admitted (plain b) ≡ true → eqb b 32 ≡ false → spaceRun s ++ symbolNibbles (plain b) ≡ consumed st ++ (n ∷ []) → Brings st n (Plain s b)
 unfolding symbolsOf stateAfter isSpace
 brings-plain s b o i e = a-word s (plain b) refl refl o i e
 
-short-ok : (b v : ℕ) → charCode b ≡ v → v < 256 → b < 256 → ok (plain b) ≡ true
-unfolding ok short
+short-ok : (b v : ℕ) → charCode b ≡ v → v < 256 → b < 256 → admitted (plain b) ≡ true
+unfolding admitted short
 short-ok b v e h k = rw (lt-ltb b 256 k, e, lt-ltb v 256 h)
 
 after-between : (s n : ℕ) → Brings (Between s) n (textStep (Between s) n)
@@ -368,12 +345,14 @@ after-pair s z n =
     (ap (λ (l : List ℕ). spaceRun s ++ l) (plain-two (pairByte z n) z n (p .code) (omega arith) (omega arith) (p .nibble)) ∙ sym (append-assoc (spaceRun s) (z ∷ []) (n ∷ []))))
 
 after-half : (s h n : ℕ) → Brings (Half s h) n (textStep (Half s h) n)
-unfolding textStep consumed symbolsOf stateAfter isSpace ok
+unfolding textStep consumed symbolsOf stateAfter isSpace admitted
 after-half s h n =
-    cond-case (Brings (Half s h) n) (ltb n 16 && escapable (h * 16 + n)) _ _
-    (λ e. let t = and-true (ltb n 16) (escapable (h * 16 + n)) e in
-    a-word s (original (h * 16 + n)) refl refl (t .1) refl
-    (ap (λ (l : List ℕ). spaceRun s ++ l) (original-three h n (ltb-true n 16 (t .0))) ∙ sym (append-assoc (spaceRun s) (15 ∷ h ∷ []) (n ∷ []))))
+    cond-case (Brings (Half s h) n) (ltb h 16 && ltb n 16) _ _
+    (λ e. let t = and-true (ltb h 16) (ltb n 16) e in
+    let high = ltb-true h 16 (t .0) in
+    let low = ltb-true n 16 (t .1) in
+    a-word s (original (h * 16 + n)) refl refl (lt-ltb (h * 16 + n) 256 (omega arith)) refl
+    (ap (λ (l : List ℕ). spaceRun s ++ l) (original-three h n low) ∙ sym (append-assoc (spaceRun s) (15 ∷ h ∷ []) (n ∷ []))))
     (λ _. nothing)
 
 brings : (st : TextState) (n : ℕ) → Brings st n (textStep st n)
@@ -401,13 +380,13 @@ ended Invalid e = absurd (true-false false e refl)
 
 -- the nibbles of what was read
 record Back (st : TextState) (ns : List ℕ) (t : List Symbol) : Type 0 where
-  same : writeSymbols t ≡ consumed st ++ ns
-  good : fine t ≡ true
+  same : writeText t ≡ consumed st ++ ns
+  good : allAdmitted t ≡ true
 
 back-by : (st : TextState) (n : ℕ) (ns : List ℕ) (step : TextStep) → Brings st n step
     → ((to : TextState) → atEnd (endFrom to ns) ≡ true → Back to ns (readFrom to ns))
     → atEnd (endFrom (stateAfter step) ns) ≡ true → Back st (n ∷ ns) (symbolsOf step ++ readFrom (stateAfter step) ns)
-unfolding symbolsOf stateAfter
+unfolding symbolsOf stateAfter writeText
 back-by st n ns (On Invalid) nothing ih e = absurd (true-false _ e (invalid-refused ns))
 back-by st n ns (On to) (a-state q) ih e =
     let b = ih to e in
@@ -416,25 +395,16 @@ back-by st n ns step (a-word s x g a o i q) ih e =
     let b = ih (Between 0) (rw a at e) in
     let t = readFrom (Between 0) ns in
     let z : s + 0 ≡ s = omega arith in
-    let u : writeSymbols t ≡ ns = rw none-consumed at (b .same) in
+    let u : writeText t ≡ ns = rw none-consumed at (b .same) in
     rw (g, a) (record {
-      same = write-word s 0 x t i ∙ ap (λ (k : ℕ). (spaceRun k ++ symbolNibbles x) ++ writeSymbols t) z ∙ ap₂ _++_ q u ∙ append-assoc (consumed st) (n ∷ []) ns;
-      good = fine-word s x t o (b .good);
+      same = write-word s 0 x t i ∙ ap (λ (k : ℕ). (spaceRun k ++ symbolNibbles x) ++ writeText t) z ∙ ap₂ _++_ q u ∙ append-assoc (consumed st) (n ∷ []) ns;
+      good = admitted-word s x t o (b .good);
     })
 
 back : (ns : List ℕ) (st : TextState) → atEnd (endFrom st ns) ≡ true → Back st ns (readFrom st ns)
-unfolding readFrom endFrom fine writeFrom
+unfolding readFrom endFrom allAdmitted writeFrom writeText
 back [] st e = record { same = sym (append-nil (consumed st) ∙ ended st e); good = refl }
 back (n ∷ ns) st e = back-by st n ns (textStep st n) (brings st n) (back ns) e
-
--- what is read of a valid body gives it again
-body-back : (ns : List ℕ) → textValid ns ≡ true → writeSymbols (readFrom (Between 0) ns) ≡ ns
-unfolding textValid
-body-back ns e = rw none-consumed at (back ns (Between 0) e .same)
-
-body-fine : (ns : List ℕ) → textValid ns ≡ true → fine (readFrom (Between 0) ns) ≡ true
-unfolding textValid
-body-fine ns e = back ns (Between 0) e .good
 
 -- ---- nibbles
 
@@ -469,24 +439,25 @@ code-nibbles v h =
     (λ e. rw (le-leb (v / 16) 15 (omega (arith, ltb-true v 256 e)), le-leb (v % 16) 15 (omega arith)))
     (λ _. rw (le-leb (v / 256) 15 (omega arith), le-leb (v / 16 % 16) 15 (omega arith), le-leb (v % 16) 15 (omega arith))))
 
-symbol-nibbles : (x : Symbol) → ok x ≡ true → allNibbles (symbolNibbles x) ≡ true
+symbol-nibbles : (x : Symbol) → admitted x ≡ true → allNibbles (symbolNibbles x) ≡ true
 unfolding symbolNibbles allNibbles
-symbol-nibbles (plain b) e = code-nibbles (charCode b) (code-bound b (ok-plain b e .0))
+symbol-nibbles (plain b) e = code-nibbles (charCode b) (code-bound b (admitted-plain b e .0))
 symbol-nibbles (original b) e =
-    let h : b < 256 = ok-original b e .0 in
+    let h : b < 256 = admitted-original b e in
     rw (le-leb (b / 16) 15 (omega arith), le-leb (b % 16) 15 (omega arith))
 
-write-nibbles : (t : List Symbol) (s : ℕ) → fine t ≡ true → allNibbles (writeFrom s t) ≡ true
+write-nibbles : (t : List Symbol) (s : ℕ) → allAdmitted t ≡ true → allNibbles (writeFrom s t) ≡ true
 unfolding writeFrom allNibbles
 write-nibbles [] s f = refl
 write-nibbles (x ∷ t) s f =
-    let p = fine-parts x t f in
+    let p = admitted-parts x t f in
     write-case (λ (l : List ℕ). allNibbles l ≡ true) s x t (λ _. write-nibbles t (suc s) (p .1))
     (λ _. nibbles-append (spaceRun s) (symbolNibbles x ++ writeFrom 0 t) (run-nibbles s)
     (nibbles-append (symbolNibbles x) (writeFrom 0 t) (symbol-nibbles x (p .0)) (write-nibbles t 0 (p .1))))
 
-symbols-nibbles : (t : List Symbol) → fine t ≡ true → allNibbles (writeSymbols t) ≡ true
-symbols-nibbles t f = write-nibbles t 0 f
+pub text-all-nibbles : (t : List Symbol) → allAdmitted t ≡ true → allNibbles (writeText t) ≡ true
+unfolding writeText
+text-all-nibbles t f = write-nibbles t 0 f
 
 -- ---- bounds
 
@@ -505,28 +476,6 @@ rest-length (suc (suc (suc r))) = omega arith
 pub run-length : (s : ℕ) → length (spaceRun s) ≤ s
 unfolding spaceRun
 run-length s = omega (arith, length-append (fulls (s / 18)) (rest (s % 18)), fulls-length (s / 18), rest-length (s % 18))
-
-code-length : (v : ℕ) → length (codeNibbles v) ≤ 3
-unfolding codeNibbles
-code-length v =
-    cond-case (λ (l : List ℕ). length l ≤ 3) (ltb v 16) _ _ (λ _. omega arith)
-    (λ _. cond-case (λ (l : List ℕ). length l ≤ 3) (ltb v 256) _ _ (λ _. omega arith) (λ _. omega arith))
-
-symbol-length : (x : Symbol) → length (symbolNibbles x) ≤ 3
-unfolding symbolNibbles
-symbol-length (plain b) = code-length (charCode b)
-symbol-length (original b) = omega arith
-
-write-length : (t : List Symbol) (s : ℕ) → length (writeFrom s t) ≤ s + 3 * length t
-unfolding writeFrom
-write-length [] s = omega arith
-write-length (x ∷ t) s =
-    write-case (λ (l : List ℕ). length l ≤ s + 3 * length (x ∷ t)) s x t (λ _. omega (arith, write-length t (suc s)))
-    (λ _. omega (arith, write-length t 0, length-append (spaceRun s) (symbolNibbles x ++ writeFrom 0 t), length-append (symbolNibbles x) (writeFrom 0 t), run-length s, symbol-length x))
-
--- no text of m symbols takes over 3 m nibbles
-costliest : (t : List Symbol) → length (writeSymbols t) ≤ 3 * length t
-costliest t = omega (arith, write-length t 0)
 
 -- the spaces that wait, and 9 for an 11, half of the 18 that it may bring
 unfoldable pub credit : TextState → ℕ
@@ -560,7 +509,7 @@ step-credit (Run s) n =
 step-credit (Pair s z) n = cond-case (Within s) (eqb (pairByte z n) 0) _ _ (λ _. omega arith) (λ _. omega (arith, word-length s (plain (pairByte z n))))
 step-credit (Escape s) n = cond-case (Within s) (ltb n 16) _ _ (λ _. omega arith) (λ _. omega arith)
 step-credit (Half s h) n =
-    cond-case (Within s) (ltb n 16 && escapable (h * 16 + n)) _ _ (λ _. omega (arith, word-length s (original (h * 16 + n)))) (λ _. omega arith)
+    cond-case (Within s) (ltb h 16 && ltb n 16) _ _ (λ _. omega (arith, word-length s (original (h * 16 + n)))) (λ _. omega arith)
 step-credit Invalid n = omega arith
 
 pub read-length : (ns : List ℕ) (st : TextState) → length (readFrom st ns) + credit (endFrom st ns) ≤ credit st + 9 * length ns
@@ -570,149 +519,90 @@ read-length (n ∷ ns) st =
     let step = textStep st n in
     omega (arith, step-credit st n, read-length ns (stateAfter step), length-append (symbolsOf step) (readFrom (stateAfter step) ns))
 
--- ---- the text of a call: its bytes, each classified
+-- ---- one symbol of the writer
 
-classify-short : (b : ℕ) → short b ≡ true → classify b ≡ plain b
-unfolding classify
-classify-short b e = rw e
+-- what it adds behind s spaces, and how many spaces then wait
+unfoldable pub piece : ℕ → Symbol → List ℕ
+piece s x = cond (isSpace x) [] (spaceRun s ++ symbolNibbles x)
 
-classify-long : (b : ℕ) → short b ≡ false → classify b ≡ original b
-unfolding classify
-classify-long b e = rw e
+unfoldable pub waiting : ℕ → Symbol → ℕ
+waiting s x = cond (isSpace x) (s + 1) 0
 
-classify-ok : (b : ℕ) → b < 256 → ok (classify b) ≡ true
-unfolding ok escapable
-classify-ok b h = test-case (short b) (λ e. rw (classify-short b e, lt-ltb b 256 h) e) (λ e. rw (classify-long b e, lt-ltb b 256 h, e))
-
-classify-byte : (b : ℕ) → byteOf (classify b) ≡ b
-unfolding byteOf
-classify-byte b = test-case (short b) (λ e. rw (classify-short b e)) (λ e. rw (classify-long b e))
-
-byte-classify : (x : Symbol) → ok x ≡ true → classify (byteOf x) ≡ x
-unfolding byteOf
-byte-classify (plain b) e = classify-short b (ok-plain b e .1)
-byte-classify (original b) e = classify-long b (ok-original b e .1)
-
-byte-bound : (x : Symbol) → ok x ≡ true → byteOf x < 256
-unfolding byteOf
-byte-bound (plain b) e = ok-plain b e .0
-byte-bound (original b) e = ok-original b e .0
-
-bytes-fine : (t : List ℕ) → Bytes t → fine (map classify t) ≡ true
-bytes-fine [] h = unfold fine in refl
-bytes-fine (b ∷ t) h = fine-cons (classify b) (map classify t) (classify-ok b (h 0)) (bytes-fine t (λ i. h (suc i)))
-
-fine-bytes : (u : List Symbol) → fine u ≡ true → Bytes (map byteOf u)
-fine-bytes [] f i = omega arith
-fine-bytes (x ∷ u) f zero = byte-bound x (fine-parts x u f .0)
-fine-bytes (x ∷ u) f (suc i) = fine-bytes u (fine-parts x u f .1) i
-
-bytes-symbols : (t : List ℕ) → map byteOf (map classify t) ≡ t
-bytes-symbols [] = refl
-bytes-symbols (b ∷ t) = ap₂ _∷_ (classify-byte b) (bytes-symbols t)
-
-symbols-bytes : (u : List Symbol) → fine u ≡ true → map classify (map byteOf u) ≡ u
-symbols-bytes [] f = refl
-symbols-bytes (x ∷ u) f = ap₂ _∷_ (byte-classify x (fine-parts x u f .0)) (symbols-bytes u (fine-parts x u f .1))
-
-pub bytes-spaces : (k : ℕ) → map byteOf (spaces k) ≡ replicate k 32
-unfolding spaces byteOf
-bytes-spaces zero = refl
-bytes-spaces (suc k) = ap (λ (l : List ℕ). 32 ∷ l) (bytes-spaces k)
-
-symbols-spaces : (k : ℕ) → map classify (replicate k 32) ≡ spaces k
-unfolding spaces classify short charCode
-symbols-spaces zero = refl
-symbols-spaces (suc k) = ap (λ (l : List Symbol). plain 32 ∷ l) (symbols-spaces k)
-
--- what the writer adds for a byte behind s spaces, and how many spaces then wait
-unfoldable pub piece : ℕ → ℕ → List ℕ
-piece s b = cond (eqb b 32) [] (spaceRun s ++ codeNibbles (charCode b))
-
-unfoldable pub waiting : ℕ → ℕ → ℕ
-waiting s b = cond (eqb b 32) (s + 1) 0
-
-classify-space : (b : ℕ) → isSpace (classify b) ≡ eqb b 32
-unfolding isSpace short charCode
-classify-space b =
-    test-case (short b) (λ e. rw (classify-short b e))
-    (λ e. rw (classify-long b e) (sym (ne-eqb b 32 (λ q. true-false (short b) (ap short q) e))))
-
-escape-nibbles : (b : ℕ) → b < 256 → codeNibbles (3840 + b) ≡ 15 ∷ b / 16 ∷ b % 16 ∷ []
-unfolding codeNibbles
-escape-nibbles b h =
-    let x : (3840 + b) / 256 ≡ 15 = omega arith in
-    let y : (3840 + b) / 16 % 16 ≡ b / 16 = omega arith in
-    let z : (3840 + b) % 16 ≡ b % 16 = omega arith in
-    rw (le-ltb (3840 + b) 16 (omega arith), le-ltb (3840 + b) 256 (omega arith), x, y, z)
-
-classify-nibbles : (b : ℕ) → b < 256 → symbolNibbles (classify b) ≡ codeNibbles (charCode b)
-unfolding symbolNibbles
-classify-nibbles b h =
-    test-case (short b) (λ e. rw (classify-short b e))
-    (λ e. rw (classify-long b e, escape-code b h e) (sym (escape-nibbles b h)))
-
-pub write-byte : (s b : ℕ) (t : List Symbol) → b < 256 → writeFrom s (classify b ∷ t) ≡ piece s b ++ writeFrom (waiting s b) t
+pub write-one : (s : ℕ) (x : Symbol) (t : List Symbol) → writeFrom s (x ∷ t) ≡ piece s x ++ writeFrom (waiting s x) t
 unfolding piece waiting
-write-byte s b t h =
-    test-case (eqb b 32) (λ e. rw (e, add-one) (write-space s (classify b) t (classify-space b ∙ e)))
-    (λ e. rw (e, append-assoc, ← classify-nibbles b h) (write-symbol s (classify b) t (classify-space b ∙ e)))
+write-one s x t =
+    test-case (isSpace x) (λ e. rw (e, add-one) (write-space s x t e))
+    (λ e. rw (e, append-assoc) (write-symbol s x t e))
 
 -- ---- texts and bodies
 
-pub text-valid : (t : List ℕ) → Bytes t → textValid (writeText t) ≡ true
-unfolding writeText
-text-valid t h = symbols-valid (map classify t) (bytes-fine t h)
+-- the writer is total on symbols that a text may hold: its nibbles are a valid content
+pub text-valid : (t : List Symbol) → allAdmitted t ≡ true → textValid (writeText t) ≡ true
+unfolding textValid atEnd writeText
+text-valid t f = ap atEnd (written t 0 f .reads .end)
 
+-- what is read of a valid content gives it again
 pub text-back : (ns : List ℕ) → textValid ns ≡ true → writeText (readText ns) ≡ ns
-unfolding writeText readText
-text-back ns e = ap writeSymbols (symbols-bytes (readFrom (Between 0) ns) (body-fine ns e)) ∙ body-back ns e
+unfolding textValid readText
+text-back ns e = rw none-consumed at (back ns (Between 0) e .same)
 
-pub text-bytes : (ns : List ℕ) → textValid ns ≡ true → Bytes (readText ns)
-unfolding readText
-text-bytes ns e = fine-bytes (readFrom (Between 0) ns) (body-fine ns e)
+pub text-admitted : (ns : List ℕ) → textValid ns ≡ true → allAdmitted (readText ns) ≡ true
+unfolding textValid readText
+text-admitted ns e = back ns (Between 0) e .good
 
--- FORMAT 3.5: a valid content is given by the writer for some text
-pub valid-written : (ns : List ℕ) → textValid ns ≡ true → (t : List ℕ) × Bytes t × (writeText t ≡ ns)
-valid-written ns e = (readText ns, text-bytes ns e, text-back ns e)
+-- FORMAT 3.5: a valid content is given by the writer for some row of symbols
+pub valid-written : (ns : List ℕ) → textValid ns ≡ true → (t : List Symbol) × (allAdmitted t ≡ true) × (writeText t ≡ ns)
+valid-written ns e = (readText ns, text-admitted ns e, text-back ns e)
 
-pub written-valid : (t ns : List ℕ) → Bytes t → writeText t ≡ ns → textValid ns ≡ true
+pub written-valid : (t : List Symbol) (ns : List ℕ) → allAdmitted t ≡ true → writeText t ≡ ns → textValid ns ≡ true
 written-valid t ns h e = ap textValid (sym e) ∙ text-valid t h
 
--- the writer drops spaces at the end, and nothing else
-pub text-trailing : (t : List ℕ) (k : ℕ) → writeText (t ++ replicate k 32) ≡ writeText t
+-- the writer drops plain spaces at the end, and nothing else
+pub text-trailing : (t : List Symbol) (k : ℕ) → writeText (t ++ spaces k) ≡ writeText t
 unfolding writeText
-text-trailing t k =
-    ap writeSymbols (map-append classify t (replicate k 32) ∙ ap (λ (l : List Symbol). map classify t ++ l) (symbols-spaces k))
-    ∙ write-trailing (map classify t) k 0
+text-trailing t k = write-trailing t k 0
 
-read-writes : (t : List ℕ) → Bytes t → (k : ℕ) × (t ≡ readText (writeText t) ++ replicate k 32)
-unfolding readText writeText
-read-writes t h =
-    let r = symbols-back (map classify t) (bytes-fine t h) in
-    let u = readFrom (Between 0) (writeSymbols (map classify t)) in
-    (r .0, sym (bytes-symbols t) ∙ ap (map byteOf) (r .1) ∙ map-append byteOf u (spaces (r .0)) ∙ ap (λ (l : List ℕ). map byteOf u ++ l) (bytes-spaces (r .0)))
+read-writes : (t : List Symbol) → allAdmitted t ≡ true → (k : ℕ) × (t ≡ readText (writeText t) ++ spaces k)
+unfolding readText writeText spaces
+read-writes t f = let w = written t 0 f in (w .dropped, w .whole ∙ ap (λ (l : List Symbol). l ++ spaces (w .dropped)) (sym (w .reads .text)))
 
--- FORMAT 3.5, the shortest text of a content: any other is that one and spaces behind it
-pub strip-tail : (ns t : List ℕ) → Bytes t → writeText t ≡ ns → (k : ℕ) × (t ≡ readText ns ++ replicate k 32)
-strip-tail ns t h e = let r = read-writes t h in (r .0, r .1 ∙ ap (λ (l : List ℕ). readText l ++ replicate (r .0) 32) e)
+-- FORMAT 3.5, the shortest row of symbols of a content: any other is that one and plain spaces behind it
+pub strip-tail : (ns : List ℕ) (t : List Symbol) → allAdmitted t ≡ true → writeText t ≡ ns → (k : ℕ) × (t ≡ readText ns ++ spaces k)
+strip-tail ns t h e = let r = read-writes t h in (r .0, r .1 ∙ ap (λ (l : List ℕ). readText l ++ spaces (r .0)) e)
 
-pub shortest : (ns t : List ℕ) → Bytes t → writeText t ≡ ns → length (readText ns) ≤ length t
+pub shortest : (ns : List ℕ) (t : List Symbol) → allAdmitted t ≡ true → writeText t ≡ ns → length (readText ns) ≤ length t
 shortest ns t h e =
     let r = strip-tail ns t h e in
-    omega (arith, ap length (r .1), length-append (readText ns) (replicate (r .0) 32))
+    omega (arith, ap length (r .1), length-append (readText ns) (spaces (r .0)))
 
--- ---- nibbles and bounds
-
-pub text-all-nibbles : (t : List ℕ) → Bytes t → allNibbles (writeText t) ≡ true
-unfolding writeText
-text-all-nibbles t h = symbols-nibbles (map classify t) (bytes-fine t h)
-
--- no text of m bytes takes over 3 m nibbles
-pub text-length : (t : List ℕ) → length (writeText t) ≤ 3 * length t
-unfolding writeText
-text-length t = omega (arith, costliest (map classify t), length-map t classify)
-
+-- nine symbols for each nibble at most
 pub read-text-length : (ns : List ℕ) → length (readText ns) ≤ 9 * length ns
 unfolding readText credit
-read-text-length ns = omega (arith, read-length ns (Between 0), length-map (readFrom (Between 0) ns) byteOf)
+read-text-length ns = omega (arith, read-length ns (Between 0))
+
+-- ---- one symbol alone
+
+space-read : (textValid (symbolNibbles (plain 32) ++ (0 ∷ [])) ≡ true) × (readText (symbolNibbles (plain 32) ++ (0 ∷ [])) ≡ plain 32 ∷ plain 48 ∷ [])
+unfolding textValid readText symbolNibbles codeNibbles charCode endFrom readFrom textStep stateAfter symbolsOf atEnd spaces
+space-read = (refl, refl)
+
+-- its nibbles are read as it, where a digit 0 follows: a space is read where something follows it
+pub symbol-read : (x : Symbol) → admitted x ≡ true → (textValid (symbolNibbles x ++ (0 ∷ [])) ≡ true) × (readText (symbolNibbles x ++ (0 ∷ [])) ≡ x ∷ plain 48 ∷ [])
+unfolding textValid readText textStep symbolsOf stateAfter atEnd spaces
+symbol-read x h =
+    test-case (isSpace x) (λ e. rw (space-is x e) space-read)
+    (λ e.
+    let r = reads-append (reads-symbol 0 x h e) (reads-one {st = Between 0} {n = 0} {step = Plain 0 48} refl) in
+    (ap atEnd (r .end), r .text))
+
+cut : (xs ys : List ℕ) (a : ℕ) → xs ++ (a ∷ []) ≡ ys ++ (a ∷ []) → xs ≡ ys
+cut xs ys a e =
+    let l : length xs ≡ length ys = omega (arith, ap length e, length-append xs (a ∷ []), length-append ys (a ∷ [])) in
+    sym (take-append-seam xs (a ∷ [])) ∙ ap₂ (λ (k : ℕ) (m : List ℕ). take k m) l e ∙ take-append-seam ys (a ∷ [])
+
+-- and no others are
+pub read-symbol : (x : Symbol) (ns : List ℕ) → textValid (ns ++ (0 ∷ [])) ≡ true → readText (ns ++ (0 ∷ [])) ≡ x ∷ plain 48 ∷ [] → (admitted x ≡ true) × (ns ≡ symbolNibbles x)
+read-symbol x ns v e =
+    let h = admitted-parts x (plain 48 ∷ []) (rw e at (text-admitted (ns ++ (0 ∷ [])) v)) .0 in
+    let r = symbol-read x h in
+    (h, cut ns (symbolNibbles x) 0 (sym (text-back (ns ++ (0 ∷ [])) v) ∙ ap writeText (e ∙ sym (r .1)) ∙ text-back (symbolNibbles x ++ (0 ∷ [])) (r .0)))

@@ -14,7 +14,7 @@ use Rattle.format.specs.Order.{Refusal, first}
 use Rattle.format.specs.Field.{fieldAt, required}
 use Rattle.format.specs.Nibbles.{attachment}
 use Rattle.format.specs.Flags.{FlagTable, flagFits, withFlag}
-use Rattle.format.specs.ShipText.{writeText}
+use Rattle.format.specs.ShipText.{symbolsIn, writeText}
 use Rattle.format.specs.Observation.{Observation, packing, size}
 use Rattle.format.specs.Report.{Verdict, judge, bodyValid}
 use Rattle.format.specs.Calls.{Call, Editing, reads, edits, fetches, setField, clearField, setFlag, clearFlag, put, remove, putText, withValue, withContent, content, made, edited, afterEdit, next}
@@ -153,10 +153,12 @@ made-good marks s (put i ns) g e =
     let c3 = first-none _ _ (c2 .1) in
     put-good marks s i ns g (c1 .0) (c2 .0) (c3 .0)
 made-good marks s (remove i) g e = record { rptin = g .rptin; fair = g .fair; present = g .present; fine = remove-fine marks i (g .fine) }
-made-good marks s (putText t) g e =
+made-good marks s (putText t os) g e =
     let c1 = first-none _ _ e in
     let c2 = first-none _ _ (c1 .1) in
-    put-good marks s 4 (writeText t) g refl (c1 .0) (c2 .0)
+    let c3 = first-none _ _ (c2 .1) in
+    let c4 = first-none _ _ (c3 .1) in
+    put-good marks s 4 (writeText (symbolsIn t os)) g refl (c3 .0) (c4 .0)
 
 next-good : (marks : FlagTable) (s : Observation) (c : Call) → Good marks s → first (callChecks marks s c) ≡ none → Good marks (next s c)
 next-good marks s (reads r) g e = g

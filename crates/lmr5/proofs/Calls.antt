@@ -20,7 +20,9 @@ use Rattle.format.specs.Report.{Verdict, judge}
 use Rattle.format.specs.Calls as call
 use Rattle.format.specs.Calls.{Call, Given, accepted}
 use Rattle.format.specs.Buffer.{After, after, effect}
-use Rattle.format.specs.Reply.{refusal}
+use Rattle.format.specs.Reply.{refusal, answerOf}
+use Rattle.format.specs.declared.Reply.the-variants.{Text}
+use Rattle.script.specs.Labels.{quantityLabel, labels}
 use Rattle.format.specs.Whole.{Wrote, Unpacked, unpacked, packObservation, packOrder, packGives, pack}
 use Rattle.laws.proofs.Report.{judged, size-range}
 use Rattle.laws.proofs.Whole.{judge-pack}
@@ -33,7 +35,7 @@ use Rattle.unpack.specs.declared.Contents.{Contents}
 use Rattle.pack.specs.Answers.{packAnswer}
 use Rattle.pack.specs.declared.Packed.{Packed}
 use Rattle.lmr5.specs.declared.Answer.{Answer}
-use Rattle.lmr5.specs.Numbered.{numbered, single, left, numberedAfter, judging, numberedWrote, Opened, opening, openedBy, numberedUnpacked, word}
+use Rattle.lmr5.specs.Numbered.{answer, numbered, single, left, numberedAfter, judging, numberedWrote, Opened, opening, openedBy, numberedUnpacked, word}
 
 -- a number that 64 bits hold is given as it is
 pub number-given : (label : ℕ) (z : ℤ) → SFits w64 z → single label (toZ w64 (ofZ w64 z)) ≡ single label z
@@ -42,6 +44,12 @@ number-given label z f = ap (single label) (toZ-ofZ w64 z f)
 -- a count, and a flag's value
 pub count-given : (label n : ℕ) (r : Answer) → n < 2 ^ 63 → r ≡ single label (toZ w64 n) → r ≡ single label (pos n)
 count-given label n r f h = h ∙ ap (single label) (toZ-pos w64 n (omega arith))
+
+-- two
+pub two-given : (n k : ℕ) → n < 2 ^ 63 → k < 2 ^ 63
+    → record { refusal = 0; given = 2563; place = 0; first = toZ w64 n; second = toZ w64 k; third = pos 0 } ≡ numbered (answerOf (Text n k))
+unfolding labels quantityLabel
+two-given n k h g = ap₂ (λ (x y : ℤ). answer 0 2563 0 x y (pos 0)) (toZ-pos w64 n (omega arith)) (toZ-pos w64 k (omega arith))
 
 -- ---- the numbers fit
 

@@ -17,7 +17,9 @@ ghost use Rattle.laws.proofs.Bounds.{AnswerFits};
 ghost use Rattle.unpack.specs.Answers.{contentsNumbers};
 ghost use Rattle.characters.specs.Table.{ReadBack};
 ghost use Rattle.flag_table.specs.Claims.{AnyValue};
+ghost use Rattle.format.specs.declared.Reply.the-variants.{Text};
 ghost use Rattle.script.specs.Script.{Performs};
+ghost use Rattle.lmr5.specs.Readers.{readerOf, ReaderOpened, Stepped};
 ghost use Rattle.lmr5.specs.Numbered.{numbered, single, left, numberedAfter, judging, numberedWrote, word, opening, numberedUnpacked};
 use flag_table::Loading;
 use format::FlagTable;
@@ -26,6 +28,8 @@ use format::Scaled;
 use fresh::Started;
 use pack::Packed;
 use report::Judged;
+use text_display::Opening;
+use text_display::Step;
 use unpack::Contents;
 use unpack::Unpacked;
 
@@ -89,6 +93,21 @@ fn counted(label: u32, n: usize) -> Answer
     given(label, n as i64)
 }
 
+// Two numbers.
+fn two(n: usize, set: u8) -> Answer
+    requires { ⌜ n < 2 ^ 63 ⌝ }
+    ensures { λ r. ⌜ r ≡ numbered (answerOf (Text n set)) ⌝ }
+{
+    Answer {
+        refusal: 0,
+        given: 2563,
+        place: 0,
+        first: n as i64,
+        second: set as i64,
+        third: 0,
+    }
+}
+
 fn answer_of(r: Reply) -> Answer
     requires { ⌜ AnswerFits (answerOf r) ⌝ }
     ensures { λ a. ⌜ a ≡ numbered (answerOf r) ⌝ }
@@ -104,6 +123,7 @@ fn answer_of(r: Reply) -> Answer
         Reply::Flag(v) => given(2, v as i64),
         Reply::MissingFlag => given(130, 0),
         Reply::Count(n) => counted(3, n),
+        Reply::Text(n, set) => two(n, set),
     }
 }
 
@@ -302,17 +322,93 @@ pub extern "C" fn lmr5_drop(report: &mut [u8], id: usize, table: &FlagTable) -> 
 }
 
 #[no_mangle]
-pub extern "C" fn lmr5_put_text(report: &mut [u8], text: &[u8], table: &FlagTable) -> Answer
-    ensures { λ r. ⌜ left r (now (report .exit)) [] ≡ numberedAfter (effect (now (table .entry)) (now (report .entry)) (call.edits (call.putText (now (text .entry))))) ⌝ }
+pub extern "C" fn lmr5_put_text(
+    report: &mut [u8],
+    text: &[u8],
+    origins: &[u8],
+    table: &FlagTable,
+) -> Answer
+    ensures { λ r. ⌜ left r (now (report .exit)) []
+        ≡ numberedAfter (effect (now (table .entry)) (now (report .entry)) (call.edits (call.putText (now (text .entry)) (now (origins .entry))))) ⌝ }
 {
-    answer_of(call_puts::put_text(report, text, table))
+    answer_of(call_puts::put_text(report, text, origins, table))
 }
 
 #[no_mangle]
-pub extern "C" fn lmr5_fetch_text(report: &[u8], out: &mut [u8], table: &FlagTable) -> Answer
-    ensures { λ r. ⌜ left r (now (report .entry)) (now (out .exit) ∷ []) ≡ numberedAfter (effect (now (table .entry)) (now (report .entry)) (call.fetches (call.fetchText (now (out .entry))))) ⌝ }
+pub extern "C" fn lmr5_fetch_text(
+    report: &[u8],
+    text: &mut [u8],
+    origins: &mut [u8],
+    table: &FlagTable,
+) -> Answer
+    ensures { λ r. ⌜ left r (now (report .entry)) (now (text .exit) ∷ now (origins .exit) ∷ [])
+        ≡ numberedAfter (effect (now (table .entry)) (now (report .entry)) (call.fetches (call.fetchText (now (text .entry)) (now (origins .entry))))) ⌝ }
 {
-    answer_of(call_fetches::fetch_text(&*report, out, table))
+    answer_of(call_fetches::fetch_text(&*report, text, origins, table))
+}
+
+// ---- the reader of the ship text
+
+// A step's symbol: 0 at the end, 1 plain, 2 original; and its byte, 0 at the end.
+#[repr(C)]
+pub struct Symbol {
+    pub kind: u32,
+    pub byte: u32,
+}
+
+// Stores the numbers of a reader that is opened.
+fn store_reader(reader: &mut [u64], o: Opening)
+    requires { ⌜ length (now reader) ≡ 5 ⌝ }
+    ensures { λ _. ⌜ now (reader .exit) ≡ readerOf o ⌝ }
+{
+    reader[0] = o.at as u64;
+    reader[1] = o.end as u64;
+    reader[2] = 0;
+    reader[3] = o.number as u64;
+    reader[4] = o.place as u64;
+}
+
+#[no_mangle]
+pub extern "C" fn lmr5_open_text(report: &[u8], reader: &mut [u64; 5], table: &FlagTable) -> Answer
+    ensures { λ r. ⌜ ReaderOpened (now (table .entry)) (now (report .entry)) (now (reader .exit)) r ⌝ }
+{
+    let o = text_display::opened(report, table);
+    store_reader(reader, o);
+    if o.number == 0 {
+        return done();
+    }
+    refused(o.number, o.place)
+}
+
+// A step of a reader with these numbers, whatever they are, on any bytes.
+fn step(report: &[u8], reader: &mut [u64]) -> Symbol
+    requires { ⌜ length (now reader) ≡ 5 ⌝ }
+    ensures { λ r. ⌜ Stepped (now (report .entry)) (now (reader .entry)) (now (reader .exit)) r ⌝ }
+{
+    let t = text_display::step_of(
+        report,
+        reader[0] as usize,
+        reader[1] as usize,
+        reader[2] as usize,
+    );
+    match t {
+        Step::End => Symbol { kind: 0, byte: 0 },
+        Step::Given(b, o, at, spaces) => {
+            reader[0] = at as u64;
+            reader[2] = spaces as u64;
+            Symbol {
+                kind: o as u32 + 1,
+                byte: b as u32,
+            }
+        }
+    }
+}
+
+#[no_mangle]
+pub extern "C" fn lmr5_next_symbol(report: &[u8], reader: &mut [u64; 5]) -> Symbol
+    ensures { λ r. ⌜ Stepped (now (report .entry)) (now (reader .entry)) (now (reader .exit)) r ⌝ }
+{
+    step(report, reader)
 }
 
 // ---- the table of the characters

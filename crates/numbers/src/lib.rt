@@ -1,7 +1,7 @@
-// Small numbers: a byte widened, the larger of two, a number between two ends, a remainder; and a word of 64 bits as a signed
+// Small numbers: a byte widened, the larger and the lesser of two, a number between two ends, a remainder; and a word of 64 bits as a signed
 // number in two's complement, and back.
 ghost use mathlib.Core.Path.{_≡_};
-ghost use Prim.Native.Nat.{_%_, _<_, max};
+ghost use Prim.Native.Nat.{_%_, _<_, max, min};
 ghost use Rattle.format.specs.Order.{between};
 ghost use Rattle.numbers.specs.Folding.{foldOnce, folding};
 ghost use Rattle.numbers.specs.Words.{signed, unsigned};
@@ -21,6 +21,16 @@ pub fn larger(a: usize, b: usize) -> usize
         return b;
     }
     a
+}
+
+// The lesser.
+pub fn lesser(a: usize, b: usize) -> usize
+    ensures { λ r. ⌜ r ≡ min a b ⌝ }
+{
+    if a < b {
+        return a;
+    }
+    b
 }
 
 // Whether low ≤ x ≤ high.

@@ -1,8 +1,8 @@
 -- What an entry or a script leaves, by the numbers that the code gives; and what is known of an entry before its call.
-use Prim.Native.Nat.{ℕ, _≤_}
+use Prim.Native.Nat.{ℕ, _≤_, min}
 use mathlib.Core.Path.{_≡_}
-use mathlib.Core.List.{List}
-use lib.ListN.{length, getD}
+use mathlib.Core.List.{List, _++_}
+use lib.ListN.{length, getD, take, drop}
 use Rattle.script.specs.Script.{numberAt, Replayed}
 use Rattle.replay.specs.declared.Performed.{Performed}
 
@@ -23,3 +23,7 @@ pub record Begun (kind k : ℕ) (s log : List ℕ) : Type 0 where
   pub number : k ≡ numberAt s 1
   pub nine : 9 ≤ length s
   pub room : 37 ≤ length log
+
+-- an output that was lent, with its front taken from another: at most 2295 bytes, since no text has more symbols
+abbrev pub fronted : List ℕ → List ℕ → List ℕ
+fronted lent most = let k = min (length lent) 2295 in take k most ++ drop k lent

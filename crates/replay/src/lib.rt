@@ -1,11 +1,14 @@
 // A replay: a script of calls performed on one buffer under one table of permitted flags, and the log of their answers.
 ghost use mathlib.Core.Path.{_≡_};
-ghost use Prim.Native.Nat.{_≤_};
-ghost use lib.ListN.{length};
+ghost use Prim.Native.Nat.{_+_, _≤_};
+ghost use lib.ListN.{length, take, drop};
+ghost use mathlib.Core.List.{[], _∷_};
+ghost use Rattle.format.specs.Calls as call;
 ghost use Rattle.format.specs.Calls.{over};
+ghost use Rattle.format.specs.Buffer.{after, effect};
 ghost use Rattle.format.specs.Reply.{answerOf};
 ghost use Rattle.script.specs.Script.{headOf, turn, Performs};
-ghost use Rattle.replay.specs.Counts.{leaves, nothing, one, Begun};
+ghost use Rattle.replay.specs.Counts.{leaves, nothing, one, Begun, fronted};
 use format::FlagTable;
 use format::Reply;
 use format::Scaled;
@@ -95,8 +98,17 @@ fn put_text(b: &mut [u8], n: usize, s: &[u8], log: &mut [u8], marks: &FlagTable)
         return idle();
     }
     let e = 9 + n;
-    let r = call_puts::put_text(b, &s[9..e], marks);
-    answered(r, e, 37, log)
+    if s.len() - e < 8 {
+        return idle();
+    }
+    let m = script::number_at(s, e) as usize;
+    let f = e + 8;
+    if s.len() - f < m {
+        return idle();
+    }
+    let g = f + m;
+    let r = call_puts::put_text(b, &s[9..e], &s[f..g], marks);
+    answered(r, g, 37, log)
 }
 
 // Fetches an attachment to a copy of the output in the script.
@@ -121,7 +133,72 @@ fn fetch(b: &[u8], k: usize, s: &[u8], log: &mut [u8], marks: &FlagTable) -> Per
     answered(r, e, to, log)
 }
 
-// Fetches the ship text to a copy of the output in the script.
+// Fetches the ship text, with its marks of origin to the front of most, which has as many bytes as a text has symbols at most; what
+// was lent for them is copied there first.
+fn fetch_front(
+    b: &[u8],
+    out: &mut [u8],
+    origins: &[u8],
+    most: &mut [u8],
+    marks: &FlagTable,
+) -> Reply
+    requires { ⌜ length (now most) ≡ 2295 ⌝ }
+    ensures { λ r. ⌜ after (answerOf r) (now (b .entry)) (now (out .exit) ∷ fronted (now (origins .entry)) (now (most .exit)) ∷ [])
+        ≡ effect (now (marks .entry)) (now (b .entry)) (call.fetches (call.fetchText (now (out .entry)) (now (origins .entry)))) ⌝ }
+{
+    let k = numbers::lesser(origins.len(), 2295);
+    script::copy(&origins[0..k], &mut most[0..k]);
+    call_fetches::fetch_text(b, out, &mut most[0..k], marks)
+}
+
+// The same, of an array.
+fn fetch_most(
+    b: &[u8],
+    out: &mut [u8],
+    origins: &[u8],
+    most: &mut [u8; 2295],
+    marks: &FlagTable,
+) -> Reply
+    ensures { λ r. ⌜ after (answerOf r) (now (b .entry)) (now (out .exit) ∷ fronted (now (origins .entry)) (now (most .exit)) ∷ [])
+        ≡ effect (now (marks .entry)) (now (b .entry)) (call.fetches (call.fetchText (now (out .entry)) (now (origins .entry)))) ⌝ }
+{
+    fetch_front(b, out, origins, most, marks)
+}
+
+// Writes to as many bytes as were lent: the front of most, and behind it what was lent.
+fn put_front(origins: &[u8], most: &[u8], to: &mut [u8])
+    requires { ⌜ (length (now most) ≡ 2295) × (length (now origins) ≡ length (now to)) ⌝ }
+    ensures { λ _. ⌜ now (to .exit) ≡ fronted (now (origins .entry)) (now (most .entry)) ⌝ }
+{
+    let k = numbers::lesser(origins.len(), 2295);
+    script::copy(origins, to);
+    script::copy(&most[0..k], &mut to[0..k]);
+}
+
+// The same, of an array.
+fn put_most(origins: &[u8], most: &[u8; 2295], to: &mut [u8])
+    requires { ⌜ length (now origins) ≡ length (now to) ⌝ }
+    ensures { λ _. ⌜ now (to .exit) ≡ fronted (now (origins .entry)) (now (most .entry)) ⌝ }
+{
+    put_front(origins, most, to)
+}
+
+// Fetches the ship text to copies of both outputs, one behind the other.
+fn fetch_both(b: &[u8], out: &[u8], origins: &[u8], both: &mut [u8], marks: &FlagTable) -> Reply
+    requires { ⌜ length (now both) ≡ length (now out) + length (now origins) ⌝ }
+    ensures { λ r. ⌜ (length (now (both .exit)) ≡ length (now (both .entry)))
+        × (after (answerOf r) (now (b .entry)) (take (length (now (out .entry))) (now (both .exit)) ∷ drop (length (now (out .entry))) (now (both .exit)) ∷ [])
+        ≡ effect (now (marks .entry)) (now (b .entry)) (call.fetches (call.fetchText (now (out .entry)) (now (origins .entry))))) ⌝ }
+{
+    let n = out.len();
+    let mut most = [0u8; 2295];
+    script::copy(out, &mut both[0..n]);
+    let r = fetch_most(b, &mut both[0..n], origins, &mut most, marks);
+    put_most(origins, &most, &mut both[n..]);
+    r
+}
+
+// Fetches the ship text to copies of the outputs in the script.
 fn fetch_text(b: &[u8], n: usize, s: &[u8], log: &mut [u8], marks: &FlagTable) -> Performed
     requires { ⌜ Begun 11 n (now s) (now log) ⌝ }
     ensures { λ r. ⌜ leaves (now (b .entry)) (now (log .exit)) r ≡ turn (now (marks .entry)) (now (b .entry)) (now (s .entry)) (now (log .entry)) ⌝ }
@@ -129,14 +206,26 @@ fn fetch_text(b: &[u8], n: usize, s: &[u8], log: &mut [u8], marks: &FlagTable) -
     if s.len() - 9 < n {
         return idle();
     }
-    if log.len() - 37 < n {
+    let e = 9 + n;
+    if s.len() - e < 8 {
         return idle();
     }
-    let e = 9 + n;
-    let to = 37 + n;
-    script::copy(&s[9..e], &mut log[37..to]);
-    let r = call_fetches::fetch_text(b, &mut log[37..to], marks);
-    answered(r, e, to, log)
+    let m = script::number_at(s, e) as usize;
+    let f = e + 8;
+    if s.len() - f < m {
+        return idle();
+    }
+    let room = log.len() - 37;
+    if room < n {
+        return idle();
+    }
+    if room - n < m {
+        return idle();
+    }
+    let g = f + m;
+    let to = 37 + n + m;
+    let r = fetch_both(b, &s[9..e], &s[f..g], &mut log[37..to], marks);
+    answered(r, g, to, log)
 }
 
 // ---- a script

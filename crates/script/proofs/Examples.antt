@@ -26,8 +26,8 @@ calls =
     ∷ edits (put 5 (1 ∷ 2 ∷ 3 ∷ []))
     ∷ fetches (fetch 5 (9 ∷ 8 ∷ []))
     ∷ edits (remove 15)
-    ∷ edits (putText (65 ∷ 32 ∷ []))
-    ∷ fetches (fetchText (6 ∷ []))
+    ∷ edits (putText (65 ∷ 32 ∷ []) (1 ∷ 0 ∷ 9 ∷ []))
+    ∷ fetches (fetchText (6 ∷ []) (4 ∷ 5 ∷ []))
     ∷ []
 
 script : List ℕ
@@ -41,8 +41,8 @@ script =
     ++ (7 ∷ 0 ∷ 0 ∷ 0 ∷ 0 ∷ 0 ∷ 0 ∷ 0 ∷ 5 ∷ 0 ∷ 0 ∷ 0 ∷ 0 ∷ 0 ∷ 0 ∷ 0 ∷ 3 ∷ 1 ∷ 2 ∷ 3 ∷ [])
     ++ (8 ∷ 0 ∷ 0 ∷ 0 ∷ 0 ∷ 0 ∷ 0 ∷ 0 ∷ 5 ∷ 0 ∷ 0 ∷ 0 ∷ 0 ∷ 0 ∷ 0 ∷ 0 ∷ 2 ∷ 9 ∷ 8 ∷ [])
     ++ (9 ∷ 0 ∷ 0 ∷ 0 ∷ 0 ∷ 0 ∷ 0 ∷ 0 ∷ 15 ∷ [])
-    ++ (10 ∷ 0 ∷ 0 ∷ 0 ∷ 0 ∷ 0 ∷ 0 ∷ 0 ∷ 2 ∷ 65 ∷ 32 ∷ [])
-    ++ (11 ∷ 0 ∷ 0 ∷ 0 ∷ 0 ∷ 0 ∷ 0 ∷ 0 ∷ 1 ∷ 6 ∷ [])
+    ++ (10 ∷ 0 ∷ 0 ∷ 0 ∷ 0 ∷ 0 ∷ 0 ∷ 0 ∷ 2 ∷ 65 ∷ 32 ∷ 0 ∷ 0 ∷ 0 ∷ 0 ∷ 0 ∷ 0 ∷ 0 ∷ 3 ∷ 1 ∷ 0 ∷ 9 ∷ [])
+    ++ (11 ∷ 0 ∷ 0 ∷ 0 ∷ 0 ∷ 0 ∷ 0 ∷ 0 ∷ 1 ∷ 6 ∷ 0 ∷ 0 ∷ 0 ∷ 0 ∷ 0 ∷ 0 ∷ 0 ∷ 2 ∷ 4 ∷ 5 ∷ [])
 
 -- the list of a script, where the log has so much room, written again
 again : ℕ → List ℕ → List ℕ
@@ -54,16 +54,18 @@ example got want = record { got = got; want = want }
 examples : List Example
 examples =
     example (scriptOf calls) script
-    ∷ example (again 410 script) script
+    ∷ example (again 412 script) script
     -- a log that is too short for the last record, and for the first
-    ∷ example (again 409 script) (take 129 script)
+    ∷ example (again 411 script) (take 140 script)
     ∷ example (again 36 script) []
     -- an entry that is cut off; unknown kinds; bytes behind
-    ∷ example (again 410 (take 138 script)) (take 129 script)
-    ∷ example (again 410 (0 ∷ script)) []
-    ∷ example (again 410 (12 ∷ script)) []
+    ∷ example (again 412 (take 159 script)) (take 140 script)
+    ∷ example (again 412 (take 149 script)) (take 140 script)
+    ∷ example (again 412 (take 157 script)) (take 140 script)
+    ∷ example (again 412 (0 ∷ script)) []
+    ∷ example (again 412 (12 ∷ script)) []
     ∷ example (again 700 (script ++ (0 ∷ script))) script
-    ∷ example (again 820 (script ++ script)) (script ++ script)
+    ∷ example (again 824 (script ++ script)) (script ++ script)
     -- a log: what is refused, and what is given: nothing, a value, a negative one, a missing flag, three numbers
     ∷ example (records (shown (refusal 13 258) ((9 ∷ []) ∷ (8 ∷ []) ∷ []) ∷ shown (accepted []) [] ∷ []))
     ((0 ∷ 13 ∷ 0 ∷ 0 ∷ 0 ∷ 0 ∷ 0 ∷ 0 ∷ 1 ∷ 2 ∷ zeros 27) ++ (9 ∷ 8 ∷ 1 ∷ zeros 36))

@@ -18,7 +18,7 @@ use Rattle.format.specs.Flags.{FlagTable}
 use Rattle.format.specs.Observation.{Observation, size}
 use Rattle.format.specs.Report.{Verdict, judge}
 use Rattle.format.specs.Calls.{Call, reads, edits, fetches, readField, readFlag, fetch, fetchText, edited, shorter, overfull, overEach, outputsOf, writes, roomCheck, callChecks, checks}
-use Rattle.format.specs.Calls.{Quantity, value, flag, count, word, present, rptin, attachments, bytes, nibbles, Given, given, gives, Answer, refused, accepted, steppedBy, step, over}
+use Rattle.format.specs.Calls.{Quantity, value, flag, count, word, present, rptin, attachments, bytes, nibbles, deck, Given, given, gives, Answer, refused, accepted, steppedBy, step, over}
 use Rattle.format.specs.Buffer.{Shown, Standing, standing, stepping, run, effectOn, effect, refusals, claimOn, claim}
 use Rattle.laws.proofs.Sequences.{or-false}
 use Rattle.laws.proofs.Order.{first-none, first-append-none}
@@ -106,6 +106,7 @@ label-range rptin = (omega arith, omega arith)
 label-range attachments = (omega arith, omega arith)
 label-range bytes = (omega arith, omega arith)
 label-range nibbles = (omega arith, omega arith)
+label-range deck = (omega arith, omega arith)
 
 label-back : (q : Quantity) → quantityOf (quantityLabel q) ≡ q
 unfolding quantityLabel quantityOf
@@ -118,6 +119,7 @@ label-back rptin = refl
 label-back attachments = refl
 label-back bytes = refl
 label-back nibbles = refl
+label-back deck = refl
 
 number-back : (q : Quantity) (n : Option ℤ) (rest : List ℕ) → NumberFits n
     → givenAt (labelBy (quantityLabel q) n ∷ (bytes8 (unsigned (numberOrZero n)) ++ rest)) ≡ given q n
@@ -198,7 +200,7 @@ gives-few s (reads (readField k)) = omega arith
 gives-few s (reads (readFlag j)) = omega arith
 gives-few s (edits e) = omega arith
 gives-few s (fetches (fetch i out)) = omega arith
-gives-few s (fetches (fetchText out)) = omega arith
+gives-few s (fetches (fetchText out origins)) = omega arith
 
 step-few : (marks : FlagTable) (n : ℕ) (s : Observation) (c : Call) → Few (step marks n s c .answer)
 unfolding step

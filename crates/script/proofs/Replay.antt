@@ -5,11 +5,11 @@ use native.Mathlib.Omega.{arith}
 use mathlib.Core.Path.{_≡_, refl, sym, ap, ap₂, subst, _∙_}
 use mathlib.Core.List.{List, [], _∷_, _++_, append-assoc, append-nil}
 use mathlib.Core.Option.{Option, none, some}
-use lib.ListN.{length, getD, take, drop, length-append, length-drop, List·getD-eq-default}
+use lib.ListN.{length, getD, take, drop, length-append, length-drop, take-append-drop, List·getD-eq-default}
 use lib.Seq.{drop-drop, drop-at, take-at, length-take-le, take-all, drop-length}
 use lib.IntN.{ℤ}
 use Rattle.format.specs.Flags.{FlagTable}
-use Rattle.format.specs.Calls.{Call, outputsOf, Quantity, given, Answer, accepted, over}
+use Rattle.format.specs.Calls.{Call, outputsOf, Quantity, given, counted, Answer, accepted, over}
 use Rattle.format.specs.Buffer.{zeros, After, after, effect}
 use Rattle.format.specs.Reply.{refusal, answerOf}
 use Rattle.format.specs.declared.Reply.{Reply}
@@ -17,7 +17,8 @@ use Rattle.format.specs.Bits.{Bytes}
 use Rattle.laws.proofs.Sequences.{None, none-lt}
 use Rattle.numbers.specs.Words.{unsigned}
 use Rattle.script.specs.Labels.{quantityLabel, labelBy, numberOrZero}
-use Rattle.script.specs.Script.{bytesOf, bytes8, Entry, entry, numberAt, bytesAt, kinds, within, entryAt, joined, recordSize, nextIn, rowOf, headOf, Replayed, Performs, idle, turn}
+use Rattle.script.specs.Script.{bytesOf, bytes8, Entry, entry, numberAt, bytesAt, second, kinds, within, entryAt, joined, recordSize, nextIn, rowOf, headOf, Replayed, Performs, idle, turn}
+use Rattle.script.proofs.Numbers.{length-bytes8}
 use Rattle.script.proofs.Log.{head-length, Alike, effect-outs}
 use Rattle.script.proofs.Scripts.{entry-whole, entry-cut, next-in, next-full, next-none, next-some, turn-idle, turn-done, Going, kept-turn, kept-end, performs}
 
@@ -96,6 +97,27 @@ pub given-put : (q : Quantity) (n : Option ℤ)
     → headOf (accepted (given q n ∷ [])) ≡ 1 ∷ 0 ∷ (bytes8 0 ++ (labelBy (quantityLabel q) n ∷ (bytes8 (unsigned (numberOrZero n)) ++ zeros 18)))
 unfolding headOf rowOf
 given-put q n = rw no-second
+
+no-third : rowOf 1 [] ≡ zeros 9
+unfolding rowOf bytes8 bytesOf
+no-third = refl
+
+-- two numbers, none of them missing
+pub two-put : (q : Quantity) (n : ℕ) (r : Quantity) (m : ℕ) → headOf (accepted (counted q n ∷ counted r m ∷ []))
+    ≡ 1 ∷ 0 ∷ (bytes8 0 ++ (quantityLabel q ∷ (bytes8 n ++ (quantityLabel r ∷ (bytes8 m ++ zeros 9)))))
+unfolding headOf rowOf unsigned
+two-put q n r m = rw no-third
+
+-- the bytes of one number, and what stands behind it
+pub one-parts : (label n : ℕ) → 1 ∷ 0 ∷ (bytes8 0 ++ (label ∷ (bytes8 n ++ zeros 18))) ≡ (1 ∷ 0 ∷ (bytes8 0 ++ (label ∷ bytes8 n))) ++ (zeros 9 ++ zeros 9)
+one-parts label n = ap (λ (xs : List ℕ). 1 ∷ 0 ∷ xs) (sym (append-assoc (bytes8 0) (label ∷ bytes8 n) (zeros 9 ++ zeros 9)))
+
+pub one-length : (label n : ℕ) → length (1 ∷ 0 ∷ (bytes8 0 ++ (label ∷ bytes8 n))) ≡ 19
+one-length label n = simp (length-append, length-bytes8)
+
+pub two-parts : (label n other m : ℕ) → (1 ∷ 0 ∷ (bytes8 0 ++ (label ∷ bytes8 n))) ++ ((other ∷ bytes8 m) ++ zeros 9)
+    ≡ 1 ∷ 0 ∷ (bytes8 0 ++ (label ∷ (bytes8 n ++ (other ∷ (bytes8 m ++ zeros 9)))))
+two-parts label n other m = ap (λ (xs : List ℕ). 1 ∷ 0 ∷ xs) (append-assoc (bytes8 0) (label ∷ bytes8 n) ((other ∷ bytes8 m) ++ zeros 9))
 
 -- with the answer as the code has it
 pub reply-put : (r r′ : Reply) (log log′ xs : List ℕ) → r ≡ r′ → headOf (answerOf r′) ≡ xs → log′ ≡ over xs log → log′ ≡ over (headOf (answerOf r)) log
@@ -187,6 +209,82 @@ module _ (marks : FlagTable) (b s log : List ℕ) (k i n : ℕ) (f f′ : List �
       rw (← size, num)
       (turn-made marks b s log k (entry (f (bytesAt s i)) (i + 8 + numberAt s i)) kind says (omega arith) (rw size room) a b (out ∷ []) log′ is
       (rw (append-nil out) (w ∙ output-log log ys out n (37 + n - 37) room m as-many a out-many)))
+
+-- two outputs, of the n bytes at 1 and the m bytes behind them, stand as `both` at the log's place 37
+module _ (marks : FlagTable) (b s log : List ℕ) (k n m : ℕ) (f : List ℕ → List ℕ → Call) (kind : getD s 0 0 ≡ k)
+    (says : getD (kinds s) k none ≡ some (entry (f (bytesAt s 1) (bytesAt s (second s))) (17 + numberAt s 1 + numberAt s (second s))))
+    (num : n ≡ numberAt s 1) (num₂ : m ≡ numberAt s (9 + n)) (whole : 17 + n + m ≤ length s) where
+  abbrev texts : Entry
+  texts = entry (f (bytesAt s 1) (bytesAt s (second s))) (17 + numberAt s 1 + numberAt s (second s))
+
+  second-is : numberAt s (second s) ≡ m
+  second-is = ap (λ (j : ℕ). numberAt s (9 + j)) (sym num) ∙ sym num₂
+
+  taken-is : texts .taken ≡ 17 + n + m
+  taken-is = ap₂ (λ (x y : ℕ). 17 + x + y) (sym num) second-is
+
+  first-part : take (9 + n - 9) (drop 9 s) ≡ bytesAt s 1
+  first-part = part-counted s 1 n num
+
+  second-part : take (9 + n + 8 + m - (9 + n + 8)) (drop (9 + n + 8) s) ≡ bytesAt s (second s)
+  second-part = part-counted s (9 + n) m num₂ ∙ ap (λ (j : ℕ). bytesAt s (9 + j)) num
+
+  first-length : length (bytesAt s 1) ≡ n
+  first-length = counted-length s 1 n num (omega arith)
+
+  second-length : length (bytesAt s (second s)) ≡ m
+  second-length = ap length (sym (ap (λ (j : ℕ). bytesAt s (9 + j)) num)) ∙ counted-length s (9 + n) m num₂ (omega arith)
+
+  -- put: both are lent as parts of the script
+  pub texts-lent : (e : List ℕ → List ℕ → Call) → e ≡ f → e (take (9 + n - 9) (drop 9 s)) (take (9 + n + 8 + m - (9 + n + 8)) (drop (9 + n + 8) s)) ≡ texts .call
+  texts-lent e is = rw is (ap₂ f first-part second-part)
+
+  pub texts-taken : 9 + n + 8 + m ≡ texts .taken
+  texts-taken = omega (arith, taken-is)
+
+  pub texts-whole : texts .taken ≤ length s
+  texts-whole = omega (arith, taken-is)
+
+  module _ (outputs-of : (d e : List ℕ) → outputsOf (f d e) ≡ d ∷ e ∷ []) where
+    sizes : recordSize (texts .call) ≡ 37 + n + m
+    unfolding recordSize joined
+    sizes =
+        ap (λ (d : List (List ℕ)). 37 + length (joined d)) (outputs-of (bytesAt s 1) (bytesAt s (second s)))
+        ∙ simp length-append (omega (arith, first-length, second-length))
+
+    pub outputs-full : length log < 37 + n + m → idle b log ≡ turn marks b s log
+    outputs-full h = turn-full marks b s log k texts kind says texts-whole (rw sizes h)
+
+    pub lent-length : 37 + n + m ≤ length log → length (take (37 + n + m - 37) (drop 37 log))
+        ≡ length (take (9 + n - 9) (drop 9 s)) + length (take (9 + n + 8 + m - (9 + n + 8)) (drop (9 + n + 8) s))
+    lent-length h =
+        length-take-le (37 + n + m - 37) (drop 37 log) (omega (arith, length-drop 37 log))
+        ∙ omega (arith, ap length first-part, ap length second-part, first-length, second-length)
+
+    pub turn-outputs : (both log′ : List ℕ) (a : Answer) → 37 + n + m ≤ length log → length both ≡ length (take (37 + n + m - 37) (drop 37 log))
+        → (let d = take (9 + n - 9) (drop 9 s) in
+        after a b (take (length d) both ∷ drop (length d) both ∷ []) ≡ effect marks b (f d (take (9 + n + 8 + m - (9 + n + 8)) (drop (9 + n + 8) s)))
+        → log′ ≡ over (headOf a) (take 37 log ++ (both ++ drop (37 + n + m - 37) (drop 37 log)))
+        → record { buffer = b; log = log′; calls = 1; taken = 9 + n + 8 + m; written = 37 + n + m } ≡ turn marks b s log)
+    unfolding joined
+    turn-outputs both log′ a room long g w =
+        let d = take (9 + n - 9) (drop 9 s) in
+        let j : 37 + n + m - 37 ≡ n + m = omega arith in
+        let lb : length both ≡ n + m = long ∙ length-take-le (37 + n + m - 37) (drop 37 log) (omega (arith, length-drop 37 log)) ∙ j in
+        let is = g ∙ ap (effect marks b) (ap₂ f first-part second-part) in
+        let outs : take (length d) both ++ (drop (length d) both ++ []) ≡ both = ap (λ (l : List ℕ). take (length d) both ++ l) (append-nil (drop (length d) both))
+        ∙ take-append-drop (length d) both in
+        let front : length (take 37 log) ≡ 37 = length-take-le 37 log (omega arith) in
+        let behind : 37 + (37 + n + m - 37) ≡ length (headOf a ++ both) = omega (arith, length-append (headOf a) both, head-length a) in
+        let put : over (headOf a) (take 37 log ++ (both ++ drop (37 + n + m - 37) (drop 37 log))) ≡ over (headOf a ++ both) log =
+        ap (λ (l : List ℕ). headOf a ++ l)
+        (ap (λ (i : ℕ). drop i (take 37 log ++ (both ++ drop (37 + n + m - 37) (drop 37 log)))) (head-length a)
+        ∙ drop-at (take 37 log) (both ++ drop (37 + n + m - 37) (drop 37 log)) 37 front
+        ∙ ap (λ (l : List ℕ). both ++ l) (drop-drop (37 + n + m - 37) 37 log ∙ ap (λ (i : ℕ). drop i log) behind))
+        ∙ sym (append-assoc (headOf a) both (drop (length (headOf a ++ both)) log)) in
+        rw (← sizes, texts-taken)
+        (turn-made marks b s log k texts kind says texts-whole (rw sizes room) a b (take (length d) both ∷ drop (length d) both ∷ []) log′ is
+        (w ∙ put ∙ ap (λ (l : List ℕ). over (headOf a ++ l) log) (sym outs)))
 
 -- ---- the loop
 

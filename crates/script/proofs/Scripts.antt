@@ -19,7 +19,7 @@ use Rattle.format.specs.Machine.{Course, course}
 use Rattle.format.specs.Buffer.{after, Shown, shown, effect, calls, claim}
 use Rattle.laws.proofs.Bits.{append-below}
 use Rattle.laws.proofs.WholeList.{whole-list}
-use Rattle.script.specs.Script.{bytesOf, bytes8, Entry, entry, numberAt, bytesAt, kinds, within, entryAt, joined, recordSize, logSize, nextIn, listOf, scriptEntry}
+use Rattle.script.specs.Script.{bytesOf, bytes8, Entry, entry, numberAt, bytesAt, second, kinds, within, entryAt, joined, recordSize, logSize, nextIn, listOf, scriptEntry}
 use Rattle.script.specs.Script.{scriptOf, Slice, Fits, AllFit, headOf, recordOf, records, answersIn, Replayed, logged, Claimed, Performs, idle, performed, turn}
 use Rattle.numbers.specs.Words.{signed, unsigned}
 use Rattle.script.proofs.Numbers.{length-bytes8, number-at, bytes-at, signed-unsigned, unsigned-lt}
@@ -41,7 +41,7 @@ pub entry-zero : (s : List ℕ) → getD s 0 0 ≡ 0 → entryAt s ≡ none
 unfolding entryAt within kinds
 entry-zero s h = rw h
 
--- the four forms of an entry, and what stands behind it: one number; two; a number and counted bytes; counted bytes
+-- the four forms of an entry, and what stands behind it: one number; two; a number and counted bytes; counted bytes twice
 module _ (k : ℕ) (rest : List ℕ) where
   one-number : (f : ℕ → Call) (x : ℕ) → x < 2 ^ 64
       → (let s = k ∷ (bytes8 x ++ rest) in getD (kinds s) k none ≡ some (entry (f (numberAt s 1)) 9))
@@ -81,18 +81,28 @@ module _ (k : ℕ) (rest : List ℕ) where
       ∙ ap₂ (λ (v : ℕ) (w : List ℕ). some (entry (f v w) (17 + numberAt s 9))) ex ed
       ∙ ap (λ (w : ℕ). some (entry (f x d) w)) (ap (λ (w : ℕ). 17 + w) en ∙ n)
 
-  text : (f : List ℕ → Call) (d : List ℕ) → length d < 2 ^ 64
-      → (let s = k ∷ (bytes8 (length d) ++ (d ++ rest)) in getD (kinds s) k none ≡ some (entry (f (bytesAt s 1)) (9 + numberAt s 1)))
-      → entryAt (k ∷ (bytes8 (length d) ++ (d ++ rest))) ≡ some (entry (f d) (length (k ∷ (bytes8 (length d) ++ d))))
-  text f d g says =
-      let s = k ∷ (bytes8 (length d) ++ (d ++ rest)) in
-      let m = length-bytes8 (length d) in
-      let n : 9 + length d ≡ length (k ∷ (bytes8 (length d) ++ d)) = simp length-append (omega arith) in
-      let en = number-at (k ∷ []) 1 refl (length d) (d ++ rest) g in
-      let ed = bytes-at (k ∷ []) 1 refl d rest g in
-      entry-whole s k _ refl says (rw en (simp length-append (omega arith)))
-      ∙ ap₂ (λ (v : List ℕ) (w : ℕ). some (entry (f v) (9 + w))) ed en
-      ∙ ap (λ (w : ℕ). some (entry (f d) w)) n
+  texts : (f : List ℕ → List ℕ → Call) (d e : List ℕ) → length d < 2 ^ 64 → length e < 2 ^ 64
+      → (let s = k ∷ (bytes8 (length d) ++ (d ++ (bytes8 (length e) ++ (e ++ rest)))) in
+      getD (kinds s) k none ≡ some (entry (f (bytesAt s 1) (bytesAt s (second s))) (17 + numberAt s 1 + numberAt s (second s))))
+      → entryAt (k ∷ (bytes8 (length d) ++ (d ++ (bytes8 (length e) ++ (e ++ rest)))))
+      ≡ some (entry (f d e) (length (k ∷ (bytes8 (length d) ++ (d ++ (bytes8 (length e) ++ e))))))
+  texts f d e g h says =
+      let s = k ∷ (bytes8 (length d) ++ (d ++ (bytes8 (length e) ++ (e ++ rest)))) in
+      let p = k ∷ (bytes8 (length d) ++ d) in
+      let i = 9 + length d in
+      let l = length-bytes8 (length d) in
+      let m = length-bytes8 (length e) in
+      let n : 17 + length d + length e ≡ length (k ∷ (bytes8 (length d) ++ (d ++ (bytes8 (length e) ++ e)))) = simp length-append (omega arith) in
+      let lp : length p ≡ i = simp length-append (omega arith) in
+      let split : s ≡ p ++ (bytes8 (length e) ++ (e ++ rest)) = ap (λ (x : List ℕ). k ∷ x) (sym (append-assoc (bytes8 (length d)) d (bytes8 (length e) ++ (e ++ rest)))) in
+      let en = number-at (k ∷ []) 1 refl (length d) (d ++ (bytes8 (length e) ++ (e ++ rest))) g in
+      let ed = bytes-at (k ∷ []) 1 refl d (bytes8 (length e) ++ (e ++ rest)) g in
+      let em : numberAt s (second s) ≡ length e = ap₂ (λ (x : List ℕ) (j : ℕ). numberAt x (9 + j)) split en ∙ number-at p i lp (length e) (e ++ rest) h in
+      let ee : bytesAt s (second s) ≡ e = ap₂ (λ (x : List ℕ) (j : ℕ). bytesAt x (9 + j)) split en ∙ bytes-at p i lp e rest h in
+      let ls : length s ≡ 17 + length d + length e + length rest = simp length-append (omega arith) in
+      entry-whole s k _ refl says (omega (arith, en, em, ls))
+      ∙ ap₂ (λ (v w : List ℕ). some (entry (f v w) (17 + numberAt s 1 + numberAt s (second s)))) ed ee
+      ∙ ap (λ (w : ℕ). some (entry (f d e) w)) (ap₂ (λ (v w : ℕ). 17 + v + w) en em ∙ n)
 
 -- an entry that was written is read back, whatever stands behind it
 pub entry-back : (c : Call) (rest : List ℕ) → Fits c → entryAt (scriptEntry c ++ rest) ≡ some (entry c (length (scriptEntry c)))
@@ -111,8 +121,9 @@ entry-back (edits (put i ns)) rest h =
 entry-back (fetches (fetch i out)) rest h =
     simp append-assoc (counted 8 rest (λ (x : ℕ) (d : List ℕ). fetches (fetch x d)) i out (h .0) (h .1 .0) refl)
 entry-back (edits (remove i)) rest h = one-number 9 rest (λ (x : ℕ). edits (remove x)) i h refl
-entry-back (edits (putText t)) rest h = rw append-assoc (text 10 rest (λ (d : List ℕ). edits (putText d)) t (h .0) refl)
-entry-back (fetches (fetchText out)) rest h = rw append-assoc (text 11 rest (λ (d : List ℕ). fetches (fetchText d)) out (h .0) refl)
+entry-back (edits (putText t os)) rest h = simp append-assoc (texts 10 rest (λ (d e : List ℕ). edits (putText d e)) t os (h .0 .0) (h .1 .0) refl)
+entry-back (fetches (fetchText out origins)) rest h =
+    simp append-assoc (texts 11 rest (λ (d e : List ℕ). fetches (fetchText d e)) out origins (h .0 .0) (h .1 .0) refl)
 
 -- a property of each entry of a list is one of the entry at k
 abbrev OfEach : (Entry → Type 0) → List (Option Entry) → Type 0
@@ -150,8 +161,16 @@ module _ (s : List ℕ) where
   long-sized : (k x : ℕ) {c : Call} → scriptEntry c ≡ k ∷ (bytes8 x ++ (bytes8 (length (bytesAt s 9)) ++ bytesAt s 9)) → Sized s (entry c (17 + numberAt s 9))
   long-sized k x e = counted-sized 9 (omega arith) (rw e (simp (length-append, length-bytes8) (omega arith)))
 
-  short-sized : (k : ℕ) {c : Call} → scriptEntry c ≡ k ∷ (bytes8 (length (bytesAt s 1)) ++ bytesAt s 1) → Sized s (entry c (9 + numberAt s 1))
-  short-sized k e = counted-sized 1 (omega arith) (rw e (simp (length-append, length-bytes8) (omega arith)))
+  texts-sized : (k : ℕ) {c : Call} → scriptEntry c ≡ k ∷ (bytes8 (length (bytesAt s 1)) ++ (bytesAt s 1 ++ (bytes8 (length (bytesAt s (second s))) ++ bytesAt s (second s))))
+      → Sized s (entry c (17 + numberAt s 1 + numberAt s (second s)))
+  texts-sized k e =
+      record {
+        some-bytes = omega arith;
+        as-written = λ w.
+            let x : length (bytesAt s 1) ≡ numberAt s 1 = length-take-le (numberAt s 1) (drop 9 s) (simp length-drop (omega arith)) in
+            let y : length (bytesAt s (second s)) ≡ numberAt s (second s) = length-take-le (numberAt s (second s)) (drop (second s + 8) s) (simp length-drop (omega arith)) in
+            rw e (simp (length-append, length-bytes8) (omega arith));
+      }
 
   kinds-sized : OfEach (Sized s) (kinds s)
   unfolding kinds scriptEntry
@@ -167,7 +186,7 @@ module _ (s : List ℕ) where
               one-sized 4 n refl,
               (
                 two-sized 5 n m refl,
-                (one-sized 6 n refl, (long-sized 7 n refl, (long-sized 8 n refl, (one-sized 9 n refl, (short-sized 10 refl, (short-sized 11 refl, tt)))))),
+                (one-sized 6 n refl, (long-sized 7 n refl, (long-sized 8 n refl, (one-sized 9 n refl, (texts-sized 10 refl, (texts-sized 11 refl, tt)))))),
               ),
             ),
           ),
@@ -314,8 +333,11 @@ entry-bytes (edits (clearFlag j)) h = alone 6 j (omega arith)
 entry-bytes (edits (put i ns)) h = before 7 i (bytes8 (length ns) ++ ns) (omega arith) (counted-bytes ns (h .1))
 entry-bytes (fetches (fetch i out)) h = before 8 i (bytes8 (length out) ++ out) (omega arith) (counted-bytes out (h .1))
 entry-bytes (edits (remove i)) h = alone 9 i (omega arith)
-entry-bytes (edits (putText t)) h = before 10 (length t) t (omega arith) (h .1)
-entry-bytes (fetches (fetchText out)) h = before 11 (length out) out (omega arith) (h .1)
+entry-bytes (edits (putText t os)) h =
+    before 10 (length t) (t ++ (bytes8 (length os) ++ os)) (omega arith) (append-below 256 t (bytes8 (length os) ++ os) (h .0 .1) (counted-bytes os (h .1)))
+entry-bytes (fetches (fetchText out origins)) h =
+    before 11 (length out) (out ++ (bytes8 (length origins) ++ origins)) (omega arith)
+    (append-below 256 out (bytes8 (length origins) ++ origins) (h .0 .1) (counted-bytes origins (h .1)))
 
 pub script-bytes : (cs : List Call) → AllFit cs → Bytes (scriptOf cs)
 unfolding scriptOf AllFit

@@ -4,7 +4,7 @@ use mathlib.Core.List.{List, [], _∷_}
 use mathlib.Core.Option.{Option, none, some}
 use lib.ListN.{getD}
 use lib.IntN.{ℤ, pos}
-use Rattle.format.specs.Calls.{Quantity, value, flag, count, word, present, rptin, attachments, bytes, nibbles, Given}
+use Rattle.format.specs.Calls.{Quantity, value, flag, count, word, present, rptin, attachments, bytes, nibbles, deck, Given}
 
 unfoldable pub quantityLabel : Quantity → ℕ
 quantityLabel value = 1
@@ -16,10 +16,11 @@ quantityLabel rptin = 6
 quantityLabel attachments = 7
 quantityLabel bytes = 8
 quantityLabel nibbles = 9
+quantityLabel deck = 10
 
 -- the quantity that has a label
 unfoldable pub quantityOf : ℕ → Quantity
-quantityOf m = getD (value ∷ flag ∷ count ∷ word ∷ present ∷ rptin ∷ attachments ∷ bytes ∷ nibbles ∷ []) (m - 1) value
+quantityOf m = getD (value ∷ flag ∷ count ∷ word ∷ present ∷ rptin ∷ attachments ∷ bytes ∷ nibbles ∷ deck ∷ []) (m - 1) value
 
 -- so much more where the number is missing
 abbrev pub missingLabel : ℕ

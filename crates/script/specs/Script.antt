@@ -53,6 +53,10 @@ numberAt s i = numberOf (take 8 (drop i s))
 abbrev pub bytesAt : List ℕ → ℕ → List ℕ
 bytesAt s i = take (numberAt s i) (drop (i + 8) s)
 
+-- the place behind the counted bytes at 1
+abbrev pub second : List ℕ → ℕ
+second s = 9 + numberAt s 1
+
 abbrev pub scaledAt : List ℕ → ℕ → Scaled
 scaledAt s i = record { 0 = signed (numberAt s i) }
 
@@ -69,8 +73,8 @@ kinds s =
     some (entry (edits (put (numberAt s 1) (bytesAt s 9))) (17 + numberAt s 9)) ∷  -- 7
     some (entry (fetches (fetch (numberAt s 1) (bytesAt s 9))) (17 + numberAt s 9)) ∷  -- 8
     some (entry (edits (remove (numberAt s 1))) 9) ∷  -- 9
-    some (entry (edits (putText (bytesAt s 1))) (9 + numberAt s 1)) ∷  -- 10
-    some (entry (fetches (fetchText (bytesAt s 1))) (9 + numberAt s 1)) ∷  -- 11
+    some (entry (edits (putText (bytesAt s 1) (bytesAt s (second s)))) (17 + numberAt s 1 + numberAt s (second s))) ∷  -- 10
+    some (entry (fetches (fetchText (bytesAt s 1) (bytesAt s (second s)))) (17 + numberAt s 1 + numberAt s (second s))) ∷  -- 11
     []
 
 -- the entry, if what it wants is within n
@@ -120,8 +124,8 @@ scriptEntry (edits (clearFlag j)) = 6 ∷ bytes8 j
 scriptEntry (edits (put i ns)) = 7 ∷ (bytes8 i ++ (bytes8 (length ns) ++ ns))
 scriptEntry (fetches (fetch i out)) = 8 ∷ (bytes8 i ++ (bytes8 (length out) ++ out))
 scriptEntry (edits (remove i)) = 9 ∷ bytes8 i
-scriptEntry (edits (putText t)) = 10 ∷ (bytes8 (length t) ++ t)
-scriptEntry (fetches (fetchText out)) = 11 ∷ (bytes8 (length out) ++ out)
+scriptEntry (edits (putText t os)) = 10 ∷ (bytes8 (length t) ++ (t ++ (bytes8 (length os) ++ os)))
+scriptEntry (fetches (fetchText out origins)) = 11 ∷ (bytes8 (length out) ++ (out ++ (bytes8 (length origins) ++ origins)))
 
 unfoldable pub scriptOf : List Call → List ℕ
 scriptOf [] = []
@@ -141,9 +145,9 @@ Fits (edits (setFlag j v)) = (j < 2 ^ 64) × (v < 2 ^ 64)
 Fits (edits (clearFlag j)) = j < 2 ^ 64
 Fits (edits (put i ns)) = (i < 2 ^ 64) × Slice ns
 Fits (edits (remove i)) = i < 2 ^ 64
-Fits (edits (putText t)) = Slice t
+Fits (edits (putText t os)) = Slice t × Slice os
 Fits (fetches (fetch i out)) = (i < 2 ^ 64) × Slice out
-Fits (fetches (fetchText out)) = Slice out
+Fits (fetches (fetchText out origins)) = Slice out × Slice origins
 
 unfoldable pub AllFit : List Call → Type 0
 AllFit [] = Unit {0}

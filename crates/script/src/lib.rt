@@ -94,6 +94,15 @@ fn put_given(log: &mut [u8], label: u8, n: u64)
     put_labelled(&mut log[10..], label, n);
 }
 
+// The same of a call that gives two.
+fn put_two(log: &mut [u8], label: u8, n: u64, other: u8, m: u64)
+    requires { ⌜ 37 ≤ length (now log) ⌝ }
+    ensures { λ _. ⌜ now (log .exit) ≡ over (1 ∷ 0 ∷ (bytes8 0 ++ (label ∷ (bytes8 n ++ (other ∷ (bytes8 m ++ zeros 9)))))) (now (log .entry)) ⌝ }
+{
+    put_given(log, label, n);
+    put_labelled(&mut log[19..], other, m);
+}
+
 // Writes an answer over the first 37 bytes of a log.
 pub fn put_reply(log: &mut [u8], r: Reply)
     requires { ⌜ 37 ≤ length (now log) ⌝ }
@@ -122,6 +131,9 @@ pub fn put_reply(log: &mut [u8], r: Reply)
         }
         Reply::Count(n) => {
             put_given(log, 3, n as u64);
+        }
+        Reply::Text(n, set) => {
+            put_two(log, 3, n as u64, 10, set as u64);
         }
     }
 }

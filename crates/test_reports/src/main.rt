@@ -1,5 +1,6 @@
 // Runs the calls outside the list over vectors of the independent implementation.
 use format::FlagTable;
+use format::Reply;
 use format::Scaled;
 use fresh::Started;
 use pack::Packed;
@@ -143,12 +144,45 @@ fn unpack_in(s: &[u8], trip: bool, marks: &FlagTable) {
     unpack_values(s, &mut values[..n], trip, marks);
 }
 
+fn put_read(r: Reply) {
+    match r {
+        Reply::Refused(number, place) => test_io::put_refused(number, place),
+        Reply::Text(n, set) => {
+            test_io::put_head(2, 0, n as u64);
+            test_io::put8(set as u64);
+        }
+        _ => (),
+    }
+}
+
+fn read_origins(s: &[u8], out: &mut [u8], origins: &mut [u8], marks: &FlagTable) {
+    test_io::get_bytes(origins);
+    put_read(text_display::read_out(s, out, origins, marks));
+    test_io::put_bytes(out);
+    test_io::put_bytes(origins);
+}
+
+fn read_text(s: &[u8], out: &mut [u8], marks: &FlagTable) {
+    test_io::get_bytes(out);
+    let mut origins = [0u8; 2400];
+    let n = test_io::get_length(2400);
+    read_origins(s, out, &mut origins[..n], marks);
+}
+
+// The ship text of a report, read out.
+fn read_in(s: &[u8], marks: &FlagTable) {
+    let mut out = [0u8; 2400];
+    let n = test_io::get_length(2400);
+    read_text(s, &mut out[..n], marks);
+}
+
 fn report_in(kind: u8, s: &mut [u8], marks: &FlagTable) {
     test_io::get_bytes(s);
     match kind {
         1 => judge_in(s, marks),
         2 => list_in(s),
         6 => same_in(s, marks),
+        11 => read_in(s, marks),
         _ => unpack_in(s, kind == 7, marks),
     }
 }
@@ -288,7 +322,7 @@ fn characters_one() {
 // One vector under a table; false at the end of the input.
 fn one(kind: u8, marks: &FlagTable) -> bool {
     match kind {
-        1 | 2 | 4 | 6 | 7 => report_one(kind, marks),
+        1 | 2 | 4 | 6 | 7 | 11 => report_one(kind, marks),
         3 => fresh_one(),
         5 | 8 => pack_one(kind == 8, marks),
         9 => characters_one(),

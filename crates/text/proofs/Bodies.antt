@@ -1,252 +1,109 @@
--- What the check and the reader have done after i nibbles of a body, and after more.
+-- A body's nibbles, taken one by one or two with each byte.
 -- Assumes nothing.
-use Prim.Native.Nat.{ℕ, _+_, _-_, _*_, _≤_, _<_}
+use Prim.Native.Nat.{ℕ, suc, _+_, _-_, _*_, _/_, _%_, _≤_, _<_}
+use native.Mathlib.Numerals.{add-one}
 use native.Mathlib.Omega.{arith}
-use native.Mathlib.Nat.{add-zero}
-use mathlib.Core.Path.{_≡_, refl, sym, ap, subst, _∙_}
-use mathlib.Core.Bool.{true}
-use mathlib.Core.List.{List, [], _∷_, _++_, map, append-nil, append-assoc, map-append}
-use lib.Dec.{eqb, leb}
-use lib.ListN.{length, getD, take, drop, replicate, length-append, length-take, length-drop, length-map, length-replicate}
-use lib.Seq.{take-suc, take-add, drop-drop, getD-drop, sets}
-use borrow.Author.Tests.{le-leb}
-use Rattle.format.specs.declared.TextState.{TextState}
-use Rattle.format.specs.declared.TextState.the-variants.{Between}
-use Rattle.format.specs.ShipText.{byteOf, textStep, stateAfter, readFrom, endFrom, atEnd, textValid, readText}
-use Rattle.format.specs.Calls.{over}
-use Rattle.laws.proofs.ShipText.{read-append, end-append, credit, read-length, read-text-length}
-use Rattle.text.specs.declared.Code.{Code}
-use Rattle.text.specs.Rows.{place, nextState}
-use Rattle.text.specs.Codes.{codeAt, Begins}
-use Rattle.text.proofs.Rows.{place-step, place-bound, place-end}
-use Rattle.laws.proofs.Stores.{stores, stores-length, stores-over}
-use Rattle.text.proofs.Reading.{Taken, taken, held, end-held, held-given, held-credit}
+use mathlib.Core.Path.{_≡_, refl, sym, ap, ap₂, subst, _∙_}
+use mathlib.Core.Bool.{Bool}
+use mathlib.Core.List.{List, _∷_}
+use lib.Dec.{eqb}
+use lib.ListN.{length, getD, take, drop, length-drop}
+use lib.Seq.{drop-cons, drop-drop}
+use Rattle.format.specs.Nibbles.{nibbles}
+use Rattle.format.specs.ShipText.{textValid}
+use Rattle.laws.proofs.Nibbles.{length-nibbles, nibbles-drop}
+use Rattle.text.specs.Rows.{nextState, placeAfter, byteNext, Placed, held}
+use Rattle.text.proofs.Rows.{next-placed, valid-place, place-held}
 
--- ---- i nibbles from a place on
+-- n nibbles of v are left, from place p on: they end where the body ends
+pub record Left (end p n : ℕ) (v : List ℕ) : Type 0 where
+  pub place : Placed p
+  pub inside : n ≤ length v
+  pub rest : placeAfter p (take n v) ≡ end
 
--- the state behind them, and the bytes that they gave
-unfoldable pub reached : List ℕ → ℕ → ℕ → TextState
-reached v at i = endFrom (Between 0) (take i (drop at v))
+left-all : (p n : ℕ) (v : List ℕ) → Placed p → n ≤ length v → Left (placeAfter p (take n v)) p n v
+left-all p n v s h = record { place = s; inside = h; rest = refl }
 
-unfoldable pub given : List ℕ → ℕ → ℕ → List ℕ
-given v at i = readText (take i (drop at v))
+-- with the place held
+pub left-held : (p n : ℕ) (v : List ℕ) → Placed p → n ≤ length v → Left (placeAfter p (take n v)) (held (p / 4 * 6)) n v
+left-held p n v s h = subst (λ (q : ℕ). Left (placeAfter p (take n v)) q n v) (sym (place-held p s .1)) (left-all p n v s h)
 
-module _ (v : List ℕ) (at : ℕ) where
-  reached-none : Between 0 ≡ reached v at 0
-  unfolding reached endFrom
-  reached-none = refl
+pub left-body : (n : ℕ) (v : List ℕ) → n ≤ length v → Left (placeAfter 4 (take n v)) 4 n v
+left-body n v h = left-all 4 n v (record { low = omega arith; whole = omega arith }) h
 
-  -- nothing wraps
-  given-bound : (i : ℕ) → length (given v at i) + held (reached v at i) ≤ 9 * i
-  unfolding given readText reached credit
-  given-bound i =
-      let ns = take i (drop at v) in
-      omega (
-        arith,
-        read-length ns (Between 0),
-        held-credit (endFrom (Between 0) ns),
-        length-take i (drop at v),
-        length-map (readFrom (Between 0) ns) byteOf,
-      )
+-- the body is valid if the rest ends where no space waits
+pub left-valid : (p n : ℕ) (v ns : List ℕ) → Left (placeAfter 4 ns) p n v → (t : Bool) → t ≡ eqb (placeAfter p (take n v)) 4 → t ≡ textValid ns
+left-valid p n v ns l t e = e ∙ ap (λ (k : ℕ). eqb k 4) (l .rest) ∙ valid-place ns
 
-  -- k nibbles more
-  take-more : (i k : ℕ) → take (i + k) (drop at v) ≡ take i (drop at v) ++ take k (drop (at + i) v)
-  take-more i k = take-add i k (drop at v) ∙ ap (λ (l : List ℕ). take i (drop at v) ++ take k l) (drop-drop i at v)
+pub left-none : (end p n : ℕ) (v : List ℕ) → Left end p n v → n ≡ 0 → p ≡ end
+unfolding placeAfter
+left-none end p n v l e = rw e at (l .rest)
 
-  reached-more : (i k : ℕ) → reached v at (i + k) ≡ endFrom (reached v at i) (take k (drop (at + i) v))
-  unfolding reached
-  reached-more i k = ap (endFrom (Between 0)) (take-more i k) ∙ end-append (take i (drop at v)) (take k (drop (at + i) v)) (Between 0)
-
-  given-more : (i k : ℕ) → given v at (i + k) ≡ given v at i ++ map byteOf (readFrom (reached v at i) (take k (drop (at + i) v)))
-  unfolding given readText reached
-  given-more i k =
-      let xs = take i (drop at v) in
-      let ys = take k (drop (at + i) v) in
-      ap (λ (l : List ℕ). map byteOf (readFrom (Between 0) l)) (take-more i k)
-      ∙ ap (map byteOf) (read-append xs ys (Between 0))
-      ∙ map-append byteOf (readFrom (Between 0) xs) (readFrom (endFrom (Between 0) xs) ys)
-
-  reached-one : (i n : ℕ) → at + i < length v → n ≡ getD v (at + i) 0 → reached v at (i + 1) ≡ stateAfter (textStep (reached v at i) n)
-  unfolding endFrom
-  reached-one i n h e =
-      reached-more i 1
-      ∙ ap (endFrom (reached v at i))
-      (take-suc (drop (at + i) v) 0 0 (omega (arith, length-drop (at + i) v)) ∙ ap (λ (x : ℕ). x ∷ []) (getD-drop (at + i) v 0 0 ∙ ap (λ (j : ℕ). getD v j 0) (add-zero (at + i)) ∙ sym e))
-
--- ---- the check
-
--- the place after i nibbles
-pub record Stands (v : List ℕ) (at len p i : ℕ) : Type 0 where
-  pub inside : i ≤ len
-  pub place : p ≡ place (reached v at i)
-
-module _ (v : List ℕ) (at len : ℕ) where
-  pub stand-none : Stands v at len 4 0
-  unfolding place
-  stand-none = record { inside = omega arith; place = ap place (reached-none v at) }
-
-  pub stand-low : (p i : ℕ) → Stands v at len p i → p < 64
-  stand-low p i s = omega (arith, s .place, place-bound (reached v at i))
-
-  pub stand-end : (p i : ℕ) → Stands v at len p i → len ≤ i → eqb p 4 ≡ textValid (take len (drop at v))
-  unfolding reached textValid
-  stand-end p i s h =
-      let e : i ≡ len = omega (arith, s .inside) in
-      ap (λ (q : ℕ). eqb q 4) (s .place) ∙ place-end (reached v at i) ∙ ap (λ (k : ℕ). atEnd (reached v at k)) e
-
-  module _ (k : at + len ≤ length v) (p i : ℕ) (s : Stands v at len p i) where
-    pub stand-more : (n q : ℕ) → i < len → n ≡ getD v (at + i) 0 → q ≡ nextState p n → Stands v at len q (i + 1)
-    stand-more n q h e f = record {
-      inside = omega arith;
-      place = f ∙ ap (λ (x : ℕ). nextState x n) (s .place) ∙ sym (place-step (reached v at i) n) ∙ ap place (sym (reached-one v at i n (omega arith) e));
+-- one is taken
+left-first : (end p n q x : ℕ) (v r : List ℕ) → v ≡ x ∷ r → Left end p n v → 0 < n → q ≡ nextState p x → Left end q (n - 1) r
+unfolding placeAfter
+left-first end p n q x v r e l h f =
+    let m : suc (n - 1) ≡ n = omega arith in
+    record {
+      place = subst Placed (sym f) (next-placed p x (l .place));
+      inside = omega (arith, l .inside, ap length e);
+      rest = ap (λ (k : ℕ). placeAfter k (take (n - 1) r)) f ∙ ap₂ (λ (k : ℕ) (w : List ℕ). placeAfter p (take k w)) m (sym e) ∙ l .rest;
     }
 
-  pub stand-two : at + len ≤ length v → (p q r i m n : ℕ) → Stands v at len p i → i + 1 < len → m ≡ getD v (at + i) 0 → n ≡ getD v (at + i + 1) 0
-      → q ≡ nextState p m → r ≡ nextState q n → Stands v at len r (i + 2)
-  stand-two k p q r i m n s h e f g u =
-      let a : at + i + 1 ≡ at + (i + 1) = omega arith in
-      let b : i + 1 + 1 ≡ i + 2 = omega arith in
-      subst (Stands v at len r) b (stand-more k q (i + 1) (stand-more k p i s m q (omega arith) e g) n r h (f ∙ ap (λ (j : ℕ). getD v j 0) a) u)
+from : (s : List ℕ) (i : ℕ) → i < length s → drop i s ≡ getD s i 0 ∷ drop (i + 1) s
+from s i h = rw add-one (drop-cons s i 0 h)
 
--- ---- the reader
+-- ---- one nibble a byte
 
--- the text so far: what i nibbles gave, and the spaces that wait
-unfoldable pub laid : List ℕ → ℕ → ℕ → List ℕ
-laid v at i = given v at i ++ replicate (held (reached v at i)) 32
+module _ (end p n : ℕ) (s : List ℕ) (i : ℕ) (l : Left end p n (drop i s)) (h : 0 < n) where
+  pub nibble-inside : i < length s
+  nibble-inside = omega (arith, l .inside, length-drop i s)
 
--- i nibbles of whole codes, and the length of their text
-pub record Parsed (v : List ℕ) (at len count i : ℕ) : Type 0 where
-  pub inside : i ≤ len
-  pub state : reached v at i ≡ Between (held (reached v at i))
-  pub long : count ≡ length (laid v at i)
+  pub left-nibble : (q : ℕ) → q ≡ nextState p (getD s i 0) → Left end q (n - 1) (drop (i + 1) s)
+  left-nibble q e = left-first end p n q (getD s i 0) (drop i s) (drop (i + 1) s) (from s i nibble-inside) l h e
 
-module _ (v : List ℕ) (at : ℕ) where
-  laid-length : (i : ℕ) → length (laid v at i) ≡ length (given v at i) + held (reached v at i)
-  unfolding laid
-  laid-length i = length-append (given v at i) (replicate (held (reached v at i)) 32) ∙ ap (λ (k : ℕ). length (given v at i) + k) (length-replicate {A = ℕ} (held (reached v at i)) 32)
+-- ---- two nibbles a byte
 
-  pub laid-none : [] ≡ laid v at 0
-  unfolding laid given readText readFrom reached endFrom held
-  laid-none = refl
+module _ (end p n : ℕ) (s : List ℕ) (i : ℕ) (l : Left end p n (nibbles (drop i s))) (h : 0 < n) where
+  pub byte-inside : i < length s
+  byte-inside = omega (arith, l .inside, length-drop i s, length-nibbles (drop i s))
 
-  pub laid-room : (i : ℕ) (d out : List ℕ) → out ≡ sets d 0 (laid v at i) → length out ≡ length d
-  laid-room i d out e = stores-length d out (laid v at i) 0 e
+  left-high : (q : ℕ) → q ≡ nextState p (getD s i 0 / 16) → Left end q (n - 1) (getD s i 0 % 16 ∷ nibbles (drop (i + 1) s))
+  unfolding nibbles
+  left-high q e = left-first end p n q (getD s i 0 / 16) (nibbles (drop i s)) _ (ap nibbles (from s i byte-inside)) l h e
 
-  pub parse-none : (len : ℕ) → Parsed v at len 0 0
-  unfolding reached endFrom held
-  parse-none len = record { inside = omega arith; state = refl; long = ap length laid-none }
+  pub left-half : n ≤ 1 → (q : ℕ) → q ≡ nextState p (getD s i 0 / 16) → q ≡ end
+  left-half k q e = left-none end q (n - 1) _ (left-high q e) (omega arith)
 
-module _ (v : List ℕ) (at len : ℕ) (valid : textValid (take len (drop at v)) ≡ true) where
-  -- the body from nibble i on
-  ends : (i : ℕ) → i ≤ len → atEnd (endFrom (reached v at i) (take (len - i) (drop (at + i) v))) ≡ true
-  unfolding reached textValid
-  ends i h =
-      let e : i + (len - i) ≡ len = omega arith in
-      ap atEnd (sym (reached-more v at i (len - i)) ∙ ap (reached v at) e) ∙ valid
+  pub left-byte : 1 < n → (q : ℕ) → q ≡ byteNext p (getD s i 0) → Left end q (n - 2) (nibbles (drop (i + 1) s))
+  unfolding byteNext
+  left-byte k q e =
+      let b = getD s i 0 in
+      let v = nibbles (drop (i + 1) s) in
+      let m = nextState p (b / 16) in
+      let two : n - 1 - 1 ≡ n - 2 = omega arith in
+      subst (λ (k : ℕ). Left end q k v) two (left-first end m (n - 1) q (b % 16) (b % 16 ∷ v) v refl (left-high m refl) (omega arith) e)
 
-  -- its text so far is no longer than the whole
-  pub laid-within : (i : ℕ) → i ≤ len → length (laid v at i) ≤ length (readText (take len (drop at v)))
-  unfolding given
-  laid-within i h =
-      let e : i + (len - i) ≡ len = omega arith in
-      let ns = take (len - i) (drop (at + i) v) in
-      let xs = readFrom (reached v at i) ns in
-      omega (
-        arith,
-        laid-length v at i,
-        held-given ns (reached v at i) (ends i h),
-        ap length (given-more v at i (len - i)),
-        ap (λ (k : ℕ). length (given v at k)) e,
-        length-append (given v at i) (map byteOf xs),
-        length-map xs byteOf,
-      )
+-- ---- where a packed body begins: at a byte, or in the middle of one
 
-  pub laid-all : (i : ℕ) → i ≤ len → len ≤ i → laid v at i ≡ readText (take len (drop at v))
-  unfolding laid given reached textValid
-  laid-all i h k =
-      let e : i ≡ len = omega arith in
-      ap (laid v at) e ∙ ap (λ (w : ℕ). given v at len ++ replicate w 32) (end-held (reached v at len) valid) ∙ append-nil (given v at len)
+module _ (s : List ℕ) (at len : ℕ) (h : at + len ≤ length (nibbles s)) where
+  pub left-even : at % 2 ≡ 0 → Left (placeAfter 4 (take len (drop at (nibbles s)))) 4 len (nibbles (drop (at / 2) s))
+  left-even k =
+      let e : at ≡ 2 * (at / 2) = omega arith in
+      rw (nibbles-drop (at / 2) s, ← e) (left-body len (drop at (nibbles s)) (omega (arith, length-drop at (nibbles s))))
 
-  module _ (fits : at + len ≤ length v) (count i : ℕ) (p : Parsed v at len count i) (h : i < len) where
-    code-taken : Taken (held (reached v at i)) (len - i) (drop (at + i) v) (codeAt (drop (at + i) v))
-    code-taken =
-        taken (held (reached v at i)) (len - i) (drop (at + i) v) (omega arith)
-        (ap (λ (st : TextState). atEnd (endFrom st (take (len - i) (drop (at + i) v)))) (sym (p .state)) ∙ ends i (p .inside))
-        (omega (arith, length-drop (at + i) v))
+  pub odd-inside : 0 < len → at / 2 < length s
+  odd-inside k = omega (arith, length-nibbles s)
 
-    pub code-begins : Begins (drop (at + i) v)
-    code-begins = record { inside = omega (arith, code-taken .inside, length-drop (at + i) v); byte = code-taken .byte }
+  middle : (at % 2 ≡ 0 → ⊥) → 0 < len → drop at (nibbles s) ≡ getD s (at / 2) 0 % 16 ∷ nibbles (drop (at / 2 + 1) s)
+  unfolding nibbles
+  middle k m =
+      let e : at ≡ 2 * (at / 2) + 1 = omega arith in
+      ap (λ (j : ℕ). drop j (nibbles s)) e
+      ∙ sym (drop-drop 1 (2 * (at / 2)) (nibbles s))
+      ∙ ap (drop 1) (sym (nibbles-drop (at / 2) s) ∙ ap nibbles (from s (at / 2) (odd-inside m)))
 
-    module _ (c : Code) (e : c ≡ codeAt (drop (at + i) v)) where
-      this : Taken (held (reached v at i)) (len - i) (drop (at + i) v) c
-      this = subst (Taken (held (reached v at i)) (len - i) (drop (at + i) v)) (sym e) code-taken
-
-      reached-code : reached v at (i + c .nibbles) ≡ Between (this .waits)
-      reached-code =
-          reached-more v at i (c .nibbles)
-          ∙ ap (λ (st : TextState). endFrom st (take (c .nibbles) (drop (at + i) v))) (p .state)
-          ∙ this .state
-
-      held-code : held (reached v at (i + c .nibbles)) ≡ this .waits
-      unfolding held
-      held-code = ap held reached-code
-
-      pub laid-code : laid v at (i + c .nibbles) ≡ laid v at i ++ replicate (c .count) (c .byte)
-      unfolding laid
-      laid-code =
-          let w = held (reached v at i) in
-          let ns = take (c .nibbles) (drop (at + i) v) in
-          let xs = map byteOf (readFrom (Between w) ns) in
-          ap (λ (k : ℕ). given v at (i + c .nibbles) ++ replicate k 32) held-code
-          ∙ ap (λ (l : List ℕ). l ++ replicate (this .waits) 32)
-          (given-more v at i (c .nibbles) ∙ ap (λ (st : TextState). given v at i ++ map byteOf (readFrom st ns)) (p .state))
-          ∙ append-assoc (given v at i) xs (replicate (this .waits) 32)
-          ∙ ap (λ (l : List ℕ). given v at i ++ l) (this .bytes)
-          ∙ sym (append-assoc (given v at i) (replicate w 32) (replicate (c .count) (c .byte)))
-
-      count-code : count + c .count ≡ length (laid v at (i + c .nibbles))
-      count-code =
-          omega (
-            arith,
-            p .long,
-            ap length laid-code,
-            length-append (laid v at i) (replicate (c .count) (c .byte)),
-            length-replicate {A = ℕ} (c .count) (c .byte),
-          )
-
-      pub code-inside : (0 < c .nibbles) × (i + c .nibbles ≤ len)
-      code-inside = (this .some, omega (arith, this .inside))
-
-      pub parse-more : Parsed v at len (count + c .count) (i + c .nibbles)
-      unfolding held
-      parse-more = record {
-        inside = code-inside .1;
-        state = reached-code ∙ ap Between (sym held-code);
-        long = count-code;
-      }
-
-      -- it fits where the whole text fits
-      pub code-fits : count + c .count ≤ length (readText (take len (drop at v)))
-      code-fits = omega (arith, count-code, laid-within (i + c .nibbles) (code-inside .1))
-
-      -- nothing wraps
-      pub code-small : count + c .count ≤ 9 * len
-      code-small = omega (arith, count-code, laid-length v at (i + c .nibbles), given-bound v at (i + c .nibbles), code-inside .1)
-
-      pub store-code : (d out o : List ℕ) → out ≡ sets d 0 (laid v at i) → o ≡ sets out count (replicate (c .count) (c .byte))
-          → o ≡ sets d 0 (laid v at (i + c .nibbles))
-      store-code d out o q r =
-          let x : count ≡ 0 + length (laid v at i) = omega (arith, p .long) in
-          stores d out o (laid v at i) (replicate (c .count) (c .byte)) 0 count q x r ∙ ap (sets d 0) (sym laid-code)
-
-  pub count-end : (count i : ℕ) → Parsed v at len count i → len ≤ i → count ≡ length (readText (take len (drop at v)))
-  count-end count i p k = p .long ∙ ap length (laid-all i (p .inside) k)
-
-  pub store-end : (count i : ℕ) (d out : List ℕ) → Parsed v at len count i → len ≤ i → length (readText (take len (drop at v))) ≤ length d
-      → out ≡ sets d 0 (laid v at i) → out ≡ over (readText (take len (drop at v))) d
-  store-end count i d out p k room e = stores-over d out (readText (take len (drop at v))) room (e ∙ ap (sets d 0) (laid-all i (p .inside) k))
-
--- it fits where nine bytes a nibble fit
-pub fits-all : (v : List ℕ) (at len room : ℕ) → 9 * len ≤ room → true ≡ leb (length (readText (take len (drop at v)))) room
-fits-all v at len room h =
-    sym (le-leb _ room (omega (arith, read-text-length (take len (drop at v)), length-take len (drop at v))))
+  pub left-odd : (at % 2 ≡ 0 → ⊥) → 0 < len → (q : ℕ) → q ≡ nextState 4 (getD s (at / 2) 0 % 16)
+      → Left (placeAfter 4 (take len (drop at (nibbles s)))) q (len - 1) (nibbles (drop (at / 2 + 1) s))
+  left-odd k m q e =
+      left-first _ 4 len q _ _ _ (middle k m) (left-body len (drop at (nibbles s)) (omega (arith, length-drop at (nibbles s)))) m e

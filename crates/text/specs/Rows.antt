@@ -1,9 +1,10 @@
--- The states of a reader of ship text as numbers, and the table of their steps.
-use Prim.Native.Nat.{ℕ, _*_, _/_, _%_, _^_}
+-- The states of a reader of ship text as numbers, and the tables of their steps.
+use Prim.Native.Nat.{ℕ, zero, suc, _+_, _*_, _/_, _%_, _^_, _<_}
+use mathlib.Core.Path.{_≡_}
 use mathlib.Core.Bool.{cond}
 use mathlib.Core.List.{List, [], _∷_}
 use lib.ListN.{getD}
-use lib.Dec.{eqb}
+use lib.Dec.{ltb, eqb}
 use Rattle.format.specs.declared.TextState.{TextState}
 use Rattle.format.specs.declared.TextState.the-variants.{Between, Run, Pair, Escape, Half, Invalid}
 
@@ -11,57 +12,75 @@ use Rattle.format.specs.declared.TextState.the-variants.{Between, Run, Pair, Es
 abbrev pub pairPlaces : List ℕ
 pairPlaces = 0 ∷ 0 ∷ 0 ∷ 0 ∷ 0 ∷ 0 ∷ 0 ∷ 0 ∷ 0 ∷ 0 ∷ 0 ∷ 0 ∷ 24 ∷ 28 ∷ 32 ∷ 0 ∷ []
 
--- after a 15 and a high half: 2, 3, 4, 5 and 7, of which some bytes have short codes, and the others
-abbrev pub halfPlaces : List ℕ
-halfPlaces = 60 ∷ 60 ∷ 40 ∷ 44 ∷ 48 ∷ 52 ∷ 60 ∷ 56 ∷ 60 ∷ 60 ∷ 60 ∷ 60 ∷ 60 ∷ 60 ∷ 60 ∷ 60 ∷ []
-
 -- where a state stands in a row, in bits. States that take the same nibbles share a place, and 0 is invalid
 unfoldable pub place : TextState → ℕ
 place (Between s) = cond (eqb s 0) 4 (cond (eqb (s % 18) 0) 8 (cond (eqb (s % 18) 1) 12 16))
 place (Run s) = cond (eqb (s % 18) 0) 20 0
 place (Pair s z) = getD pairPlaces z 0
-place (Escape s) = 36
-place (Half s h) = getD halfPlaces h 0
+place (Escape s) = 40
+place (Half s h) = cond (ltb h 16) 36 0
 place Invalid = 0
+
+-- ---- a nibble
 
 -- for each nibble a row: in digits of 16, from the lowest on, the state after the nibble from each state
 abbrev pub stateRows : List ℕ
 stateRows =
-    0x110100f011411110 ∷  -- 0
-    0x110001f111411110 ∷  -- 1
-    0x110001a111411110 ∷  -- 2
-    0x110001b111411110 ∷  -- 3
-    0x110001c111411110 ∷  -- 4
-    0x110001d111411110 ∷  -- 5
-    0x110000f111411110 ∷  -- 6
-    0x110001e111411110 ∷  -- 7
-    0x110001f111411110 ∷  -- 8
-    0x110001f111411110 ∷  -- 9
-    0x110011f011404330 ∷  -- 10
-    0x101010f001400550 ∷  -- 11
-    0x111011f000466660 ∷  -- 12
-    0x101010f000477770 ∷  -- 13
-    0x111011f000488880 ∷  -- 14
-    0x111010f000299990 ∷  -- 15
+    0x91011411110 ∷  -- 0
+    0x91111411110 ∷  -- 1
+    0x91111411110 ∷  -- 2
+    0x91111411110 ∷  -- 3
+    0x91111411110 ∷  -- 4
+    0x91111411110 ∷  -- 5
+    0x91111411110 ∷  -- 6
+    0x91111411110 ∷  -- 7
+    0x91111411110 ∷  -- 8
+    0x91111411110 ∷  -- 9
+    0x91011404330 ∷  -- 10
+    0x91001400550 ∷  -- 11
+    0x91000466660 ∷  -- 12
+    0x91000477770 ∷  -- 13
+    0x91000488880 ∷  -- 14
+    0x910002aaaa0 ∷  -- 15
     []
 
 -- the place after a nibble, from a place
 unfoldable pub nextState : ℕ → ℕ → ℕ
 nextState p n = getD stateRows n 0 * 4 / 2 ^ p / 4 % 16 * 4
 
--- for the low nibble of a pair a row: in digits of 256, from the lowest on, the bytes with the high nibbles 12, 13 and 14
-abbrev pub pairRows : List ℕ
-pairRows =
-    0x007d7b ∷  -- 0
-    0x2f4a41 ∷  -- 1
-    0x534b42 ∷  -- 2
-    0x544c43 ∷  -- 3
-    0x554d44 ∷  -- 4
-    0x564e45 ∷  -- 5
-    0x574f46 ∷  -- 6
-    0x585047 ∷  -- 7
-    0x595148 ∷  -- 8
-    0x5a5249 ∷  -- 9
-    0x002d26 ∷  -- 10
-    0x00002b ∷  -- 11
-    []
+-- the place after a row of nibbles
+unfoldable pub placeAfter : ℕ → List ℕ → ℕ
+placeAfter p [] = p
+placeAfter p (n ∷ ns) = placeAfter (nextState p n) ns
+
+-- ---- a byte
+
+-- the place after the two nibbles of a byte
+unfoldable pub byteNext : ℕ → ℕ → ℕ
+byteNext p b = nextState (nextState p (b / 16)) (b % 16)
+
+-- a place in a byte's row, whose digits have six bits
+abbrev pub six : ℕ → ℕ
+six p = p * 3 / 2
+
+-- a byte's row, over the first k places: the place after the byte, shifted by the place before it. After a 15 both nibbles are a byte,
+-- and what then comes is a low place, so that eleven of them fit into 64 bits
+unfoldable pub rowFrom : ℕ → ℕ → ℕ
+rowFrom zero b = 0
+rowFrom (suc k) b = six (byteNext (4 * k) b) * 2 ^ (6 * k) + rowFrom k b
+
+unfoldable pub byteRow : ℕ → ℕ
+byteRow b = rowFrom 11 b
+
+-- one of the eleven places
+pub record Placed (p : ℕ) : Type 0 where
+  pub low : p < 44
+  pub whole : p % 4 ≡ 0
+
+-- the place in the lowest six bits of a number
+abbrev pub held : ℕ → ℕ
+held w = w % 64 / 6 * 4
+
+pub record Holds (w : ℕ) : Type 0 where
+  pub low : w % 64 < 66
+  pub whole : w % 64 % 6 ≡ 0

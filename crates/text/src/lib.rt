@@ -1,41 +1,38 @@
-// The ship text of attachment 4: whether a body is valid, and the text of a valid one.
+// The ship text of attachment 4: whether a body is valid.
 ghost use mathlib.Core.Path.{_≡_};
-ghost use mathlib.Core.Bool.{true};
-ghost use Prim.Native.Nat.{_+_, _*_, _≤_, _<_, _^_};
-ghost use lib.Dec.{leb};
-ghost use lib.ListN.{length, getD, drop, replicate};
-ghost use lib.Seq.{sets};
-ghost use Rattle.format.specs.ShipText.{pairByte, textValid, readText};
-ghost use Rattle.format.specs.Calls.{over};
+ghost use Prim.Native.Nat.{_+_, _≤_, _<_, _^_};
+ghost use lib.Dec.{eqb};
+ghost use lib.ListN.{length, getD, take, drop};
+ghost use Rattle.format.specs.Nibbles.{nibbles};
+ghost use Rattle.format.specs.ShipText.{textValid};
 ghost use Rattle.nibble.specs.View.{view, part};
-ghost use Rattle.text.specs.Answers.{Writable, Shortest};
-ghost use Rattle.text.specs.Rows.{stateRows, nextState, pairRows};
-ghost use Rattle.text.specs.Codes.{code, codeAt, Begins};
+ghost use Rattle.text.specs.Answers.{Writable};
+ghost use Rattle.text.specs.Rows.{stateRows, nextState, byteRow, byteNext, placeAfter, Placed, held, Holds};
 use nibble::Cursor;
 
-// ---- whether a body is valid
+// ---- one nibble
 
-// For each of sixteen states, four bits: the state after a nibble.
+// For each state four bits: the state after a nibble.
 fn row(n: u8) -> u64
-    ensures { λ r. ⌜ (r ≡ getD stateRows n 0) × (r < 2 ^ 62) ⌝ }
+    ensures { λ r. ⌜ (r ≡ getD stateRows n 0) × (r < 2 ^ 44) ⌝ }
 {
     match n {
-        0 => 0x1101_00f0_1141_1110,
-        1 => 0x1100_01f1_1141_1110,
-        2 => 0x1100_01a1_1141_1110,
-        3 => 0x1100_01b1_1141_1110,
-        4 => 0x1100_01c1_1141_1110,
-        5 => 0x1100_01d1_1141_1110,
-        6 => 0x1100_00f1_1141_1110,
-        7 => 0x1100_01e1_1141_1110,
-        8 => 0x1100_01f1_1141_1110,
-        9 => 0x1100_01f1_1141_1110,
-        10 => 0x1100_11f0_1140_4330,
-        11 => 0x1010_10f0_0140_0550,
-        12 => 0x1110_11f0_0046_6660,
-        13 => 0x1010_10f0_0047_7770,
-        14 => 0x1110_11f0_0048_8880,
-        15 => 0x1110_10f0_0029_9990,
+        0 => 0x0910_1141_1110,
+        1 => 0x0911_1141_1110,
+        2 => 0x0911_1141_1110,
+        3 => 0x0911_1141_1110,
+        4 => 0x0911_1141_1110,
+        5 => 0x0911_1141_1110,
+        6 => 0x0911_1141_1110,
+        7 => 0x0911_1141_1110,
+        8 => 0x0911_1141_1110,
+        9 => 0x0911_1141_1110,
+        10 => 0x0910_1140_4330,
+        11 => 0x0910_0140_0550,
+        12 => 0x0910_0046_6660,
+        13 => 0x0910_0047_7770,
+        14 => 0x0910_0048_8880,
+        15 => 0x0910_002a_aaa0,
         _ => 0,
     }
 }
@@ -48,6 +45,331 @@ fn after(st: u64, n: u8) -> u64
     ((row(n) * 4) >> st) / 4 % 16 * 4
 }
 
+// ---- the two nibbles of a byte
+
+// For each state six bits: the place of the state after both nibbles.
+fn byte_row(b: u8) -> u64
+    ensures { λ r. ⌜ r ≡ byteRow b ⌝ }
+{
+    match b {
+        0 => 0x6180_1861_8618_6180,
+        1 => 0x6180_1861_8618_6180,
+        2 => 0x6180_1861_8618_6180,
+        3 => 0x6180_1861_8618_6180,
+        4 => 0x6180_1861_8618_6180,
+        5 => 0x6180_1861_8618_6180,
+        6 => 0x6180_1861_8618_6180,
+        7 => 0x6180_1861_8618_6180,
+        8 => 0x6180_1861_8618_6180,
+        9 => 0x6180_1861_8618_6180,
+        10 => 0x6480_4920_1249_2480,
+        11 => 0x6780_79e0_1e79_e780,
+        12 => 0x6900_9249_2492_4900,
+        13 => 0x6a80_aaaa_aaaa_aa80,
+        14 => 0x6c00_c30c_30c3_0c00,
+        15 => 0x6f00_f3cf_3cf3_cf00,
+        16 => 0x6186_1861_8618_6180,
+        17 => 0x6186_1861_8618_6180,
+        18 => 0x6186_1861_8618_6180,
+        19 => 0x6186_1861_8618_6180,
+        20 => 0x6186_1861_8618_6180,
+        21 => 0x6186_1861_8618_6180,
+        22 => 0x6186_1861_8618_6180,
+        23 => 0x6186_1861_8618_6180,
+        24 => 0x6186_1861_8618_6180,
+        25 => 0x6186_1861_8618_6180,
+        26 => 0x6492_4920_1249_2480,
+        27 => 0x679e_79e0_1e79_e780,
+        28 => 0x6924_9249_2492_4900,
+        29 => 0x6aaa_aaaa_aaaa_aa80,
+        30 => 0x6c30_c30c_30c3_0c00,
+        31 => 0x6f3c_f3cf_3cf3_cf00,
+        32 => 0x6186_1861_8618_6180,
+        33 => 0x6186_1861_8618_6180,
+        34 => 0x6186_1861_8618_6180,
+        35 => 0x6186_1861_8618_6180,
+        36 => 0x6186_1861_8618_6180,
+        37 => 0x6186_1861_8618_6180,
+        38 => 0x6186_1861_8618_6180,
+        39 => 0x6186_1861_8618_6180,
+        40 => 0x6186_1861_8618_6180,
+        41 => 0x6186_1861_8618_6180,
+        42 => 0x6492_4920_1249_2480,
+        43 => 0x679e_79e0_1e79_e780,
+        44 => 0x6924_9249_2492_4900,
+        45 => 0x6aaa_aaaa_aaaa_aa80,
+        46 => 0x6c30_c30c_30c3_0c00,
+        47 => 0x6f3c_f3cf_3cf3_cf00,
+        48 => 0x6186_1861_8618_6180,
+        49 => 0x6186_1861_8618_6180,
+        50 => 0x6186_1861_8618_6180,
+        51 => 0x6186_1861_8618_6180,
+        52 => 0x6186_1861_8618_6180,
+        53 => 0x6186_1861_8618_6180,
+        54 => 0x6186_1861_8618_6180,
+        55 => 0x6186_1861_8618_6180,
+        56 => 0x6186_1861_8618_6180,
+        57 => 0x6186_1861_8618_6180,
+        58 => 0x6492_4920_1249_2480,
+        59 => 0x679e_79e0_1e79_e780,
+        60 => 0x6924_9249_2492_4900,
+        61 => 0x6aaa_aaaa_aaaa_aa80,
+        62 => 0x6c30_c30c_30c3_0c00,
+        63 => 0x6f3c_f3cf_3cf3_cf00,
+        64 => 0x6186_1861_8618_6180,
+        65 => 0x6186_1861_8618_6180,
+        66 => 0x6186_1861_8618_6180,
+        67 => 0x6186_1861_8618_6180,
+        68 => 0x6186_1861_8618_6180,
+        69 => 0x6186_1861_8618_6180,
+        70 => 0x6186_1861_8618_6180,
+        71 => 0x6186_1861_8618_6180,
+        72 => 0x6186_1861_8618_6180,
+        73 => 0x6186_1861_8618_6180,
+        74 => 0x6492_4920_1249_2480,
+        75 => 0x679e_79e0_1e79_e780,
+        76 => 0x6924_9249_2492_4900,
+        77 => 0x6aaa_aaaa_aaaa_aa80,
+        78 => 0x6c30_c30c_30c3_0c00,
+        79 => 0x6f3c_f3cf_3cf3_cf00,
+        80 => 0x6186_1861_8618_6180,
+        81 => 0x6186_1861_8618_6180,
+        82 => 0x6186_1861_8618_6180,
+        83 => 0x6186_1861_8618_6180,
+        84 => 0x6186_1861_8618_6180,
+        85 => 0x6186_1861_8618_6180,
+        86 => 0x6186_1861_8618_6180,
+        87 => 0x6186_1861_8618_6180,
+        88 => 0x6186_1861_8618_6180,
+        89 => 0x6186_1861_8618_6180,
+        90 => 0x6492_4920_1249_2480,
+        91 => 0x679e_79e0_1e79_e780,
+        92 => 0x6924_9249_2492_4900,
+        93 => 0x6aaa_aaaa_aaaa_aa80,
+        94 => 0x6c30_c30c_30c3_0c00,
+        95 => 0x6f3c_f3cf_3cf3_cf00,
+        96 => 0x6186_1861_8618_6180,
+        97 => 0x6186_1861_8618_6180,
+        98 => 0x6186_1861_8618_6180,
+        99 => 0x6186_1861_8618_6180,
+        100 => 0x6186_1861_8618_6180,
+        101 => 0x6186_1861_8618_6180,
+        102 => 0x6186_1861_8618_6180,
+        103 => 0x6186_1861_8618_6180,
+        104 => 0x6186_1861_8618_6180,
+        105 => 0x6186_1861_8618_6180,
+        106 => 0x6492_4920_1249_2480,
+        107 => 0x679e_79e0_1e79_e780,
+        108 => 0x6924_9249_2492_4900,
+        109 => 0x6aaa_aaaa_aaaa_aa80,
+        110 => 0x6c30_c30c_30c3_0c00,
+        111 => 0x6f3c_f3cf_3cf3_cf00,
+        112 => 0x6186_1861_8618_6180,
+        113 => 0x6186_1861_8618_6180,
+        114 => 0x6186_1861_8618_6180,
+        115 => 0x6186_1861_8618_6180,
+        116 => 0x6186_1861_8618_6180,
+        117 => 0x6186_1861_8618_6180,
+        118 => 0x6186_1861_8618_6180,
+        119 => 0x6186_1861_8618_6180,
+        120 => 0x6186_1861_8618_6180,
+        121 => 0x6186_1861_8618_6180,
+        122 => 0x6492_4920_1249_2480,
+        123 => 0x679e_79e0_1e79_e780,
+        124 => 0x6924_9249_2492_4900,
+        125 => 0x6aaa_aaaa_aaaa_aa80,
+        126 => 0x6c30_c30c_30c3_0c00,
+        127 => 0x6f3c_f3cf_3cf3_cf00,
+        128 => 0x6186_1861_8618_6180,
+        129 => 0x6186_1861_8618_6180,
+        130 => 0x6186_1861_8618_6180,
+        131 => 0x6186_1861_8618_6180,
+        132 => 0x6186_1861_8618_6180,
+        133 => 0x6186_1861_8618_6180,
+        134 => 0x6186_1861_8618_6180,
+        135 => 0x6186_1861_8618_6180,
+        136 => 0x6186_1861_8618_6180,
+        137 => 0x6186_1861_8618_6180,
+        138 => 0x6492_4920_1249_2480,
+        139 => 0x679e_79e0_1e79_e780,
+        140 => 0x6924_9249_2492_4900,
+        141 => 0x6aaa_aaaa_aaaa_aa80,
+        142 => 0x6c30_c30c_30c3_0c00,
+        143 => 0x6f3c_f3cf_3cf3_cf00,
+        144 => 0x6186_1861_8618_6180,
+        145 => 0x6186_1861_8618_6180,
+        146 => 0x6186_1861_8618_6180,
+        147 => 0x6186_1861_8618_6180,
+        148 => 0x6186_1861_8618_6180,
+        149 => 0x6186_1861_8618_6180,
+        150 => 0x6186_1861_8618_6180,
+        151 => 0x6186_1861_8618_6180,
+        152 => 0x6186_1861_8618_6180,
+        153 => 0x6186_1861_8618_6180,
+        154 => 0x6492_4920_1249_2480,
+        155 => 0x679e_79e0_1e79_e780,
+        156 => 0x6924_9249_2492_4900,
+        157 => 0x6aaa_aaaa_aaaa_aa80,
+        158 => 0x6c30_c30c_30c3_0c00,
+        159 => 0x6f3c_f3cf_3cf3_cf00,
+        160 => 0x6180_1861_8018_6180,
+        161 => 0x6180_1861_8018_6180,
+        162 => 0x6180_1861_8018_6180,
+        163 => 0x6180_1861_8018_6180,
+        164 => 0x6180_1861_8018_6180,
+        165 => 0x6180_1861_8018_6180,
+        166 => 0x6180_1861_8018_6180,
+        167 => 0x6180_1861_8018_6180,
+        168 => 0x6180_1861_8018_6180,
+        169 => 0x6180_1861_8018_6180,
+        170 => 0x6480_4920_0001_8600,
+        171 => 0x6780_79e0_0000_0000,
+        172 => 0x6900_9249_0092_4900,
+        173 => 0x6a80_aaaa_80aa_aa80,
+        174 => 0x6c00_c30c_00c3_0c00,
+        175 => 0x6f00_f3cf_00f3_cf00,
+        176 => 0x6180_0061_8001_8600,
+        177 => 0x6180_0061_8001_8600,
+        178 => 0x6180_0061_8001_8600,
+        179 => 0x6180_0061_8001_8600,
+        180 => 0x6180_0061_8001_8600,
+        181 => 0x6180_0061_8001_8600,
+        182 => 0x6180_0061_8001_8600,
+        183 => 0x6180_0061_8001_8600,
+        184 => 0x6180_0061_8001_8600,
+        185 => 0x6180_0061_8001_8600,
+        186 => 0x6480_0120_0001_8600,
+        187 => 0x6780_01e0_0001_8600,
+        188 => 0x6900_0249_0001_8600,
+        189 => 0x6a80_02aa_8001_8600,
+        190 => 0x6c00_030c_0001_8600,
+        191 => 0x6f00_03cf_0000_c300,
+        192 => 0x6180_0001_8618_6180,
+        193 => 0x6180_0001_8618_6180,
+        194 => 0x6180_0001_8618_6180,
+        195 => 0x6180_0001_8618_6180,
+        196 => 0x6180_0001_8618_6180,
+        197 => 0x6180_0001_8618_6180,
+        198 => 0x6180_0001_8618_6180,
+        199 => 0x6180_0001_8618_6180,
+        200 => 0x6180_0001_8618_6180,
+        201 => 0x6180_0001_8618_6180,
+        202 => 0x6480_0000_0618_6180,
+        203 => 0x6780_0000_0618_6180,
+        204 => 0x6900_0009_0000_0000,
+        205 => 0x6a80_000a_8000_0000,
+        206 => 0x6c00_000c_0000_0000,
+        207 => 0x6f00_000f_0000_0000,
+        208 => 0x6180_0001_8618_6180,
+        209 => 0x6180_0001_8618_6180,
+        210 => 0x6180_0001_8618_6180,
+        211 => 0x6180_0001_8618_6180,
+        212 => 0x6180_0001_8618_6180,
+        213 => 0x6180_0001_8618_6180,
+        214 => 0x6180_0001_8618_6180,
+        215 => 0x6180_0001_8618_6180,
+        216 => 0x6180_0001_8618_6180,
+        217 => 0x6180_0001_8618_6180,
+        218 => 0x6480_0000_0618_6180,
+        219 => 0x6780_0000_0000_0000,
+        220 => 0x6900_0009_0000_0000,
+        221 => 0x6a80_000a_8000_0000,
+        222 => 0x6c00_000c_0000_0000,
+        223 => 0x6f00_000f_0000_0000,
+        224 => 0x6180_0001_8000_0000,
+        225 => 0x6180_0001_8618_6180,
+        226 => 0x6180_0001_8618_6180,
+        227 => 0x6180_0001_8618_6180,
+        228 => 0x6180_0001_8618_6180,
+        229 => 0x6180_0001_8618_6180,
+        230 => 0x6180_0001_8618_6180,
+        231 => 0x6180_0001_8618_6180,
+        232 => 0x6180_0001_8618_6180,
+        233 => 0x6180_0001_8618_6180,
+        234 => 0x6480_0000_0000_0000,
+        235 => 0x6780_0000_0000_0000,
+        236 => 0x6900_0009_0000_0000,
+        237 => 0x6a80_000a_8000_0000,
+        238 => 0x6c00_000c_0000_0000,
+        239 => 0x6f00_000f_0000_0000,
+        240 => 0x6180_0001_b6db_6d80,
+        241 => 0x6180_0001_b6db_6d80,
+        242 => 0x6180_0001_b6db_6d80,
+        243 => 0x6180_0001_b6db_6d80,
+        244 => 0x6180_0001_b6db_6d80,
+        245 => 0x6180_0001_b6db_6d80,
+        246 => 0x6180_0001_b6db_6d80,
+        247 => 0x6180_0001_b6db_6d80,
+        248 => 0x6180_0001_b6db_6d80,
+        249 => 0x6180_0001_b6db_6d80,
+        250 => 0x6480_0004_b6db_6d80,
+        251 => 0x6780_0007_b6db_6d80,
+        252 => 0x6900_0009_36db_6d80,
+        253 => 0x6a80_000a_b6db_6d80,
+        254 => 0x6c00_000c_36db_6d80,
+        _ => 0x6f00_000f_36db_6d80,
+    }
+}
+
+// The state after both nibbles. Its place is held in the lowest six bits, which are all that the shift of the next byte looks at.
+fn after_byte(st: u64, b: u8) -> u64
+    requires { ⌜ Holds st ⌝ }
+    ensures { λ r. ⌜ Holds r × (held r ≡ byteNext (held st) b) ⌝ }
+{
+    byte_row(b) >> (st % 64)
+}
+
+// ---- bodies
+
+// Whether a body is valid whose last n nibbles begin with a byte, by the state before them.
+fn valid_from(s: &[u8], from: usize, n: usize, state: u64) -> bool
+    requires { ⌜ (n ≤ length (nibbles (drop from (now s)))) × Placed state ⌝ }
+    ensures { λ r. ⌜ r ≡ eqb (placeAfter state (take n (nibbles (drop from (now (s .entry)))))) 4 ⌝ }
+{
+    let mut st = state / 4 * 6;
+    let mut i = from;
+    let mut left = n;
+    while 1 < left {
+        st = after_byte(st, s[i]);
+        i += 1;
+        left -= 2;
+    }
+    if left == 0 {
+        return st % 64 == 6;
+    }
+    after(st % 64 / 6 * 4, s[i] / 16) == 4
+}
+
+// Two nibbles a byte. A body may begin in the middle of a byte, with its low half.
+fn valid_packed(s: &[u8], at: usize, len: usize) -> bool
+    requires { ⌜ at + len ≤ length (nibbles (now s)) ⌝ }
+    ensures { λ r. ⌜ r ≡ textValid (take len (drop at (nibbles (now (s .entry))))) ⌝ }
+{
+    if at % 2 == 0 {
+        return valid_from(s, at / 2, len, 4);
+    }
+    if len == 0 {
+        return true;
+    }
+    valid_from(s, at / 2 + 1, len - 1, after(4, s[at / 2] % 16))
+}
+
+// One nibble a byte.
+fn valid_spread(s: &[u8], at: usize, len: usize) -> bool
+    requires { ⌜ at + len ≤ length (now s) ⌝ }
+    ensures { λ r. ⌜ r ≡ textValid (take len (drop at (now (s .entry)))) ⌝ }
+{
+    let mut st = 4;
+    let mut i = at;
+    let mut left = len;
+    while 0 < left {
+        st = after(st, s[i]);
+        i += 1;
+        left -= 1;
+    }
+    st == 4
+}
+
 // Whether the writer gives these nibbles for some text.
 pub fn valid(s: &[u8], c: Cursor, len: usize) -> bool
     requires { ⌜ (c .at + len ≤ length (view (c .packed) (now s))) × (c .at ≤ 2 ^ 32) × (len ≤ 4096) ⌝ }
@@ -55,155 +377,8 @@ pub fn valid(s: &[u8], c: Cursor, len: usize) -> bool
 {
     let at = c.at;
     let packed = c.packed;
-    let mut st = 4;
-    let mut i = 0;
-    while i + 1 < len {
-        let m = nibble::nibble_at(s, at + i, packed);
-        let n = nibble::nibble_at(s, at + i + 1, packed);
-        st = after(after(st, m), n);
-        i += 2;
+    if packed {
+        return valid_packed(s, at, len);
     }
-    if i < len {
-        let n = nibble::nibble_at(s, at + i, packed);
-        return after(st, n) == 4;
-    }
-    st == 4
-}
-
-// ---- a code
-
-// For a pair's low nibble, eight bits for each high one from 12 on: the pair's byte.
-fn pairs(n: u8) -> u64
-    ensures { λ r. ⌜ r ≡ getD pairRows n 0 ⌝ }
-{
-    match n {
-        0 => 0x00_7d_7b,
-        1 => 0x2f_4a_41,
-        2 => 0x53_4b_42,
-        3 => 0x54_4c_43,
-        4 => 0x55_4d_44,
-        5 => 0x56_4e_45,
-        6 => 0x57_4f_46,
-        7 => 0x58_50_47,
-        8 => 0x59_51_48,
-        9 => 0x5a_52_49,
-        10 => 0x00_2d_26,
-        11 => 0x00_00_2b,
-        _ => 0,
-    }
-}
-
-// The byte of a pair, 0 where the pair is undefined.
-fn pair_byte(z: u8, n: u8) -> u8
-    requires { ⌜ (12 ≤ z) × (z ≤ 14) ⌝ }
-    ensures { λ r. ⌜ r ≡ pairByte z n ⌝ }
-{
-    let shift = (z - 12) as u64 * 8;
-    ((pairs(n) >> shift) % 256) as u8
-}
-
-// How many nibbles, and the bytes that they stand for: so many times one byte.
-struct Code {
-    nibbles: usize,
-    count: usize,
-    byte: u8,
-}
-
-fn coded(nibbles: usize, count: usize, byte: u8) -> Code
-    ensures { λ r. ⌜ r ≡ code nibbles count byte ⌝ }
-{
-    Code {
-        nibbles,
-        count,
-        byte,
-    }
-}
-
-// The code at a place.
-fn code_at(s: &[u8], at: usize, packed: bool) -> Code
-    requires { ⌜ Begins (drop at (view packed (now s))) × (at ≤ 2 ^ 33) ⌝ }
-    ensures { λ r. ⌜ r ≡ codeAt (drop at (view packed (now (s .entry)))) ⌝ }
-{
-    let n = nibble::nibble_at(s, at, packed);
-    if n < 10 {
-        return coded(1, 1, 48 + n);
-    }
-    if n == 10 {
-        return coded(1, 1, 32);
-    }
-    let m = nibble::nibble_at(s, at + 1, packed);
-    if n == 11 {
-        return coded(2, m as usize + 3, 32);
-    }
-    if n < 15 {
-        return coded(2, 1, pair_byte(n, m));
-    }
-    let l = nibble::nibble_at(s, at + 2, packed);
-    coded(3, 1, m * 16 + l)
-}
-
-// ---- the text of a valid body
-
-// The length of the text.
-fn text_length(s: &[u8], c: Cursor, len: usize) -> usize
-    requires { ⌜ (c .at + len ≤ length (view (c .packed) (now s))) × (c .at ≤ 2 ^ 32) × (len ≤ 4096) × (textValid (part (now s) c len) ≡ true) ⌝ }
-    ensures { λ r. ⌜ r ≡ length (readText (part (now (s .entry)) c len)) ⌝ }
-{
-    let at = c.at;
-    let packed = c.packed;
-    let mut count = 0;
-    let mut i = 0;
-    while i < len {
-        let k = code_at(s, at + i, packed);
-        count += k.count;
-        i += k.nibbles;
-    }
-    count
-}
-
-// Whether the text fits in so many bytes. Two nibbles give 18 bytes at most.
-pub fn fits(s: &[u8], c: Cursor, len: usize, room: usize) -> bool
-    requires { ⌜ (c .at + len ≤ length (view (c .packed) (now s))) × (c .at ≤ 2 ^ 32) × (len ≤ 4096) × (textValid (part (now s) c len) ≡ true) ⌝ }
-    ensures { λ r. ⌜ r ≡ leb (length (readText (part (now (s .entry)) c len))) room ⌝ }
-{
-    if 9 * len <= room {
-        return true;
-    }
-    text_length(s, c, len) <= room
-}
-
-// Writes a byte so many times, from a place on.
-fn put_bytes(out: &mut [u8], at: usize, count: usize, b: u8)
-    requires { ⌜ at + count ≤ length (now out) ⌝ }
-    ensures { λ _. ⌜ now (out .exit) ≡ sets (now (out .entry)) at (replicate count b) ⌝ }
-{
-    if count == 1 {
-        out[at] = b;
-        return;
-    }
-    let mut i = 0;
-    while i < count {
-        out[at + i] = b;
-        i += 1;
-    }
-}
-
-// Writes the text, and gives its length.
-pub fn read(s: &[u8], c: Cursor, len: usize, out: &mut [u8]) -> usize
-    requires { ⌜ (c .at + len ≤ length (view (c .packed) (now s))) × (c .at ≤ 2 ^ 32) × (len ≤ 4096)
-        × (length (readText (part (now s) c len)) ≤ length (now out)) × (textValid (part (now s) c len) ≡ true) ⌝ }
-    ensures { λ r. ⌜ (now (out .exit) ≡ over (readText (part (now (s .entry)) c len)) (now (out .entry))) × (r ≡ length (readText (part (now (s .entry)) c len)))
-        × Shortest (readText (part (now (s .entry)) c len)) (part (now (s .entry)) c len) ⌝ }
-{
-    let at = c.at;
-    let packed = c.packed;
-    let mut count = 0;
-    let mut i = 0;
-    while i < len {
-        let k = code_at(s, at + i, packed);
-        put_bytes(out, count, k.count, k.byte);
-        count += k.count;
-        i += k.nibbles;
-    }
-    count
+    valid_spread(s, at, len)
 }

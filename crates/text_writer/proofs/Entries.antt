@@ -1,15 +1,16 @@
--- The stores of an entry's nibbles: w / 4096 nibbles, of the value w % 4096.
+-- The entry of a symbol, and the stores of its nibbles: w / 4096 nibbles, of the value w % 4096.
 -- Assumes nothing.
 use Prim.Native.Nat.{ℕ, _+_, _-_, _*_, _/_, _%_, _≤_, _<_}
 use native.Mathlib.Omega.{arith}
-use mathlib.Core.Path.{_≡_, ap, ap₂, _∙_}
+use mathlib.Core.Path.{_≡_, refl, ap, ap₂, _∙_}
 use mathlib.Core.List.{List}
-use lib.ListN.{length, set}
+use lib.ListN.{length, getD, set}
 use lib.Seq.{sets, set-set}
 use lib.Arith.{digits-mod}
 use lib.Dec.{ltb}
-use borrow.Author.Tests.{ltb-true, ltb-false}
-use Rattle.format.specs.ShipText.{codeNibbles}
+use borrow.Author.Tests.{ltb-true, ltb-false, ne-eqb}
+use Rattle.format.specs.ShipText.{codeNibbles, symbolOf}
+use Rattle.characters.specs.Table.{Formed, nibblesBy}
 use Rattle.laws.proofs.Sequences.{test-case}
 use Rattle.laws.proofs.Stores.{store-one, store-two, store-three, code-one, code-two, code-three}
 
@@ -67,3 +68,20 @@ module _ (w : ℕ) (h : w / 4096 ≡ length (codeNibbles (w % 4096))) where
             store-three d at (codeNibbles (w % 4096)) o p q (w % 4096 / 256) (w % 4096 / 16 % 16) (w % 4096 % 16) (code-three (w % 4096) l)
             (f ∙ ap (set d at) first) (g ∙ ap (set o (at + 1)) middle) (j ∙ ap (set p (at + 2)) (omega arith))
       ]
+
+-- ---- the entry of a symbol
+
+pub entry-plain : (t : List ℕ) (b o : ℕ) → Formed t → b < 256 → o ≡ 0
+    → (getD t b 0 / 4096 ≡ length (codeNibbles (getD t b 0 % 4096))) × (codeNibbles (getD t b 0 % 4096) ≡ nibblesBy t (symbolOf b o))
+unfolding symbolOf
+entry-plain t b o f h e = rw e (f .count b h, refl)
+
+pub entry-original : (t : List ℕ) (b o : ℕ) → b < 256 → (o ≡ 0 → ⊥)
+    → ((0x3f00 + b) / 4096 ≡ length (codeNibbles ((0x3f00 + b) % 4096))) × (codeNibbles ((0x3f00 + b) % 4096) ≡ nibblesBy t (symbolOf b o))
+unfolding symbolOf
+entry-original t b o h n =
+    let v : (0x3f00 + b) % 4096 ≡ 3840 + b = omega arith in
+    let i : (3840 + b) / 256 ≡ 15 = omega arith in
+    let j : (3840 + b) / 16 % 16 ≡ b / 16 = omega arith in
+    let k : (3840 + b) % 16 ≡ b % 16 = omega arith in
+    rw (v, code-three (3840 + b) (omega arith), i, j, k, ne-eqb o 0 n) (omega arith, refl)

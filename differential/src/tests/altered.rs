@@ -2,7 +2,7 @@
 
 use std::cell::Cell;
 
-use crate::library::{Answer, Flags, Library, Performed};
+use crate::library::{Answer, Flags, Library, Performed, Reader};
 use crate::stand_in::{self, STAND_IN};
 
 pub type Change = fn(&mut Flags);
@@ -41,6 +41,7 @@ pub fn libraries() -> Vec<(&'static str, Library)> {
         ("drop", Library { drop, ..own }),
         ("put text", Library { put_text, ..own }),
         ("fetch text", Library { fetch_text, ..own }),
+        ("read out", Library { open_text, ..own }),
         ("replay", Library { replay, ..own }),
     ]
 }
@@ -169,19 +170,38 @@ unsafe extern "C" fn put_text(
     n: usize,
     text: *const u8,
     text_n: usize,
+    origins: *const u8,
+    origins_n: usize,
     flags: *const Flags,
 ) -> Answer {
-    unsafe { stand_in::put_text(report, n, text, text_n, &altered(flags)) }
+    unsafe {
+        let flags = altered(flags);
+        stand_in::put_text(report, n, text, text_n, origins, origins_n, &flags)
+    }
 }
 
 unsafe extern "C" fn fetch_text(
     report: *const u8,
     n: usize,
-    out: *mut u8,
-    out_n: usize,
+    text: *mut u8,
+    text_n: usize,
+    origins: *mut u8,
+    origins_n: usize,
     flags: *const Flags,
 ) -> Answer {
-    unsafe { stand_in::fetch_text(report, n, out, out_n, &altered(flags)) }
+    unsafe {
+        let flags = altered(flags);
+        stand_in::fetch_text(report, n, text, text_n, origins, origins_n, &flags)
+    }
+}
+
+unsafe extern "C" fn open_text(
+    report: *const u8,
+    n: usize,
+    reader: *mut Reader,
+    flags: *const Flags,
+) -> Answer {
+    unsafe { stand_in::open_text(report, n, reader, &altered(flags)) }
 }
 
 unsafe extern "C" fn replay(

@@ -36,7 +36,8 @@ fn name(given: &Given) -> &'static str {
         Given::Whole(Case::Judge { .. }) => "judge",
         Given::Whole(Case::Unpack { .. }) => "unpack",
         Given::Whole(Case::Pack { .. }) => "pack",
-        Given::Whole(_) | Given::AllFlags | Given::List { .. } => "",
+        Given::Whole(Case::ReadOut { .. }) => "read out",
+        Given::Whole(_) | Given::AllFlags | Given::Forged { .. } | Given::List { .. } => "",
         Given::Script { .. } => "replay",
         Given::Call { call, .. } => match call {
             Call::ReadField { .. } => "read field",
@@ -640,6 +641,7 @@ fn refusals_by_the_table_are_counted() {
             "drop                0        -        -",
             "put text            0        -        -",
             "fetch text          0        -        -",
+            "read out            0        -        -",
         ]
     );
     let unseen = tally.unseen();
@@ -660,7 +662,7 @@ fn refusals_by_the_table_are_counted() {
 fn a_table_never_met_fails_a_whole_run() {
     let mut tally = Tally::default();
     let mut harness = Harness::new(STAND_IN);
-    for trial in (0..6000).flat_map(|case| trials(SEED, case)) {
+    for trial in (0..CASES).flat_map(|case| trials(SEED, case)) {
         if !matches!(trial.given, Given::Whole(Case::Load { .. })) {
             let plain = trial.given.under(FlagTable::all());
             assert!(compare(&mut harness, &mut tally, &plain).is_none());
@@ -686,6 +688,7 @@ fn a_table_never_met_fails_a_whole_run() {
         "drop",
         "put text",
         "fetch text",
+        "read out",
     ];
     for name in judging {
         due.push(format!("{name}, refusal 6 by the table of flags"));

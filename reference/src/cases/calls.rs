@@ -8,7 +8,7 @@ use crate::call::Call;
 use crate::flags;
 use crate::observation::Observation;
 use crate::table::{Scaled, fields};
-use crate::text;
+use crate::text::{self, Symbol};
 
 /// Numbers of fields, flags and ids that would pass if they were cut short.
 pub const WIDE_NUMBERS: [u64; 11] = [
@@ -48,9 +48,6 @@ fn list(observation: &Observation, length: usize, calls: Vec<Call>) -> Case {
 
 /// The chain of docs/FORMAT.md, section 12.
 fn examples() -> Vec<Case> {
-    let put_text = |text: &[u8]| Call::PutText {
-        text: text.to_vec(),
-    };
     let set = |field, value| Call::SetField { field, value };
     vec![
         list(
@@ -58,7 +55,7 @@ fn examples() -> Vec<Case> {
             60,
             vec![
                 set(31, 286),
-                put_text(b"A1"),
+                put_text(&symbols_of(b"A1")),
                 set(31, -1000),
                 set(31, -999),
                 set(28, 0),
@@ -69,9 +66,7 @@ fn examples() -> Vec<Case> {
                     id: 4,
                     content: vec![10, 10, 10, 1],
                 },
-                Call::FetchText {
-                    output: vec![0xEE; 4],
-                },
+                fetch_text(4),
             ],
         ),
         list(
@@ -262,8 +257,8 @@ fn fitting_outputs() -> Vec<Case> {
     for (id, nibbles, text_length) in [
         (5, vec![3], 0_usize),
         (5, vec![3; 255], 0),
-        (4, text::write(&[b'1'; 40]), 40),
-        (4, text::write(&[b'a'; 85]), 85),
+        (4, text::write(&symbols_of(&[b'1'; 40])), 40),
+        (4, text::write(&[Symbol::original(b'a'); 85]), 85),
         (4, vec![11, 15, 11, 15, 1], 37),
     ] {
         let observation = observation_with(&[(id, &nibbles)]);
@@ -280,9 +275,7 @@ fn fitting_outputs() -> Vec<Case> {
             text_length,
             text_length + 3,
         ] {
-            calls.push(Call::FetchText {
-                output: vec![0xEE; length],
-            });
+            calls.push(fetch_text(length));
         }
         cases.push(list(&observation, observation.size(), calls));
     }
@@ -294,22 +287,25 @@ fn text_lists() -> Vec<Case> {
     let mut cases = Vec::new();
     for text in texts() {
         let calls = vec![
-            Call::PutText { text: text.clone() },
+            put_text(&text),
             Call::Fetch {
                 id: 4,
                 output: vec![0xEE; 256],
             },
-            Call::FetchText {
-                output: vec![0xEE; text.len() + 1],
-            },
+            fetch_text(text.len() + 1),
         ];
         cases.push(list(&observation_with(&[(6, &[1])]), 180, calls));
     }
     cases
 }
 
-/// Single bytes, runs of 0 to 40 spaces, trailing spaces and the longest.
-pub fn texts() -> Vec<Vec<u8>> {
+/// Single bytes, runs of 0 to 40 spaces, trailing spaces and the longest. Bytes
+/// without a short code are original symbols.
+pub fn texts() -> Vec<Vec<Symbol>> {
+    byte_texts().iter().map(|text| symbols_of(text)).collect()
+}
+
+fn byte_texts() -> Vec<Vec<u8>> {
     let mut texts: Vec<Vec<u8>> = (0..=255).map(|byte| vec![byte]).collect();
     for spaces in 0..=40 {
         let run = vec![b' '; spaces];
@@ -347,9 +343,7 @@ fn drop_lists() -> Vec<Case> {
                 id: 12,
                 content: vec![4],
             },
-            Call::PutText {
-                text: b"LONGER TEXT".to_vec(),
-            },
+            put_text(&symbols_of(b"LONGER TEXT")),
             Call::Drop { id: 4 },
             Call::Drop { id: 12 },
             Call::Drop { id: 3 },
@@ -383,8 +377,8 @@ fn refused_reports() -> Vec<Case> {
                     output: vec![0xEE; 3],
                 },
                 Call::Drop { id: 5 },
-                Call::PutText { text: Vec::new() },
-                Call::FetchText { output: Vec::new() },
+                put_text(&[]),
+                fetch_text(0),
             ],
         });
     }

@@ -10,7 +10,7 @@ use crate::observation::Observation;
 use crate::table::FIELDS;
 
 /// The value A.
-const A: u8 = 2;
+pub const A: u8 = 2;
 
 /// Ends with every flag permitted.
 pub fn cases() -> Vec<Case> {
@@ -32,7 +32,7 @@ pub fn load(table: &FlagTable) -> Case {
 }
 
 /// The table that forbids one value of one flag.
-fn without(flag: usize, value: u8) -> FlagTable {
+pub fn without(flag: usize, value: u8) -> FlagTable {
     let mut table = FlagTable::all();
     table.mark(flag, value, NO);
     table
@@ -53,14 +53,14 @@ fn diagonal() -> FlagTable {
 }
 
 /// The flags of which one has a value and the others are missing.
-fn one_flag(flag: usize, value: u8) -> Vec<u8> {
+pub fn one_flag(flag: usize, value: u8) -> Vec<u8> {
     let mut flags = vec![0; FLAGS];
     flags[flag - 1] = value;
     flags
 }
 
 /// The flags as the second of three attachments.
-fn held(flags: &[u8]) -> Observation {
+pub fn held(flags: &[u8]) -> Observation {
     observation_with(&[(9, &[3]), (flags::ID, &flags::body_of(flags)), (4, &[7])])
 }
 
@@ -369,12 +369,8 @@ fn each_call() -> Vec<Call> {
             output: vec![0xEE; 2],
         },
         Call::Drop { id: 1 },
-        Call::PutText {
-            text: b"A".to_vec(),
-        },
-        Call::FetchText {
-            output: vec![0xEE; 2],
-        },
+        put_text(&symbols_of(b"A")),
+        fetch_text(2),
     ]
 }
 

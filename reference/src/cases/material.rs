@@ -2,13 +2,14 @@
 
 use crate::attachment::{Attachment, with_header};
 use crate::bits::bytes_of_nibbles;
+use crate::call::Call;
 use crate::card::{Card, checksum};
 use crate::flag_table::{FlagTable, NO, VALUES, YES};
 use crate::flags::{self, FLAGS};
 use crate::observation::Observation;
 use crate::prng::Prng;
 use crate::table::{Coded, FIELDS, Scaled, fields};
-use crate::text;
+use crate::text::{self, Symbol};
 
 /// A report put together freely, sound or not.
 #[derive(Clone, Debug)]
@@ -102,7 +103,7 @@ pub fn largest_observation() -> Observation {
     for id in 1..=15 {
         let nibbles = match id {
             flags::ID => flags::body_of(&[10; 14]),
-            text::ID => text::write(&[b'a'; 85]),
+            text::ID => text::write(&[Symbol::original(b'a'); 85]),
             _ => vec![id; 255],
         };
         observation.attachments.push(Attachment::new(id, nibbles));
@@ -175,19 +176,19 @@ pub fn bad_text_bodies() -> Vec<Vec<u8>> {
         &[14, 15],
         &[15],
         &[15, 6],
-        &[15, 2, 0],
-        &[15, 3, 0],
-        &[15, 4, 1],
-        &[15, 7, 11],
-        &[15, 7, 13],
-        &[15, 2, 15],
+        &[15, 2, 0, 10],
+        &[15, 2, 0, 11, 0],
+        &[15, 2, 0, 10, 10, 10, 1],
+        &[11, 14, 10, 15, 2, 0],
+        &[10, 10, 15, 2],
+        &[15, 4, 1, 15, 4],
     ];
     bodies.iter().map(|body| body.to_vec()).collect()
 }
 
 /// Bodies that id 4 takes, near the refused ones.
 pub fn good_text_bodies() -> Vec<Vec<u8>> {
-    let bodies: [&[u8]; 18] = [
+    let bodies: [&[u8]; 31] = [
         &[0],
         &[10, 1],
         &[10, 10, 1],
@@ -206,6 +207,19 @@ pub fn good_text_bodies() -> Vec<Vec<u8>> {
         &[15, 0, 0],
         &[15, 15, 15],
         &[15, 6, 1, 10, 15, 6, 1],
+        &[15, 2, 0],
+        &[15, 3, 0],
+        &[15, 4, 1],
+        &[15, 7, 11],
+        &[15, 7, 13],
+        &[15, 2, 15],
+        &[10, 15, 2, 0],
+        &[15, 2, 0, 10, 1],
+        &[10, 10, 15, 2, 0, 10, 1],
+        &[11, 15, 15, 2, 0, 11, 15, 15, 2, 0],
+        &[15, 2, 0, 15, 2, 0],
+        &[15, 4, 1, 12, 1, 15, 4, 1],
+        &[15, 15, 15, 11, 0, 15, 15, 11],
     ];
     bodies.iter().map(|body| body.to_vec()).collect()
 }
@@ -263,19 +277,90 @@ pub fn forbid_flag(prng: &mut Prng, table: &FlagTable, flags: &mut [u8]) {
     }
 }
 
-/// A text of runs of spaces, digits, letters, marks and escapes.
-pub fn random_text(prng: &mut Prng, pieces: usize) -> Vec<u8> {
+/// The symbols of bytes: plain where there is a short code, else original.
+pub fn symbols_of(bytes: &[u8]) -> Vec<Symbol> {
+    let symbol = |&byte| Symbol::plain(byte).unwrap_or(Symbol::original(byte));
+    bytes.iter().map(symbol).collect()
+}
+
+/// Each byte as an original symbol, and as a plain one where it has a short code.
+pub fn all_symbols() -> Vec<Symbol> {
+    let symbols = |byte| [Some(Symbol::original(byte)), Symbol::plain(byte)];
+    (0..=255).flat_map(symbols).flatten().collect()
+}
+
+pub fn put_text(text: &[Symbol]) -> Call {
+    put_bytes(&text::bytes(text), &text::origins(text))
+}
+
+/// Bytes put with their origins, whether or not they are symbols.
+pub fn put_bytes(text: &[u8], origins: &[u8]) -> Call {
+    Call::PutText {
+        text: text.to_vec(),
+        origins: origins.to_vec(),
+    }
+}
+
+/// A fetch of a text to two outputs of a length.
+pub fn fetch_text(room: usize) -> Call {
+    fetch_text_to(room, room)
+}
+
+pub fn fetch_text_to(text: usize, origins: usize) -> Call {
+    Call::FetchText {
+        text: vec![0xEE; text],
+        origins: vec![0xDD; origins],
+    }
+}
+
+/// A text of runs of spaces, digits, letters, marks and original symbols of any byte.
+pub fn random_text(prng: &mut Prng, pieces: usize) -> Vec<Symbol> {
     let mut text = Vec::new();
     for _ in 0..pieces {
         match prng.below(5) {
-            0 => text.extend(vec![b' '; prng.below(41)]),
-            1 => text.push(b'0' + prng.below(10) as u8),
-            2 => text.push(b'A' + prng.below(26) as u8),
-            3 => text.push(prng.pick(b"/&+-{}")),
-            _ => text.push(prng.next_u64() as u8),
+            0 => text.extend(vec![Symbol::SPACE; prng.below(41)]),
+            1 => text.extend(Symbol::plain(b'0' + prng.below(10) as u8)),
+            2 => text.extend(Symbol::plain(b'A' + prng.below(26) as u8)),
+            3 => text.extend(Symbol::plain(prng.pick(b"/&+-{}"))),
+            _ => text.push(Symbol::original(prng.next_u64() as u8)),
         }
     }
     text
+}
+
+/// Damages a text that is put: in a symbol, in the two lengths, or in both.
+pub fn damage_text(prng: &mut Prng, text: &mut Vec<u8>, origins: &mut Vec<u8>) {
+    let (symbol, lengths) = prng.pick(&[(true, false), (false, true), (true, true)]);
+    if symbol {
+        damage_symbol(prng, text, origins);
+    }
+    if lengths {
+        let row = if prng.one_in(2) { text } else { origins };
+        if prng.one_in(2) {
+            row.push(prng.pick(&[0, 1, b' ', b'7']));
+        } else {
+            row.pop();
+        }
+    }
+}
+
+/// A plain byte without a short code or an origin over 1, behind the text or in it.
+fn damage_symbol(prng: &mut Prng, text: &mut Vec<u8>, origins: &mut Vec<u8>) {
+    if text.is_empty() || prng.one_in(2) {
+        text.push(b'7');
+        origins.push(text::PLAIN);
+    }
+    let last = text.len() - 1;
+    let any = prng.below(text.len());
+    let place = prng.pick(&[last, any]);
+    if prng.one_in(2) {
+        let over = 2 + prng.below(254) as u8;
+        origins[place] = prng.pick(&[2, 3, 128, 255, over]);
+    } else {
+        let bytes = (0..=255).filter(|&byte| Symbol::plain(byte).is_none());
+        let bytes: Vec<u8> = bytes.collect();
+        (text[place], origins[place]) = (prng.pick(&bytes), text::PLAIN);
+    }
 }
 
 /// A valid body for an id; a text that comes to nothing is replaced by "0".

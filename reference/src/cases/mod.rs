@@ -8,12 +8,15 @@ pub mod outside;
 pub mod pairs;
 pub mod random;
 pub mod reports;
+pub mod symbols;
 
 use crate::call::{Answer, Call};
+use crate::edit::Fetched;
 use crate::flag_table::FlagTable;
 use crate::judge::{Report, judge};
 use crate::lister;
 use crate::outside::{Unpacked, characters, fresh, pack, same, unpack};
+use crate::reader::read_out;
 use crate::refusal::Refusal;
 use crate::text::Table;
 use crate::trips::{recover, restore};
@@ -69,6 +72,13 @@ pub enum Case {
     Load {
         marks: Vec<u8>,
     },
+    /// A text read out symbol by symbol, its bytes to one output and its origins to
+    /// another.
+    ReadOut {
+        report: Vec<u8>,
+        text: Vec<u8>,
+        origins: Vec<u8>,
+    },
     /// A list of calls on one buffer.
     Calls {
         buffer: Vec<u8>,
@@ -112,6 +122,11 @@ pub enum Outcome {
     Load {
         result: Result<(), Refusal>,
         table: FlagTable,
+    },
+    ReadOut {
+        result: Result<Fetched, Refusal>,
+        text: Vec<u8>,
+        origins: Vec<u8>,
     },
     /// For each call its answer and the buffer after it.
     Calls(Vec<(Answer, Vec<u8>)>),
@@ -207,6 +222,19 @@ impl Case {
                 let table = *flags;
                 Outcome::Load { result, table }
             }
+            Case::ReadOut {
+                report,
+                text,
+                origins,
+            } => {
+                let (mut text, mut origins) = (text.clone(), origins.clone());
+                let result = read_out(report, &mut text, &mut origins, flags);
+                Outcome::ReadOut {
+                    result,
+                    text,
+                    origins,
+                }
+            }
             Case::Calls { buffer, calls } => {
                 let mut buffer = buffer.clone();
                 let mut answers = Vec::new();
@@ -231,5 +259,6 @@ pub fn fixed() -> Vec<Case> {
     }
     cases.extend(characters::cases());
     cases.extend(flag_tables::cases());
+    cases.extend(symbols::cases());
     cases
 }

@@ -2,6 +2,7 @@
 
 use super::Case;
 use super::material::*;
+use super::symbols::read_out;
 use crate::attachment::with_header;
 use crate::call::Call;
 use crate::flags;
@@ -25,6 +26,7 @@ pub fn pairs() -> Vec<Pair> {
     pairs.extend(caller_pairs());
     pairs.extend(pack_pairs());
     pairs.extend(fresh_pairs());
+    pairs.extend(read_out_pairs());
     pairs
 }
 
@@ -305,12 +307,6 @@ fn fetch_nothing(id: u64) -> Call {
     }
 }
 
-fn put_text(text: &[u8]) -> Call {
-    Call::PutText {
-        text: text.to_vec(),
-    }
-}
-
 /// Calls refused on the full buffer of a report that has attachment 2 alone.
 fn refused_calls() -> Vec<(Refusal, Call)> {
     let read_flag = |flag| Call::ReadFlag { flag };
@@ -337,14 +333,17 @@ fn refused_calls() -> Vec<(Refusal, Call)> {
         (refusal(11, 0), clear_flag(1)),
         (refusal(11, 0), fetch_nothing(5)),
         (refusal(11, 0), drop(5)),
-        (refusal(11, 0), Call::FetchText { output: Vec::new() }),
+        (refusal(11, 0), fetch_text(0)),
         (refusal(12, 0), put(5, &[])),
-        (refusal(12, 0), put_text(b" ")),
+        (refusal(12, 0), put_bytes(b" ", &[0])),
         (refusal(14, 0), put(5, &[16])),
         (refusal(14, 0), put(4, &[10])),
         (refusal(13, 0), put(5, &[1])),
         (refusal(13, 0), fetch_nothing(2)),
-        (refusal(13, 0), put_text(b"1")),
+        (refusal(13, 0), put_bytes(b"1", &[0])),
+        (refusal(13, 0), put_bytes(b"1", &[])),
+        (refusal(14, 0), put_bytes(b"a", &[0])),
+        (refusal(14, 0), put_bytes(b"1", &[2])),
     ]
 }
 
@@ -378,6 +377,8 @@ fn report_and_caller_pairs() -> Vec<Pair> {
 /// 13, as no size changes; a put never meets 11, a fetch or a drop never 12 or
 /// 14. An absent attachment asks for no output, so 11 with 13 is a fetch of an
 /// absent id to an output that would be short for a standing one.
+///
+/// Put text judges its lengths (13) and its symbols (14) before 12.
 fn caller_pairs() -> Vec<Pair> {
     let read_flag = |flag| Call::ReadFlag { flag };
     let clear_flag = |flag| Call::ClearFlag { flag };
@@ -404,13 +405,66 @@ fn caller_pairs() -> Vec<Pair> {
         (
             12,
             refusal(13, 0),
-            put_text(&[b'a'; 86]),
-            put_text(&[b'a'; 85]),
+            put_bytes(&[b'a'; 86], &[1; 86]),
+            put_bytes(&[b'a'; 85], &[1; 85]),
         ),
-        (12, refusal(13, 0), put_text(b"  "), put_text(b"  7")),
+        (
+            12,
+            refusal(13, 0),
+            put_bytes(b"  ", &[0; 2]),
+            put_bytes(b"  7", &[0; 3]),
+        ),
         (14, refusal(13, 0), put(5, &[16]), put(5, &[15])),
         (14, refusal(13, 0), put(1, &[0; 15]), put(1, &[0; 16])),
         (14, refusal(13, 0), put(4, &[10]), put(4, &[9])),
+        (
+            13,
+            refusal(14, 0),
+            put_bytes(b"1", &[2, 2]),
+            put_bytes(b"1", &[2]),
+        ),
+        (
+            13,
+            refusal(14, 0),
+            put_bytes(b"ab", &[0]),
+            put_bytes(b"a", &[0]),
+        ),
+        (
+            13,
+            refusal(12, 0),
+            put_bytes(b" ", &[]),
+            put_bytes(b"", &[]),
+        ),
+        (
+            13,
+            refusal(12, 0),
+            put_bytes(&[b'a'; 86], &[1; 85]),
+            put_bytes(&[b'a'; 86], &[1; 86]),
+        ),
+        (
+            14,
+            refusal(12, 0),
+            put_bytes(&[b'a'; 87], &[&[1; 86][..], &[0]].concat()),
+            put_bytes(&[b'a'; 87], &[1; 87]),
+        ),
+        (
+            14,
+            refusal(12, 0),
+            put_bytes(b"   ", &[0, 0, 2]),
+            put_bytes(b"   ", &[0; 3]),
+        ),
+        (
+            14,
+            refusal(13, 0),
+            put_bytes(b"1a", &[0, 0]),
+            put_bytes(b"1a", &[0, 1]),
+        ),
+        (
+            14,
+            refusal(13, 0),
+            put_bytes(b"1 ", &[0, 255]),
+            put_bytes(b"1 ", &[0, 1]),
+        ),
     ];
     let mut judged: Vec<Pair> = pairs
         .into_iter()
@@ -574,6 +628,42 @@ fn fresh_pairs() -> Vec<Pair> {
             second: refusal(13, 0),
             both: fresh(&[first], 37),
             mended: fresh(&[], 37),
+        });
+    }
+    pairs
+}
+
+/// The report's refusal, then 11, then 13 for either output. A text behind a fault of
+/// the report would have two symbols.
+fn read_out_pairs() -> Vec<Pair> {
+    let with_text = |mut report: Draft| {
+        report.attach(4, &[1, 12, 1]);
+        report.bytes()
+    };
+    let mut pairs = Vec::new();
+    for fault in report_faults() {
+        pairs.push(Pair {
+            first: fault.refusal(),
+            second: refusal(11, 0),
+            both: read_out(&report_with(&[fault]), 2, 2),
+            mended: read_out(&report_with(&[]), 2, 2),
+        });
+    }
+    let sound = Draft::of(&observation_with(&[(2, &[7])]));
+    let mut wrong = sound.clone();
+    wrong.card.ck += 1;
+    for (text, origins) in [(1, 2), (2, 1), (0, 0)] {
+        pairs.push(Pair {
+            first: refusal(4, 0),
+            second: refusal(13, 0),
+            both: read_out(&with_text(wrong.clone()), text, origins),
+            mended: read_out(&with_text(sound.clone()), text, origins),
+        });
+        pairs.push(Pair {
+            first: refusal(11, 0),
+            second: refusal(13, 0),
+            both: read_out(&sound.bytes(), text, origins),
+            mended: read_out(&with_text(sound.clone()), text, origins),
         });
     }
     pairs

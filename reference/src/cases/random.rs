@@ -3,6 +3,7 @@
 use super::Case;
 use super::material::*;
 use super::outside::edge_values;
+use crate::attachment::Attachment;
 use crate::call::Call;
 use crate::flag_table::FlagTable;
 use crate::flags;
@@ -20,7 +21,7 @@ pub fn cases(seed: u64, count: usize) -> impl Iterator<Item = Case> {
 }
 
 fn case(prng: &mut Prng) -> Case {
-    match prng.below(20) {
+    match prng.below(22) {
         0..4 => Case::Judge {
             report: report(prng),
         },
@@ -30,13 +31,19 @@ fn case(prng: &mut Prng) -> Case {
         6..8 => unpack_case(prng),
         8..11 => pack_case(prng),
         11 => fresh_case(prng),
+        12..14 => read_out_case(prng),
         _ => calls_case(prng),
     }
 }
 
 /// A report, sound or damaged, with bytes after it or cut.
 fn report(prng: &mut Prng) -> Vec<u8> {
-    let mut draft = Draft::of(&random_observation(prng));
+    let observation = random_observation(prng);
+    report_of(prng, &observation)
+}
+
+fn report_of(prng: &mut Prng, observation: &Observation) -> Vec<u8> {
+    let mut draft = Draft::of(observation);
     for _ in 0..prng.pick(&[0, 0, 1, 1, 1, 2]) {
         damage(prng, &mut draft);
     }
@@ -103,6 +110,25 @@ fn unpack_case(prng: &mut Prng) -> Case {
         report,
         values: vec![-77; prng.pick(&[46, 46, 46, 50, 45])],
         tail: prng.bytes(tail),
+    }
+}
+
+/// Most often the text stands.
+fn read_out_case(prng: &mut Prng) -> Case {
+    let mut observation = random_observation(prng);
+    if observation.content(u64::from(text::ID)).is_none() && !prng.one_in(4) {
+        let body = random_body(prng, text::ID);
+        let attachment = Attachment::new(text::ID, body);
+        observation.attachments.insert(0, attachment);
+        observation.attachments.truncate(15);
+    }
+    let report = report_of(prng, &observation);
+    let judged = judge(&report, &FlagTable::all());
+    let length = judged.map_or(5, |report| symbol_count(&report.observation));
+    Case::ReadOut {
+        report,
+        text: random_output(prng, length),
+        origins: random_output(prng, length),
     }
 }
 
@@ -203,21 +229,31 @@ pub fn random_call(prng: &mut Prng, observation: &Observation, n: usize) -> Call
         11 => Call::Drop {
             id: random_standing(prng, observation),
         },
-        12 => {
-            let pieces = prng.pick(&[0, 1, 3, 10, 40, 120]);
-            Call::PutText {
-                text: random_text(prng, pieces),
-            }
-        }
+        12 => random_put_text(prng),
         _ => {
-            let text = observation
-                .content(u64::from(text::ID))
-                .and_then(text::read);
+            let length = symbol_count(observation);
             Call::FetchText {
-                output: random_output(prng, text.map_or(0, |text| text.len())),
+                text: random_output(prng, length),
+                origins: random_output(prng, length),
             }
         }
     }
+}
+
+/// How many symbols the text has, if it stands.
+pub fn symbol_count(observation: &Observation) -> usize {
+    let content = observation.content(u64::from(text::ID));
+    content.and_then(text::read).map_or(0, |text| text.len())
+}
+
+fn random_put_text(prng: &mut Prng) -> Call {
+    let pieces = prng.pick(&[0, 1, 3, 10, 40, 120]);
+    let symbols = random_text(prng, pieces);
+    let (mut text, mut origins) = (text::bytes(&symbols), text::origins(&symbols));
+    if prng.one_in(4) {
+        damage_text(prng, &mut text, &mut origins);
+    }
+    Call::PutText { text, origins }
 }
 
 /// A number from 1 to the highest, now and then one that is not.

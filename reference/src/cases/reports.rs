@@ -62,7 +62,7 @@ fn sound_observations() -> Vec<Observation> {
         full_observation(true),
         observation_with_ck_0(),
         largest_observation(),
-        observation_with(&[(4, &text::write(b"A1"))]),
+        observation_with(&[(4, &text::write(&symbols_of(b"A1")))]),
         observation_with(&[(1, &[0; 16])]),
         observation_with(&[(1, &flags::body_of(&[1; 14]))]),
         observation_with(&[(1, &flags::body_of(&[10; 14]))]),

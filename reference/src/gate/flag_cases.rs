@@ -65,7 +65,7 @@ pub fn items(seed: u64) -> Vec<Item> {
 }
 
 /// A list or a load, if the case is one.
-fn item(case: Case) -> Option<Item> {
+pub fn item(case: Case) -> Option<Item> {
     match case {
         Case::Load { marks } => Some(Item::Load(marks)),
         Case::Calls { buffer, calls } => Some(Item::List(List::of(buffer, &calls))),

@@ -1,4 +1,5 @@
-//! Lists of calls in script form, the lists of a library's own table of flags last.
+//! Lists of calls in script form, those of a library's own table of flags and those of
+//! symbols last.
 
 use std::collections::BTreeSet;
 
@@ -8,19 +9,19 @@ use crate::cases::Case;
 use crate::cases::calls::{WIDE_NUMBERS, texts};
 use crate::cases::material::*;
 use crate::cases::outside::edge_values;
-use crate::cases::random::random_call;
+use crate::cases::random::{random_call, symbol_count};
 use crate::cases::{pairs, reports};
 use crate::flag_table::FlagTable;
 use crate::gate::list::{Item, List, MOST_LOG};
 use crate::gate::log::{FRONT, HEAD, MARKED, record_size};
 use crate::gate::script::{entry, run, script};
 use crate::gate::sizes::{LONGEST_TAIL, observation_of_tail};
-use crate::gate::{flag_cases, sum_cases, text_cases};
+use crate::gate::{flag_cases, sum_cases, symbol_cases, text_cases};
 use crate::judge::judge;
 use crate::observation::Observation;
 use crate::prng::Prng;
 use crate::table::{FIELDS, Scaled, fields};
-use crate::text;
+use crate::text::{self, Symbol};
 
 /// The calls of a whole list.
 pub const CALLS: usize = 50;
@@ -32,6 +33,7 @@ const GIVEN: usize = 48;
 pub fn items(seed: u64) -> Vec<Item> {
     let mut items: Vec<Item> = lists(seed).into_iter().map(Item::List).collect();
     items.extend(flag_cases::items(seed));
+    items.extend(symbol_cases::items());
     items
 }
 
@@ -178,21 +180,9 @@ fn put(id: u64, content: &[u8]) -> Call {
     }
 }
 
-pub fn put_text(text: &[u8]) -> Call {
-    Call::PutText {
-        text: text.to_vec(),
-    }
-}
-
 pub fn fetch(id: u64, room: usize) -> Call {
     Call::Fetch {
         id,
-        output: vec![0xEE; room],
-    }
-}
-
-pub fn fetch_text(room: usize) -> Call {
-    Call::FetchText {
         output: vec![0xEE; room],
     }
 }
@@ -269,14 +259,14 @@ fn body_lists(prng: &mut Prng) -> Vec<List> {
 fn text_lists(prng: &mut Prng) -> Vec<List> {
     let mut calls = Vec::new();
     let mut texts = texts();
-    texts.push(vec![b' '; 5000]);
-    texts.push([vec![b'Q'], vec![b' '; 3000]].concat());
-    texts.push([vec![b' '; 1000], vec![0xC3]].concat());
+    texts.push(vec![Symbol::SPACE; 5000]);
+    texts.push(symbols_of(&[vec![b'Q'], vec![b' '; 3000]].concat()));
+    texts.push(symbols_of(&[vec![b' '; 1000], vec![0xC3]].concat()));
     for (index, text) in texts.into_iter().enumerate() {
         let nibbles = text::write(&text);
         let length = text
             .iter()
-            .rposition(|&byte| byte != b' ')
+            .rposition(|&symbol| symbol != Symbol::SPACE)
             .map_or(0, |last| last + 1);
         let nibble_room = [
             nibbles.len(),
@@ -369,12 +359,13 @@ fn fitting_call(prng: &mut Prng, buffer: &[u8]) -> Call {
         0 | 1 => Call::Drop { id },
         2 | 3 => fetch(id, one_beside(prng, standing)),
         4 => {
-            let text = observation.content(4).and_then(text::read);
-            fetch_text(one_beside(prng, text.map_or(0, |text| text.len())))
+            let length = symbol_count(&observation);
+            let (text, origins) = (one_beside(prng, length), one_beside(prng, length));
+            fetch_text_to(text, origins)
         }
         5 => {
             let length = fitting_length(prng, &observation, buffer.len(), 4);
-            put_text(&vec![b'5'; length])
+            put_text(&symbols_of(&vec![b'5'; length]))
         }
         _ => {
             let length = fitting_length(prng, &observation, buffer.len(), id);
@@ -460,7 +451,7 @@ pub fn one_of_each() -> Vec<Call> {
         put(5, &[1, 2, 3, 4]),
         fetch(4, 6),
         Call::Drop { id: 5 },
-        put_text(b"SHIP 1"),
+        put_text(&symbols_of(b"SHIP 1")),
         fetch_text(9),
     ]
 }
@@ -479,7 +470,8 @@ fn raw(script: Vec<u8>, left: usize) -> List {
 }
 
 /// Each kind cut behind its kind byte, in its first number, behind its numbers
-/// and before its last byte. Calls that are whole go before.
+/// and before its last byte, and a text also about its second number. Calls that are
+/// whole go before.
 fn cut_off_lists() -> Vec<List> {
     let before = script(&[
         Call::SetField { field: 4, value: 9 },
@@ -488,7 +480,11 @@ fn cut_off_lists() -> Vec<List> {
     let mut lists = vec![raw(Vec::new(), 60)];
     for call in one_of_each() {
         let whole = entry(&call);
-        for length in [1, 8, 9, 16, 17, whole.len() - 1] {
+        let mut lengths = vec![1, 8, 9, 16, 17, whole.len() - 1];
+        if let Call::PutText { text, .. } | Call::FetchText { text, .. } = &call {
+            lengths.extend([0, 1, 7, 8].map(|more| 9 + text.len() + more));
+        }
+        for length in lengths {
             if length < whole.len() {
                 lists.push(raw([&before[..], &whole[..length]].concat(), 60));
             }
@@ -502,9 +498,15 @@ fn cut_off_lists() -> Vec<List> {
 fn wide_count_lists() -> Vec<List> {
     let before = entry(&Call::ReadField { field: 3 });
     let mut lists = Vec::new();
-    for call in [put(5, &[1, 2]), fetch(5, 2), put_text(b"AB"), fetch_text(2)] {
-        let whole = entry(&call);
-        let numbers = whole.len() - 2;
+    // The place of the count in the entry.
+    for (call, place) in [
+        (put(5, &[1, 2]), 9),
+        (fetch(5, 2), 9),
+        (put_text(&symbols_of(b"AB")), 1),
+        (put_text(&symbols_of(b"AB")), 11),
+        (fetch_text(2), 1),
+        (fetch_text(2), 11),
+    ] {
         for count in [
             3,
             258,
@@ -514,8 +516,8 @@ fn wide_count_lists() -> Vec<List> {
             u64::MAX - 1,
             u64::MAX,
         ] {
-            let mut wide = whole.clone();
-            wide[numbers - 8..numbers].copy_from_slice(&u64::to_be_bytes(count));
+            let mut wide = entry(&call);
+            wide[place..place + 8].copy_from_slice(&u64::to_be_bytes(count));
             lists.push(raw([before.clone(), wide].concat(), 300));
         }
     }
@@ -563,11 +565,12 @@ fn short_log_lists() -> Vec<List> {
 }
 
 /// Places in a call's record: the given ones, where its row begins, about where the
-/// row ends, before the last byte, and the end.
+/// row ends, between two outputs, before the last byte, and the end.
 fn cuts(call: &Call, given: &[usize]) -> BTreeSet<usize> {
     let size = record_size(call);
     let mut cuts = BTreeSet::from([HEAD, FRONT - 1, FRONT, FRONT + 1, size - 1, size]);
     cuts.extend(given);
+    cuts.extend(call.outputs().first().map(|output| FRONT + output.len()));
     cuts.retain(|&cut| cut <= size);
     cuts
 }
@@ -619,7 +622,7 @@ fn refused_lists() -> Vec<List> {
         put(16, &[]),
         fetch(0, 0),
         Call::Drop { id: u64::MAX },
-        put_text(b" "),
+        put_text(&[Symbol::SPACE]),
         fetch_text(0),
     ]);
     for report in reports::damaged().iter().step_by(9) {

@@ -20,10 +20,10 @@ const ACCEPTED: u8 = 1;
 
 /// The bytes that a call's record takes, refused or not.
 pub fn record_size(call: &Call) -> usize {
-    FRONT + call.output().map_or(0, |output| output.len())
+    FRONT + call.outputs().iter().map(Vec::len).sum::<usize>()
 }
 
-/// The head, the numbers and zeros up to the row's end, and the output.
+/// The head, the numbers and zeros up to the row's end, and the outputs.
 pub fn record(answer: &Answer) -> Vec<u8> {
     let mut record = Vec::new();
     match &answer.result {
@@ -39,7 +39,7 @@ pub fn record(answer: &Answer) -> Vec<u8> {
         }
     }
     record.resize(FRONT, 0);
-    record.extend(answer.output.iter().flatten());
+    record.extend(answer.outputs.iter().flatten());
     record
 }
 

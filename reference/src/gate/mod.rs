@@ -11,6 +11,7 @@ pub mod same_cases;
 pub mod script;
 pub mod sizes;
 pub mod sum_cases;
+pub mod symbol_cases;
 pub mod tally;
 pub mod text_cases;
 pub mod trip_cases;

@@ -1,6 +1,7 @@
 //! A call outside the list as a record, and its answer.
 
 use crate::cases::{Case, Outcome};
+use crate::edit::Fetched;
 use crate::gate::head::{head, loaded};
 use crate::outside::Unpacked;
 use crate::refusal::Refusal;
@@ -16,14 +17,16 @@ const RESTORE: u8 = 7;
 const RECOVER: u8 = 8;
 const CHARACTERS: u8 = 9;
 const LOAD: u8 = 10;
+const READ_OUT: u8 = 11;
 
 /// The longest report, input or output; the most values; the longest tails; the most
-/// marks of a table of flags.
+/// marks of a table of flags; the longest output of a text.
 pub const MOST_BYTES: usize = 2000;
 pub const MOST_VALUES: usize = 60;
 pub const MOST_UNPACK_TAIL: usize = 4000;
 pub const MOST_PACK_TAIL: usize = 4200;
 pub const MOST_MARKS: usize = 200;
+pub const MOST_TEXT: usize = 2400;
 
 /// Whether a case is a record and keeps its limits.
 pub fn fits(case: &Case) -> bool {
@@ -78,6 +81,11 @@ pub fn fits(case: &Case) -> bool {
         }
         Case::Characters { .. } => true,
         Case::Load { marks } => marks.len() <= MOST_MARKS,
+        Case::ReadOut {
+            report,
+            text,
+            origins,
+        } => report.len() <= MOST_BYTES && text.len() <= MOST_TEXT && origins.len() <= MOST_TEXT,
         Case::Calls { .. } => false,
     }
 }
@@ -151,6 +159,17 @@ pub fn input(case: &Case) -> Vec<u8> {
         .concat(),
         Case::Characters { table } => [vec![CHARACTERS], entries(table)].concat(),
         Case::Load { marks } => [vec![LOAD], counted(marks)].concat(),
+        Case::ReadOut {
+            report,
+            text,
+            origins,
+        } => [
+            vec![READ_OUT],
+            counted(report),
+            counted(text),
+            counted(origins),
+        ]
+        .concat(),
         Case::Calls { .. } => unreachable!("a list of calls is no record"),
     }
 }
@@ -200,6 +219,11 @@ pub fn answer(outcome: &Outcome) -> Vec<u8> {
         .concat(),
         Outcome::Characters(table) => [head(Ok(None)), entries(table)].concat(),
         Outcome::Load { result, table } => loaded(*result, table),
+        Outcome::ReadOut {
+            result,
+            text,
+            origins,
+        } => [read_out(result), text.clone(), origins.clone()].concat(),
         Outcome::Calls(_) => unreachable!("a list of calls is no record"),
     }
 }
@@ -217,6 +241,15 @@ fn unpacked(result: &Result<Unpacked, Refusal>) -> Vec<u8> {
             given.tail as u64,
         ];
         bytes.extend(numbers.iter().flat_map(|n| n.to_be_bytes()));
+    }
+    bytes
+}
+
+/// The head, and the deck's set where it is given.
+fn read_out(result: &Result<Fetched, Refusal>) -> Vec<u8> {
+    let mut bytes = head(result.map(|given| Some(given.symbols)));
+    if let Ok(given) = result {
+        bytes.extend((given.set as u64).to_be_bytes());
     }
     bytes
 }

@@ -32,7 +32,7 @@ fn held_with(flag: u8, text: &[u8]) -> Observation {
     observation_with(&[
         (5, &[1, 2, 3]),
         (flags::ID, &flags::body_of(&row)),
-        (text::ID, &text::write(text)),
+        (text::ID, &text::write(&symbols_of(text))),
         (9, &[7]),
     ])
 }

@@ -28,8 +28,8 @@ pub fn entry(call: &Call) -> Vec<u8> {
         Call::Put { id, content } => joined(PUT, &[*id, content.len() as u64], content),
         Call::Fetch { id, output } => joined(FETCH, &[*id, output.len() as u64], output),
         Call::Drop { id } => joined(DROP, &[*id], &[]),
-        Call::PutText { text } => joined(PUT_TEXT, &[text.len() as u64], text),
-        Call::FetchText { output } => joined(FETCH_TEXT, &[output.len() as u64], output),
+        Call::PutText { text, origins } => text_entry(PUT_TEXT, text, origins),
+        Call::FetchText { text, origins } => text_entry(FETCH_TEXT, text, origins),
     }
 }
 
@@ -39,6 +39,14 @@ fn joined(kind: u8, numbers: &[u64], bytes: &[u8]) -> Vec<u8> {
         entry.extend(number.to_be_bytes());
     }
     entry.extend(bytes);
+    entry
+}
+
+/// The kind, and the bytes and the origins each behind their number.
+fn text_entry(kind: u8, text: &[u8], origins: &[u8]) -> Vec<u8> {
+    let mut entry = joined(kind, &[text.len() as u64], text);
+    entry.extend((origins.len() as u64).to_be_bytes());
+    entry.extend(origins);
     entry
 }
 
@@ -96,11 +104,13 @@ pub fn first_call(script: &[u8]) -> Option<(Call, &[u8])> {
         }
         PUT_TEXT => {
             let (text, rest) = counted(rest)?;
-            (Call::PutText { text }, rest)
+            let (origins, rest) = counted(rest)?;
+            (Call::PutText { text, origins }, rest)
         }
         FETCH_TEXT => {
-            let (output, rest) = counted(rest)?;
-            (Call::FetchText { output }, rest)
+            let (text, rest) = counted(rest)?;
+            let (origins, rest) = counted(rest)?;
+            (Call::FetchText { text, origins }, rest)
         }
         _ => return None,
     };

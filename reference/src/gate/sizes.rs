@@ -6,7 +6,7 @@ use crate::flags;
 use crate::observation::Observation;
 use crate::prng::Prng;
 use crate::table::{FIELDS, REQUIRED, Scaled, fields};
-use crate::text;
+use crate::text::{self, Symbol};
 
 /// Nibbles behind the card of the largest report.
 pub const LONGEST_TAIL: usize = 14 * (HEADER + LONGEST) + FLAGS_SIZE;
@@ -71,7 +71,7 @@ fn body_of_length(prng: &mut Prng, id: u8, length: usize) -> Vec<u8> {
 /// The nibbles of a text, filled up with digits to a length.
 fn text_body(prng: &mut Prng, length: usize) -> Vec<u8> {
     let mut text = random_text(prng, length / 4);
-    while text.last() == Some(&b' ') || text::write(&text).len() > length {
+    while text.last() == Some(&Symbol::SPACE) || text::write(&text).len() > length {
         text.pop();
     }
     let mut body = text::write(&text);

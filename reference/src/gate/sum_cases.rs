@@ -2,7 +2,7 @@
 
 use crate::call::Call;
 use crate::cases::Case;
-use crate::cases::material::{Draft, observation_with};
+use crate::cases::material::{Draft, observation_with, put_text, symbols_of};
 use crate::gate::list::List;
 use crate::gate::list_cases::one_of_each;
 use crate::gate::sizes::{observation_of_sum, required_of_sum};
@@ -101,9 +101,7 @@ fn through_the_edges() -> List {
         Call::Drop { id: 5 },
         set(day, 15), // 1
         clear(hour),  // 0
-        Call::PutText {
-            text: b"A1".to_vec(),
-        },
+        put_text(&symbols_of(b"A1")),
         set(day, 16),  // 1
         set(hour, 0),  // 2
         clear(hour),   // 1

@@ -37,6 +37,7 @@ impl Tally {
             Outcome::Recover { result, .. } => ("recover", number(result)),
             Outcome::Characters(_) => ("characters", 0),
             Outcome::Load { result, .. } => ("load", number(result)),
+            Outcome::ReadOut { result, .. } => ("read out", number(result)),
             Outcome::Calls(_) => unreachable!("a list of calls is no record"),
         };
         self.add(kind, refusal);

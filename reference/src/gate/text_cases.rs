@@ -1,14 +1,17 @@
-//! Texts that take every byte through the writer: alone, beside a space, beside a
-//! byte of another code length, and last where the nibbles are the most or one more.
+//! Texts that take every symbol through the writer: alone, beside a space, beside a
+//! symbol of another code length, and last where the nibbles are the most or one more.
 
 use crate::attachment::LONGEST;
 use crate::call::Call;
-use crate::cases::material::{fresh_observation, observation_with, with_bytes_after};
+use crate::cases::material::{
+    all_symbols, fetch_text, fresh_observation, observation_with, put_text, symbols_of,
+    with_bytes_after,
+};
 use crate::gate::list::List;
-use crate::gate::list_cases::{fetch, fetch_text, put_text};
-use crate::text;
+use crate::gate::list_cases::fetch;
+use crate::text::{self, Symbol};
 
-/// Bytes of one nibble, of two and of three.
+/// Symbols of one nibble, of two and of three; those of three are original.
 const BY_LENGTH: [&[u8]; 3] = [b"09", b"{AI&+}JR-/SZ", b"\x00*a\x80\xFF"];
 
 pub fn lists() -> Vec<List> {
@@ -35,21 +38,23 @@ fn in_lists(calls: &[Call], size: usize, room: usize) -> Vec<List> {
     lists
 }
 
-/// Each byte, its nibbles and its text; a space alone comes to no nibbles.
+/// Each symbol, its nibbles and its text; a plain space alone comes to no nibbles.
 fn alone() -> Vec<Call> {
-    let calls = |byte| [put_text(&[byte]), fetch(4, 3), fetch_text(1)];
-    (0..=255).flat_map(calls).collect()
+    let calls = |symbol| [put_text(&[symbol]), fetch(4, 3), fetch_text(1)];
+    all_symbols().into_iter().flat_map(calls).collect()
 }
 
-/// Each byte behind a space, and in front of one that another byte follows.
+/// Each symbol behind a space, and in front of one that another symbol follows.
 fn beside_a_space() -> Vec<Call> {
-    let behind = |byte| [put_text(&[b' ', byte]), fetch_text(2)];
-    let in_front = |byte| [put_text(&[byte, b' ', b'0']), fetch_text(3)];
-    let behind = (0..=255).flat_map(behind);
-    behind.chain((0..=255).flat_map(in_front)).collect()
+    let digit = symbols_of(b"0")[0];
+    let behind = |symbol| [put_text(&[Symbol::SPACE, symbol]), fetch_text(2)];
+    let in_front = |symbol| [put_text(&[symbol, Symbol::SPACE, digit]), fetch_text(3)];
+    let behind = all_symbols().into_iter().flat_map(behind);
+    let in_front = all_symbols().into_iter().flat_map(in_front);
+    behind.chain(in_front).collect()
 }
 
-/// Two bytes of different code lengths, in each order.
+/// Two symbols of different code lengths, in each order.
 fn pairs() -> Vec<Call> {
     let mut calls = Vec::new();
     for (index, firsts) in BY_LENGTH.iter().enumerate() {
@@ -57,8 +62,8 @@ fn pairs() -> Vec<Call> {
             if index == other {
                 continue;
             }
-            for &first in *firsts {
-                for &second in *seconds {
+            for first in symbols_of(firsts) {
+                for second in symbols_of(seconds) {
                     calls.extend([put_text(&[first, second]), fetch(4, 5), fetch_text(2)]);
                 }
             }
@@ -67,14 +72,14 @@ fn pairs() -> Vec<Call> {
     calls
 }
 
-/// Texts of 255 nibbles and, refused, of 256, whose last byte has one, two or three
+/// Texts of 255 nibbles and, refused, of 256, whose last symbol has one, two or three
 /// of them.
 fn at_the_most() -> Vec<Call> {
     let mut calls = Vec::new();
     for filler in [(&b"5"[..], 1), (b"E", 2), (b"e", 3), (b"5 ", 2)] {
         for last in [(b'7', 1), (b'Q', 2), (b'q', 3)] {
-            let most = ending(LONGEST, filler, last);
-            let over = ending(LONGEST + 1, filler, last);
+            let most = symbols_of(&ending(LONGEST, filler, last));
+            let over = symbols_of(&ending(LONGEST + 1, filler, last));
             let length = most.len();
             calls.extend([put_text(&most), put_text(&over)]);
             calls.extend([fetch(4, LONGEST), fetch_text(length)]);

@@ -80,7 +80,7 @@ fn held() -> Observation {
     let row = [1, 0, 3, 4, 5, 6, 7, 8, 9, 10, 0, 2, 1, 0];
     observation.attachments = observation_with(&[
         (15, &[15, 0]),
-        (text::ID, &text::write(b"SHIP 1")),
+        (text::ID, &text::write(&symbols_of(b"SHIP 1"))),
         (flags::ID, &flags::body_of(&row)),
         (2, &[0, 8, 0, 0]),
     ])

@@ -1,14 +1,16 @@
 //! The calls with every flag permitted, as before any table of flags is loaded.
 
 use reference::cases::{Case, Outcome};
+use reference::edit::Fetched;
 use reference::flag_table::FlagTable;
 use reference::gate::list::List;
 use reference::gate::script::{self, Ran};
 use reference::judge::{self, Report};
 use reference::outside::{self, Unpacked};
+use reference::reader::Reader;
 use reference::refusal::Refusal;
 use reference::table::Scaled;
-use reference::{edit, flags, line, trips};
+use reference::{edit, flags, line, reader, trips};
 
 type Answer<T> = Result<T, Refusal>;
 
@@ -98,12 +100,20 @@ pub fn drop_attachment(buffer: &mut [u8], id: u64) -> Answer<()> {
     edit::drop_attachment(buffer, id, &FlagTable::all())
 }
 
-pub fn put_text(buffer: &mut [u8], text: &[u8]) -> Answer<()> {
-    edit::put_text(buffer, text, &FlagTable::all())
+pub fn put_text(buffer: &mut [u8], text: &[u8], origins: &[u8]) -> Answer<()> {
+    edit::put_text(buffer, text, origins, &FlagTable::all())
 }
 
-pub fn fetch_text(buffer: &[u8], output: &mut [u8]) -> Answer<usize> {
-    edit::fetch_text(buffer, output, &FlagTable::all())
+pub fn fetch_text(buffer: &[u8], text: &mut [u8], origins: &mut [u8]) -> Answer<Fetched> {
+    edit::fetch_text(buffer, text, origins, &FlagTable::all())
+}
+
+pub fn open(report: &[u8]) -> Reader<'_> {
+    Reader::open(report, &FlagTable::all())
+}
+
+pub fn read_out(report: &[u8], text: &mut [u8], origins: &mut [u8]) -> Answer<Fetched> {
+    reader::read_out(report, text, origins, &FlagTable::all())
 }
 
 pub fn run(buffer: &mut [u8], script: &[u8], room: usize) -> Ran {

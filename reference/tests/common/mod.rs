@@ -4,7 +4,7 @@
 pub mod all_flags;
 
 use reference::refusal::{Refusal, refusal};
-use reference::text::Table;
+use reference::text::{Symbol, Table};
 
 /// Fresh, values 1, 1900, 1, 0, 0, in a buffer of a length filled with A5.
 pub fn fresh_buffer(length: usize) -> Vec<u8> {
@@ -48,6 +48,16 @@ pub fn fresh_with_tail(ac: u8, tail: &[u8]) -> Vec<u8> {
 
 pub fn refused<T>(number: u8, place: usize) -> Result<T, Refusal> {
     Err(refusal(number, place))
+}
+
+/// Bytes as plain symbols; each has a short code.
+pub fn plain(bytes: &[u8]) -> Vec<Symbol> {
+    let symbols = bytes.iter().map(|&byte| Symbol::plain(byte));
+    symbols.map(|symbol| symbol.unwrap()).collect()
+}
+
+pub fn originals(bytes: &[u8]) -> Vec<Symbol> {
+    bytes.iter().map(|&byte| Symbol::original(byte)).collect()
 }
 
 /// The short codes, from the requirements and Table F4-3.

@@ -16,23 +16,25 @@ enum-known-i-2 : tie.Need-enum-known-i-2
 enum-known-i-2 c = search needs
 
 fetch-text-found-requires : tie.Need-fetch-text-found-requires
-fetch-text-found-requires c κs = (_, inspect-found _ _ _ _ (c .before .before .before .before .inspect .ensures) _ (c .before .before .i2 .given .1))
+fetch-text-found-requires c κs = (_, inspect-found _ _ _ _ (c .before .before .before .before .before .inspect .ensures) _ (c .before .before .before .i2 .given .1))
 
 returns : tie.Need-returns
 unfolding outputsOf
 returns c =
-    let args = c .before .before .before .before .before .before .before .args in
-    let the-inspect = c .before .before .before .inspect in
-    inspect-refused _ _ _ _ (the-inspect .ensures) _ _ (fetches (fetchText (args .out .now))) (c .before .i .given .1)
+    let args = c .before .before .before .before .before .before .before .before .args in
+    inspect-refused _ _ _ _ (c .before .before .before .inspect .ensures) _ _ (fetches (fetchText (args .out .now) (args .origins .now))) (c .before .i .given .1)
 
 same-length : tie.Need-same-length
 same-length c = search needs
 
+same-length-2 : tie.Need-same-length-2
+same-length-2 c = search needs
+
 returns-2 : tie.Need-returns-2
 returns-2 c =
-    let the-inspect = c .before .before .before .before .before .before .before .inspect in
-    let i2 = c .before .before .before .before .before .i2 in
-    c .before .before .fetch-text-found .ensures _ (inspect-found _ _ _ _ (the-inspect .ensures) _ (i2 .given .1) .judged)
+    let inspect = c .before .before .before .before .before .before .before .before .before .before .inspect in
+    c .before .before .before .before .fetch-text-found .ensures _
+    (inspect-found _ _ _ _ (inspect .ensures) _ (c .before .before .before .before .before .before .before .before .i2 .given .1) .judged)
 
 pub fetch-text-spec : {M : Type 1} → statement M
 fetch-text-spec =
@@ -44,4 +46,5 @@ fetch-text-spec =
     fetch-text-found-requires
     returns
     same-length
+    same-length-2
     returns-2)

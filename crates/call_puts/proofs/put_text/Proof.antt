@@ -24,17 +24,16 @@ same-length c = search needs
 returns : tie.Need-returns
 unfolding outputsOf
 returns c =
-    inspect-refused _ _ _ _ (c .before .before .before .inspect .ensures) _ _
-    (edits (putText (c .before .before .before .before .before .before .before .before .args .text .now))) (c .before .i .given .1)
+    let args = c .before .before .before .before .before .before .before .before .before .args in
+    inspect-refused _ _ _ _ (c .before .before .before .inspect .ensures) _ _ (edits (putText (args .text .now) (args .origins .now))) (c .before .i .given .1)
 
 same-length-2 : tie.Need-same-length-2
 same-length-2 c = search needs
 
 returns-2 : tie.Need-returns-2
 returns-2 c =
-    let the-inspect = c .before .before .before .before .before .before .before .inspect in
-    let i2 = c .before .before .before .before .before .i2 in
-    c .before .before .put-text-found .ensures _ (inspect-found _ _ _ _ (the-inspect .ensures) _ (i2 .given .1) .judged)
+    c .before .before .put-text-found .ensures _
+    (inspect-found _ _ _ _ (c .before .before .before .before .before .before .before .inspect .ensures) _ (c .before .before .before .before .before .i2 .given .1) .judged)
 
 pub put-text-spec : {M : Type 1} → statement M
 put-text-spec =

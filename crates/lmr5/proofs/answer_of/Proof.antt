@@ -56,6 +56,12 @@ enum-known-r-4 c = search needs
 counted-requires : tie.Need-counted-requires
 counted-requires c κs = subst (λ (r : Reply). AnswerFits (answerOf r)) (c .before .r4 .given .1) (c .before .before .before .pre) .0
 
+enum-known-r-5 : tie.Need-enum-known-r-5
+enum-known-r-5 c = search needs
+
+two-requires : tie.Need-two-requires
+two-requires c κs = subst (λ (r : Reply). AnswerFits (answerOf r)) (c .before .r5 .given .1) (c .before .before .before .pre) .0
+
 returns : tie.Need-returns
 returns c = c .refused .ensures ∙ ap (λ (r : Reply). numbered (answerOf r)) (sym (c .before .before .r .given .1))
 
@@ -82,6 +88,9 @@ returns-7 : tie.Need-returns-7
 unfolding labels quantityLabel
 returns-7 c = c .counted .ensures ∙ ap (λ (r : Reply). numbered (answerOf r)) (sym (c .before .before .r4 .given .1))
 
+returns-8 : tie.Need-returns-8
+returns-8 c = c .two .ensures ∙ ap (λ (r : Reply). numbered (answerOf r)) (sym (c .before .before .r5 .given .1))
+
 pub answer-of-spec : {M : Type 1} → statement M
 answer-of-spec =
     tie.close
@@ -101,10 +110,13 @@ answer-of-spec =
     given-requires-4
     enum-known-r-4
     counted-requires
+    enum-known-r-5
+    two-requires
     returns
     returns-2
     returns-3
     returns-4
     returns-5
     returns-6
-    returns-7)
+    returns-7
+    returns-8)

@@ -1,7 +1,7 @@
 -- `lmr5::lmr5_put_text` meets its contract.
 -- Assumes nothing.
-use Rattle.lmr5.proofs.Calls.{call-fits, call-numbered}
 use borrow.Author.Needs.{needs}
+use Rattle.lmr5.proofs.Calls.{call-fits, call-numbered}
 use Rattle.lmr5.proofs.lmr5_put_text.Statement.{statement}
 use Rattle.lmr5.proofs.lmr5_put_text.Tie as tie
 
@@ -9,7 +9,7 @@ put-text-requires : tie.Need-put-text-requires
 put-text-requires c κs = search needs
 
 answer-of-requires : tie.Need-answer-of-requires
-answer-of-requires c κs = call-fits _ _ _ _ _ _ (c .before .before .put-text .ensures) (λ i. c .before .before .before .before .before .slice-known .given i .fits)
+answer-of-requires c κs = call-fits _ _ _ _ _ _ (c .before .before .put-text .ensures) (λ i. c .before .before .before .before .before .before .slice-known .given i .fits)
 
 same-length : tie.Need-same-length
 same-length c = search needs

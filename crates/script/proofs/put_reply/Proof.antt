@@ -8,12 +8,12 @@ use mathlib.Core.List.{_∷_, _++_}
 use mathlib.Core.Option.{none, some}
 use lib.IntN.{pos}
 use Rattle.numbers.specs.Words.{unsigned}
-use Rattle.format.specs.Calls.{value, flag, count}
+use Rattle.format.specs.Calls.{value, flag, count, deck}
 use Rattle.format.specs.Buffer.{zeros}
-use Rattle.format.specs.declared.Reply.the-variants.{Refused, Done, Value, MissingValue, Flag, MissingFlag, Count}
+use Rattle.format.specs.declared.Reply.the-variants.{Refused, Done, Value, MissingValue, Flag, MissingFlag, Count, Text}
 use Rattle.script.specs.Labels.{quantityLabel}
 use Rattle.script.specs.Script.{bytes8}
-use Rattle.script.proofs.Replay.{given-put, reply-put}
+use Rattle.script.proofs.Replay.{given-put, two-put, reply-put}
 use borrow.Author.Needs.{needs}
 use Rattle.script.proofs.put_reply.Statement.{statement}
 use Rattle.script.proofs.put_reply.Tie as tie
@@ -66,35 +66,49 @@ enum-known-r-4 c = search needs
 put-given-requires-5 : tie.Need-put-given-requires-5
 put-given-requires-5 c κs = search needs
 
+enum-known-r-5 : tie.Need-enum-known-r-5
+enum-known-r-5 c = search needs
+
+cast-put-two : tie.Need-cast-put-two
+cast-put-two c = search needs
+
+put-two-requires : tie.Need-put-two-requires
+put-two-requires c κs = search needs
+
 same-length : tie.Need-same-length
 same-length c = search needs
 
 returns : tie.Need-returns
-returns c = let g = c .before .before .before .before .before .r .given in reply-put _ (Refused (g .0 .0) (g .0 .1 .0)) _ _ _ (g .1) refl (c .before .before .put-refusal .ensures)
+returns c =
+    let r = c .before .before .before .before .before .r in
+    reply-put _ (Refused (r .given .0 .0) (r .given .0 .1 .0)) _ _ _ (r .given .1) refl (c .before .before .put-refusal .ensures)
 
 same-length-2 : tie.Need-same-length-2
 same-length-2 c = search needs
 
 returns-2 : tie.Need-returns-2
-returns-2 c = reply-put _ Done _ _ _ (c .before .before .before .before .enum-told .given .1) refl (c .before .before .put-done .ensures)
+returns-2 c =
+    reply-put _ Done _ _ _ (c .before .before .before .before .enum-told .given .1) refl (c .before .before .put-done .ensures)
 
 same-length-3 : tie.Need-same-length-3
 same-length-3 c = search needs
 
 returns-3 : tie.Need-returns-3
-unfolding quantityLabel
+unfolding quantityLabel unsigned
 returns-3 c =
-    let g = c .before .before .before .before .before .before .before .r2 .given in
-    let z = g .0 .0 .0 in
+    let r2 = c .before .before .before .before .before .before .before .r2 in
+    let z = r2 .given .0 .0 .0 in
     let n = c .before .before .before .before .unsigned-of .ensures ∙ ap unsigned (toZ-ofZ w64 z (search needs)) in
-    reply-put _ (Value (g .0 .0)) _ _ _ (g .1) (given-put value (some z) ∙ ap (λ (n : ℕ). 1 ∷ 0 ∷ (bytes8 0 ++ (1 ∷ (bytes8 n ++ zeros 18)))) (sym n)) (c .before .before .put-given .ensures)
+    reply-put _ (Value (r2 .given .0 .0)) _ _ _ (r2 .given .1) (given-put value (some z) ∙ ap (λ (n : ℕ). 1 ∷ 0 ∷ (bytes8 0 ++ (1 ∷ (bytes8 n ++ zeros 18)))) (sym n))
+    (c .before .before .put-given .ensures)
 
 same-length-4 : tie.Need-same-length-4
 same-length-4 c = search needs
 
 returns-4 : tie.Need-returns-4
 unfolding quantityLabel unsigned
-returns-4 c = reply-put _ MissingValue _ _ _ (c .before .before .before .before .enum-told2 .given .1) (given-put value none) (c .before .before .put-given2 .ensures)
+returns-4 c =
+    reply-put _ MissingValue _ _ _ (c .before .before .before .before .enum-told2 .given .1) (given-put value none) (c .before .before .put-given2 .ensures)
 
 same-length-5 : tie.Need-same-length-5
 same-length-5 c = search needs
@@ -102,15 +116,16 @@ same-length-5 c = search needs
 returns-5 : tie.Need-returns-5
 unfolding quantityLabel unsigned
 returns-5 c =
-    let g = c .before .before .before .before .before .r3 .given in
-    reply-put _ (Flag (g .0 .0)) _ _ _ (g .1) (given-put flag (some (pos (g .0 .0)))) (c .before .before .put-given3 .ensures)
+    let r3 = c .before .before .before .before .before .r3 in
+    reply-put _ (Flag (r3 .given .0 .0)) _ _ _ (r3 .given .1) (given-put flag (some (pos (r3 .given .0 .0)))) (c .before .before .put-given3 .ensures)
 
 same-length-6 : tie.Need-same-length-6
 same-length-6 c = search needs
 
 returns-6 : tie.Need-returns-6
 unfolding quantityLabel unsigned
-returns-6 c = reply-put _ MissingFlag _ _ _ (c .before .before .before .before .enum-told3 .given .1) (given-put flag none) (c .before .before .put-given4 .ensures)
+returns-6 c =
+    reply-put _ MissingFlag _ _ _ (c .before .before .before .before .enum-told3 .given .1) (given-put flag none) (c .before .before .put-given4 .ensures)
 
 same-length-7 : tie.Need-same-length-7
 same-length-7 c = search needs
@@ -118,8 +133,17 @@ same-length-7 c = search needs
 returns-7 : tie.Need-returns-7
 unfolding quantityLabel unsigned
 returns-7 c =
-    let g = c .before .before .before .before .before .r4 .given in
-    reply-put _ (Count (g .0 .0)) _ _ _ (g .1) (given-put count (some (pos (g .0 .0)))) (c .before .before .put-given5 .ensures)
+    let r4 = c .before .before .before .before .before .r4 in
+    reply-put _ (Count (r4 .given .0 .0)) _ _ _ (r4 .given .1) (given-put count (some (pos (r4 .given .0 .0)))) (c .before .before .put-given5 .ensures)
+
+same-length-8 : tie.Need-same-length-8
+same-length-8 c = search needs
+
+returns-8 : tie.Need-returns-8
+unfolding quantityLabel unsigned
+returns-8 c =
+    let r5 = c .before .before .before .before .before .r5 in
+    reply-put _ (Text (r5 .given .0 .0) (r5 .given .0 .1 .0)) _ _ _ (r5 .given .1) (two-put count (r5 .given .0 .0) deck (r5 .given .0 .1 .0)) (c .before .before .put-two .ensures)
 
 pub put-reply-spec : {M : Type 1} → statement M
 put-reply-spec =
@@ -141,6 +165,9 @@ put-reply-spec =
     put-given-requires-4
     enum-known-r-4
     put-given-requires-5
+    enum-known-r-5
+    cast-put-two
+    put-two-requires
     same-length
     returns
     same-length-2
@@ -154,4 +181,6 @@ put-reply-spec =
     same-length-6
     returns-6
     same-length-7
-    returns-7)
+    returns-7
+    same-length-8
+    returns-8)

@@ -1,0 +1,2 @@
+pub mod Displays
+pub mod Readings

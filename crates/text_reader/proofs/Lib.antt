@@ -1,0 +1,4 @@
+pub mod PairRows
+pub mod Reading
+pub mod Bodies
+pub mod Texts

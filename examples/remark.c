@@ -1,0 +1,57 @@
+/*
+ * Shows the remark of a ship, which is the ship text of the report on standard input.
+ *
+ *     remark < REPORT
+ *
+ * A plain symbol is shown as it is. An original one is a byte of the deck, and is shown in hex between < and >, which no plain
+ * symbol is: what it stands for is left to someone with the table of the deck's character set, which is named.
+ */
+#include <stdio.h>
+
+#include "lmr5.h"
+
+/* By enum lmr5_set. */
+static const char *const sets[] = {"an unknown character set", "EBCDIC", "ASCII"};
+
+/* Every flag is permitted. */
+static lmr5_flag_table table;
+
+/* Room for the longest report, and for the longest text with its marks. */
+static uint8_t report[LMR5_LONGEST_REPORT];
+static uint8_t text[2295], origins[2295];
+
+/* Prints one symbol after the other, each as it comes. The reader is a copy: the caller's stays where it is. */
+static void print_symbols(size_t length, lmr5_text_reader reader)
+{
+    lmr5_symbol symbol = lmr5_next_symbol(report, length, &reader);
+    while (symbol.kind != LMR5_SYMBOL_END) {
+        if (symbol.kind == LMR5_SYMBOL_ORIGINAL)
+            printf("<%02X>", (unsigned)symbol.byte);
+        else
+            putchar((int)symbol.byte);
+        symbol = lmr5_next_symbol(report, length, &reader);
+    }
+    putchar('\n');
+}
+
+int main(void)
+{
+    size_t length = fread(report, 1, sizeof report, stdin);
+    lmr5_text_reader reader = {0, 0, 0, 0, 0};
+    lmr5_answer answer;
+    lmr5_all_flags(&table);
+    answer = lmr5_open_text(report, length, &reader, &table);
+    if (answer.refusal == LMR5_REFUSED_NO_SUCH) {
+        puts("no remark");
+        return 0;
+    }
+    if (answer.refusal != 0) {
+        fprintf(stderr, "remark: refusal %d, place %d\n", (int)answer.refusal, (int)answer.place);
+        return 1;
+    }
+    /* The set is the second number that the fetch of a text gives. It is not refused: there is a text, and room for any. */
+    answer = lmr5_fetch_text(report, length, text, sizeof text, origins, sizeof origins, &table);
+    printf("%ld symbols, deck in %s: ", (long)answer.first, sets[answer.second]);
+    print_symbols(length, reader);
+    return 0;
+}
