@@ -1,2 +1,3 @@
 pub mod Displays
+pub mod Owning
 pub mod Readings
