@@ -49,9 +49,9 @@ int main(void)
         fprintf(stderr, "remark: refusal %d, place %d\n", (int)answer.refusal, (int)answer.place);
         return 1;
     }
-    /* The set is the second number that the fetch of a text gives. It is not refused: there is a text, and room for any. */
+    /* The fetch gives the symbols, the set and the nibbles. It is not refused: there is a text, and room for any. */
     answer = lmr5_fetch_text(report, length, text, sizeof text, origins, sizeof origins, &table);
-    printf("%ld symbols, deck in %s: ", (long)answer.first, sets[answer.second]);
+    printf("%ld symbols in %ld nibbles, deck in %s: ", (long)answer.first, (long)answer.third, sets[answer.second]);
     print_symbols(length, reader);
     return 0;
 }

@@ -1,9 +1,9 @@
 /*
  * Tries the header's numbers of refusals, flags and flag values on the library: for each refusal a call that has to be
  * refused so, and the ends of the flags and of their values. Tries the table of permitted flags in every call that takes it;
- * ship texts there and back, each refusal of their calls, the deck's set for each source ID, and the reader; and some entries
- * of the table of the characters. Tries that nothing beside a table or a reader is written. Says each difference, and fails if
- * there is one.
+ * ship texts there and back, how many nibbles they take, each refusal of their calls, the deck's set for each source ID, and
+ * the reader; the costliest text of each number of symbols; and some entries of the table of the characters. Tries that
+ * nothing beside a table, a reader or a costliest text is written. Says each difference, and fails if there is one.
  */
 #include "lmr5.h"
 
@@ -29,6 +29,15 @@ static void see_that(const char *what, int holds) {
     if (holds)
         return;
     printf("include/lmr5.h: %s: not so\n", what);
+    differences++;
+}
+
+/* The labels and numbers that are given. Where there are none, all are 0. */
+static void see_given(const char *what, lmr5_answer answer, uint32_t given, int64_t first, int64_t second, int64_t third) {
+    if (answer.given == given && answer.first == first && answer.second == second && answer.third == third)
+        return;
+    printf("include/lmr5.h: %s: given %u, numbers %lld, %lld, %lld\n", what, (unsigned)answer.given, (long long)answer.first,
+           (long long)answer.second, (long long)answer.third);
     differences++;
 }
 
@@ -302,15 +311,21 @@ static const uint8_t marks[PUT] = {PLAIN,    ORIGINAL, PLAIN,    PLAIN, ORIGINAL
 static const uint8_t text_nibbles[20] = {12, 1, 15, 4, 1, 10, 10, 15, 2, 0, 1, 15, 6, 1, 15, 0, 0, 15, 15, 15};
 
 static void start_text(void) {
+    lmr5_answer answer;
     start();
-    see("a text", lmr5_put_text(report, ROOM, text, PUT, marks, PUT, &all), 0, 0);
+    answer = lmr5_put_text(report, ROOM, text, PUT, marks, PUT, &all);
+    see("a text", answer, 0, 0);
+    see_given("a text", answer, LMR5_GIVEN_NIBBLES, sizeof text_nibbles, 0, 0);
 }
 
 /* A put that is refused changes nothing. */
 static void see_no_text(const char *what, size_t room, const uint8_t *bytes, size_t length, const uint8_t *origins,
                         size_t origins_length, uint32_t refusal) {
+    lmr5_answer answer;
     memcpy(other, report, ROOM);
-    see(what, lmr5_put_text(report, room, bytes, length, origins, origins_length, &all), refusal, 0);
+    answer = lmr5_put_text(report, room, bytes, length, origins, origins_length, &all);
+    see(what, answer, refusal, 0);
+    see_given(what, answer, LMR5_GIVEN_NOTHING, 0, 0, 0);
     see_that(what, memcmp(report, other, ROOM) == 0);
 }
 
@@ -346,11 +361,17 @@ static void texts_refused(void) {
 /* A fetch that is refused writes neither output. */
 static void see_not_fetched(const char *what, size_t length, size_t origins_length, uint32_t refusal) {
     uint8_t out[LONG], origins[LONG];
+    lmr5_answer answer;
     memset(out, 0xa5, sizeof out);
     memset(origins, 0xa5, sizeof origins);
-    see(what, lmr5_fetch_text(report, ROOM, out, length, origins, origins_length, &all), refusal, 0);
+    answer = lmr5_fetch_text(report, ROOM, out, length, origins, origins_length, &all);
+    see(what, answer, refusal, 0);
+    see_given(what, answer, LMR5_GIVEN_NOTHING, 0, 0, 0);
     see_that(what, is_filled(out, sizeof out) && is_filled(origins, sizeof origins));
 }
+
+/* The labels of what a fetch of a text gives: symbols, set and nibbles. */
+enum { FETCHED = LMR5_GIVEN_COUNT + 256 * LMR5_GIVEN_DECK + 65536 * LMR5_GIVEN_NIBBLES };
 
 /* What the text comes to in two outputs of these lengths. */
 static void see_fetched(const char *what, size_t length, size_t origins_length, int64_t set) {
@@ -360,8 +381,7 @@ static void see_fetched(const char *what, size_t length, size_t origins_length, 
     memset(origins, 0xa5, sizeof origins);
     answer = lmr5_fetch_text(report, ROOM, out, length, origins, origins_length, &all);
     see(what, answer, 0, 0);
-    see_that(what, answer.given == LMR5_GIVEN_COUNT + 256 * LMR5_GIVEN_DECK);
-    see_that(what, answer.first == SYMBOLS && answer.second == set && answer.third == 0);
+    see_given(what, answer, FETCHED, SYMBOLS, set, sizeof text_nibbles);
     see_that(what, memcmp(out, text, SYMBOLS) == 0 && is_filled(out + SYMBOLS, LONG - SYMBOLS));
     see_that(what, memcmp(origins, marks, SYMBOLS) == 0 && is_filled(origins + SYMBOLS, LONG - SYMBOLS));
 }
@@ -381,6 +401,119 @@ static void texts_fetched(void) {
     see_not_fetched("both outputs too short", 0, 0, LMR5_REFUSED_ROOM);
     see_fetched("outputs of the text's length", SYMBOLS, SYMBOLS, LMR5_SET_UNKNOWN);
     see_fetched("longer outputs", LONG, LONG - 1, LMR5_SET_UNKNOWN);
+    start();
+    answer = lmr5_put(report, ROOM, 4, text_nibbles, sizeof text_nibbles, &all);
+    see("a text put by its nibbles", answer, 0, 0);
+    see_given("a text put by its nibbles", answer, LMR5_GIVEN_NOTHING, 0, 0, 0);
+    see_fetched("a text put by its nibbles", LONG, LONG, LMR5_SET_UNKNOWN);
+}
+
+/* The most symbols of a costliest text, the length of a longer output, and room for a report with 255 nibbles of text. */
+enum { MOST = 85, LONGER = MOST + 9, LONG_ROOM = 200 };
+
+/* Puts a text to a report of one other nibble and fetches it again: so many nibbles are written, and read. */
+static void see_nibbles(const char *what, const uint8_t *bytes, const uint8_t *origins, size_t symbols, int64_t due) {
+    uint8_t roomy[LONG_ROOM] = {0}, out[LONGER] = {0}, out_origins[LONGER] = {0};
+    lmr5_answer answer;
+    see(what, lmr5_fresh(1, 1900, 1, 0, 0, roomy, LONG_ROOM), 0, 0);
+    see(what, lmr5_put(roomy, LONG_ROOM, 2, nibbles, 1, &all), 0, 0);
+    answer = lmr5_put_text(roomy, LONG_ROOM, bytes, symbols, origins, symbols, &all);
+    see(what, answer, 0, 0);
+    see_given(what, answer, LMR5_GIVEN_NIBBLES, due, 0, 0);
+    see_that(what, lmr5_judge(roomy, LONG_ROOM, &all).first == (75 + 3 + 1 + 3 + due + 1) / 2);
+    answer = lmr5_fetch_text(roomy, LONG_ROOM, out, LONGER, out_origins, LONGER, &all);
+    see(what, answer, 0, 0);
+    see_given(what, answer, FETCHED, (int64_t)symbols, LMR5_SET_UNKNOWN, due);
+    see_that(what, memcmp(out, bytes, symbols) == 0 && memcmp(out_origins, origins, symbols) == 0);
+}
+
+/* Two nibbles for each 18 spaces; of the rest one each for one or two, and two for more. */
+static int64_t nibbles_of_spaces(size_t spaces) {
+    const size_t rest = spaces % 18;
+    return (int64_t)(2 * (spaces / 18) + (rest < 2 ? rest : 2));
+}
+
+/* Texts of 1 to 85 symbols, each kind by itself: none is refused for its length. */
+static void counts(void) {
+    const uint8_t spaces[3] = {'A', ' ', ' '};
+    uint8_t bytes[MOST], plain[MOST], original[MOST];
+    lmr5_answer answer;
+    memset(plain, PLAIN, MOST);
+    memset(original, ORIGINAL, MOST);
+    for (size_t n = 1; n <= MOST; n++) {
+        memset(bytes, '7', MOST);
+        see_nibbles("digits", bytes, plain, n, (int64_t)n);
+        see_nibbles("original digits", bytes, original, n, 3 * (int64_t)n);
+        memset(bytes, 'Z', MOST);
+        see_nibbles("letters", bytes, plain, n, 2 * (int64_t)n);
+        memset(bytes, ' ', MOST);
+        see_nibbles("original spaces", bytes, original, n, 3 * (int64_t)n);
+        bytes[n - 1] = '7';
+        see_nibbles("spaces and a digit", bytes, plain, n, nibbles_of_spaces(n - 1) + 1);
+        original[n - 1] = PLAIN;
+        see_nibbles("originals and a digit", bytes, original, n, 3 * (int64_t)n - 2);
+        original[n - 1] = ORIGINAL;
+    }
+    start_text();
+    answer = lmr5_put_text(report, ROOM, spaces, 3, plain, 3, &all);
+    see("a shorter text, with spaces at its end", answer, 0, 0);
+    see_given("a shorter text, with spaces at its end", answer, LMR5_GIVEN_NIBBLES, 2, 0, 0);
+}
+
+/* Two outputs for a costliest text, filled anew by each call. */
+static uint8_t costly[LONGER], costly_origins[LONGER];
+
+static lmr5_answer costliest(size_t symbols, size_t length, size_t origins_length) {
+    memset(costly, 0xa5, sizeof costly);
+    memset(costly_origins, 0xa5, sizeof costly_origins);
+    return lmr5_costliest_text(symbols, costly, length, costly_origins, origins_length);
+}
+
+/* It writes neither output. */
+static void see_no_costliest(const char *what, size_t symbols, size_t length, size_t origins_length, uint32_t refusal) {
+    const lmr5_answer answer = costliest(symbols, length, origins_length);
+    see(what, answer, refusal, 0);
+    see_given(what, answer, LMR5_GIVEN_NOTHING, 0, 0, 0);
+    see_that(what, is_filled(costly, LONGER) && is_filled(costly_origins, LONGER));
+}
+
+/* All marks are original, and the rest of both outputs stays. */
+static void see_costliest(const char *what, size_t symbols, size_t length, size_t origins_length) {
+    const lmr5_answer answer = costliest(symbols, length, origins_length);
+    see(what, answer, 0, 0);
+    see_given(what, answer, LMR5_GIVEN_NOTHING, 0, 0, 0);
+    for (size_t i = 0; i < symbols; i++)
+        see_that(what, costly_origins[i] == ORIGINAL);
+    see_that(what, is_filled(costly + symbols, LONGER - symbols) && is_filled(costly_origins + symbols, LONGER - symbols));
+    if (symbols == 0)
+        see_no_text(what, ROOM, costly, 0, costly_origins, 0, LMR5_REFUSED_LENGTH);
+    else
+        see_nibbles(what, costly, costly_origins, symbols, 3 * (int64_t)symbols);
+}
+
+static void costliest_texts(void) {
+    const size_t too_many[8] = {MOST + 1, 128, 255, 256, 256 + MOST, SIZE_MAX / 2 + 1, SIZE_MAX / 2 + 1 + MOST, SIZE_MAX};
+    start();
+    for (size_t n = 0; n <= MOST; n++) {
+        see_costliest("outputs of its length", n, n, n);
+        see_costliest("a longer first output", n, n + 1, n);
+        see_costliest("a longer second output", n, n, n + 1);
+        see_costliest("longer outputs", n, LONGER, LONGER - 1);
+    }
+    for (size_t n = 1; n <= MOST; n++) {
+        see_no_costliest("a first output too short", n, n - 1, n, LMR5_REFUSED_ROOM);
+        see_no_costliest("a second output too short", n, n, n - 1, LMR5_REFUSED_ROOM);
+        see_no_costliest("both outputs too short", n, n - 1, n - 1, LMR5_REFUSED_ROOM);
+        see_no_costliest("no outputs", n, 0, 0, LMR5_REFUSED_ROOM);
+    }
+    for (size_t i = 0; i < 8; i++) {
+        see_no_costliest("too many symbols", too_many[i], LONGER, LONGER, LMR5_REFUSED_VALUE);
+        see_no_costliest("too many symbols, no first output", too_many[i], 0, LONGER, LMR5_REFUSED_VALUE);
+        see_no_costliest("too many symbols, no second output", too_many[i], LONGER, 0, LMR5_REFUSED_VALUE);
+    }
+    see("no symbols, no outputs", lmr5_costliest_text(0, NULL, 0, NULL, 0), 0, 0);
+    see("a symbol, no outputs", lmr5_costliest_text(1, NULL, 0, NULL, 0), LMR5_REFUSED_ROOM, 0);
+    see("86 symbols, no outputs", lmr5_costliest_text(MOST + 1, NULL, 0, NULL, 0), LMR5_REFUSED_VALUE, 0);
 }
 
 static int64_t set_of(int64_t sid) {
@@ -474,28 +607,33 @@ static void forged_readers(void) {
     }
 }
 
-/* A text put and fetched by a script, with one byte more in the first output. */
+/* A text put and fetched by a script, with one byte more in the first output; then one that is refused. */
 static void replayed_texts(void) {
-    const uint8_t script[43] = {
+    const uint8_t script[62] = {
         LMR5_SCRIPT_PUT_TEXT,   0, 0, 0, 0, 0, 0, 0, 2, 'A', 'a',  0, 0, 0, 0, 0, 0, 0, 2, PLAIN, ORIGINAL,
-        LMR5_SCRIPT_FETCH_TEXT, 0, 0, 0, 0, 0, 0, 0, 3, 7,   7, 7, 0, 0, 0, 0, 0, 0, 0, 2, 8, 8};
-    const uint8_t due[79] = {
+        LMR5_SCRIPT_FETCH_TEXT, 0, 0, 0, 0, 0, 0, 0, 3, 7,   7, 7, 0, 0, 0, 0, 0, 0, 0, 2, 8, 8,
+        LMR5_SCRIPT_PUT_TEXT,   0, 0, 0, 0, 0, 0, 0, 1, 'a', 0, 0, 0, 0, 0, 0, 0, 1, PLAIN};
+    const uint8_t due[116] = {
         LMR5_LOG_ACCEPTED, 0, 0, 0, 0, 0, 0, 0, 0, 0,
-        0, 0, 0, 0, 0, 0, 0, 0, 0,
+        LMR5_GIVEN_NIBBLES, 0, 0, 0, 0, 0, 0, 0, 5,
         0, 0, 0, 0, 0, 0, 0, 0, 0,
         0, 0, 0, 0, 0, 0, 0, 0, 0,
         LMR5_LOG_ACCEPTED, 0, 0, 0, 0, 0, 0, 0, 0, 0,
         LMR5_GIVEN_COUNT, 0, 0, 0, 0, 0, 0, 0, 2,
         LMR5_GIVEN_DECK, 0, 0, 0, 0, 0, 0, 0, LMR5_SET_EBCDIC,
+        LMR5_GIVEN_NIBBLES, 0, 0, 0, 0, 0, 0, 0, 5,
+        'A', 'a', 7, PLAIN, ORIGINAL,
+        LMR5_LOG_REFUSED, LMR5_REFUSED_CONTENT, 0, 0, 0, 0, 0, 0, 0, 0,
         0, 0, 0, 0, 0, 0, 0, 0, 0,
-        'A', 'a', 7, PLAIN, ORIGINAL};
+        0, 0, 0, 0, 0, 0, 0, 0, 0,
+        0, 0, 0, 0, 0, 0, 0, 0, 0};
     uint8_t log[sizeof due];
     lmr5_performed performed;
     memset(log, 0xa5, sizeof log);
     start();
     see("SID 23", lmr5_set_field(report, ROOM, LMR5_SID, 23, &all), 0, 0);
     performed = lmr5_replay(report, ROOM, script, sizeof script, log, sizeof log, &all);
-    see_that("texts replayed", performed.calls == 2 && performed.taken == sizeof script && performed.written == sizeof log);
+    see_that("texts replayed", performed.calls == 3 && performed.taken == sizeof script && performed.written == sizeof log);
     see_that("their records", memcmp(log, due, sizeof due) == 0);
 }
 
@@ -531,12 +669,14 @@ int main(void) {
     texts_refused();
     texts_fetched();
     sets();
+    counts();
+    costliest_texts();
     readers();
     forged_readers();
     replayed_texts();
     characters();
     if (differences == 0)
         puts("include/lmr5.h: the numbers of refusals and flags as in the library, its tables of flags, its texts and their "
-             "reader, and entries of the table of the characters");
+             "reader, the costliest texts, and entries of the table of the characters");
     return differences != 0;
 }

@@ -67,7 +67,7 @@ typedef struct lmr5_answer {
  * A label is a byte that says what a number is. The lowest byte of `given` is the label of `first`, the next that of `second`,
  * the one after that of `third`; the highest is 0. A call that gives one number has its label alone in `given`. Where the
  * number is missing, its label has LMR5_GIVEN_MISSING added: a missing field is LMR5_GIVEN_VALUE + LMR5_GIVEN_MISSING.
- * No answer has labels 4 to 7 or 9 yet: lmr5_unpack stores those numbers in `contents`.
+ * No answer has labels 4 to 7 yet: lmr5_unpack stores those numbers in `contents`.
  */
 enum lmr5_given {
     LMR5_GIVEN_NOTHING = 0,     /* no number */
@@ -79,7 +79,7 @@ enum lmr5_given {
     LMR5_GIVEN_RPTIN = 6,
     LMR5_GIVEN_ATTACHMENTS = 7, /* AC, how many attachments */
     LMR5_GIVEN_BYTES = 8,       /* a report's size in bytes */
-    LMR5_GIVEN_NIBBLES = 9,     /* so many nibbles */
+    LMR5_GIVEN_NIBBLES = 9,     /* how many nibbles of content a ship text takes */
     LMR5_GIVEN_DECK = 10,       /* the character set of the input deck: enum lmr5_set */
     LMR5_GIVEN_MISSING = 128    /* added to a label: the number is missing, which is not 0 */
 };
@@ -95,7 +95,8 @@ enum lmr5_refusal {
     LMR5_REFUSED_PADDING = 7,     /* the padding nibble is not 0 */
     /* by an argument */
     LMR5_REFUSED_NUMBER = 8,      /* no such field (1 to 46), flag (1 to 14) or id (1 to 15); a wrong bit of a presence word */
-    LMR5_REFUSED_VALUE = 9,       /* value out of range, or a flag not permitted; place: the field or flag */
+    LMR5_REFUSED_VALUE = 9,       /* value out of range, or a flag not permitted; place: the field or flag. Or a costliest
+                                     text of over 85 symbols, place 0 */
     LMR5_REFUSED_REQUIRED = 10,   /* required field cleared, or absent in pack; place: the field */
     LMR5_REFUSED_NO_SUCH = 11,    /* no such attachment */
     LMR5_REFUSED_LENGTH = 12,     /* a content without nibbles, or with over 255 */
@@ -313,6 +314,8 @@ lmr5_answer lmr5_drop(uint8_t *report, size_t report_length, size_t id, const lm
  * byte, and the deck's character set says what it stands for: 193 is A in EBCDIC. Nothing is translated: the byte is the
  * deck's. Spaces are plain ones only; an original 32 ends a run of them, and is kept at the end of a text.
  * A text takes two buffers, with a byte for each symbol and no 0 at the end: `text` has the bytes, `origins` a mark for each.
+ * A text of n symbols takes at most 3 n nibbles of content, and 1 to 255 where n is 1 to 85 and the last symbol is no plain
+ * space.
  */
 enum lmr5_origin {
     LMR5_ORIGIN_PLAIN = 0,
@@ -327,18 +330,20 @@ enum lmr5_set {
 };
 
 /*
- * Puts the ship text. Plain spaces at its end are dropped. Gives nothing.
+ * Puts the ship text. Plain spaces at its end are not written. Gives how many nibbles of content were written, 1 to 255; the
+ * three of the attachment's header are not counted. The label is LMR5_GIVEN_NIBBLES.
  * Refusals: the report's refusals; 13 where `text` and `origins` differ in length; 14 where any of the symbols is a plain byte
  * without a short code, or has a mark over 1; 12 where the text has no nibble or over 255; 13 where the buffer is shorter than
- * the new report. 85 symbols never have over 255 nibbles.
+ * the new report. A text of 1 to 85 symbols, of which the last is no plain space, is never refused by 12.
  */
 lmr5_answer lmr5_put_text(uint8_t *report, size_t report_length, const uint8_t *text, size_t text_length,
                           const uint8_t *origins, size_t origins_length, const lmr5_flag_table *table);
 
 /*
- * Writes the bytes of the ship text to the front of `text` and their marks to the front of `origins`. Gives two numbers:
+ * Writes the bytes of the ship text to the front of `text` and their marks to the front of `origins`. Gives three numbers:
  * `first` is how many symbols there are, LMR5_GIVEN_COUNT; `second` is one of enum lmr5_set, LMR5_GIVEN_DECK, by the SID that
- * the report has now. So `given` is LMR5_GIVEN_COUNT + 256 * LMR5_GIVEN_DECK. The rest of both outputs stays.
+ * the report has now; `third` is how many nibbles of content were read, LMR5_GIVEN_NIBBLES, as lmr5_put_text counts them. So
+ * `given` is LMR5_GIVEN_COUNT + 256 * LMR5_GIVEN_DECK + 65536 * LMR5_GIVEN_NIBBLES. The rest of both outputs stays.
  * Refusals: the report's refusals; 11 without id 4; 13 where either output is shorter than the text, and neither is then
  * written. 2295 bytes each always do.
  */
@@ -391,6 +396,20 @@ lmr5_answer lmr5_open_text(const uint8_t *report, size_t report_length, lmr5_tex
 lmr5_symbol lmr5_next_symbol(const uint8_t *report, size_t report_length, lmr5_text_reader *reader);
 
 /*
+ * ---- the costliest ship text
+ */
+
+/*
+ * Writes a text of `symbols` symbols that takes 3 nibbles a symbol, which is the most that any text takes: its bytes to the
+ * front of `text`, their marks to the front of `origins`. No text of as many symbols needs more room in a report. Every mark
+ * is LMR5_ORIGIN_ORIGINAL. The library chooses the bytes; a later version may choose others. Of 0 symbols it writes nothing.
+ * Takes no report and no table. Gives nothing. The rest of both outputs stays.
+ * Refusals: 9, place 0, where `symbols` is over 85; 13 where either output is shorter than the text, and neither is then
+ * written. 85 bytes each always do.
+ */
+lmr5_answer lmr5_costliest_text(size_t symbols, uint8_t *text, size_t text_length, uint8_t *origins, size_t origins_length);
+
+/*
  * ---- the characters of the ship text
  */
 
@@ -426,7 +445,7 @@ void lmr5_character_table(uint16_t table[256]);
  *     the call is accepted.
  *   - A row of three numbers, 9 bytes each: a label, and the number in 8 bytes, the highest first, in two's complement. The
  *     number is 0 where it is missing. All 9 are 0 where there is no such number, and so all 27 where the call is refused.
- *     READ_FIELD, READ_FLAG and FETCH give one number, FETCH_TEXT two, the others none.
+ *     READ_FIELD, READ_FLAG, FETCH and PUT_TEXT give one number, FETCH_TEXT three, the others none.
  *   - The outputs after the call, whole and in their order. FETCH has one, of n bytes, FETCH_TEXT two, of n and of m bytes, for
  *     the text and its origins; the others have none.
  * So a record takes 37 bytes, for FETCH n more and for FETCH_TEXT n + m more, whether the call is accepted or not.

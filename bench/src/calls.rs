@@ -225,6 +225,31 @@ fn characters(bed: &mut Bed) -> Option<Line> {
     ))
 }
 
+/// Takes no report, so that it is measured once: 85 symbols, to outputs that just have room.
+fn costliest(bed: &mut Bed) -> Option<Line> {
+    if bed.size > 38 {
+        return None;
+    }
+    let mut ours = ([0; 85], [0; 85]);
+    let mut theirs = ([0; 85], [0; 85]);
+    Some(measure(
+        "costliest",
+        bed.size,
+        &mut |turns| {
+            for _ in 0..turns {
+                let (bytes, origins) = black_box(&mut ours);
+                black_box(library::costliest_text(black_box(85), bytes, origins).refusal);
+            }
+        },
+        &mut |turns| {
+            for _ in 0..turns {
+                let (bytes, origins) = black_box(&mut theirs);
+                black_box(fast::costliest_text(black_box(85), bytes, origins).is_ok());
+            }
+        },
+    ))
+}
+
 fn unpack(bed: &mut Bed) -> Line {
     let room = tail_of(&bed.observation).len();
     let outputs = || (vec![0i64; 46], vec![0u8; room]);
@@ -627,7 +652,7 @@ fn replay(bed: &mut Bed) -> Line {
 
 type Measured = fn(&mut Bed) -> Option<Line>;
 
-const CALLS: [(&str, Measured); 25] = [
+const CALLS: [(&str, Measured); 26] = [
     ("judge", |bed| Some(judge(bed))),
     ("fresh", fresh),
     ("unpack", |bed| Some(unpack(bed))),
@@ -658,6 +683,7 @@ const CALLS: [(&str, Measured); 25] = [
     ("read_small", |bed| {
         Some(read_text_line(&small(bed)?, "read_small"))
     }),
+    ("costliest", costliest),
     ("characters", characters),
     ("all_flags", all_flags),
     ("load_flags", load_flags),

@@ -2,7 +2,9 @@
 //! implementation.
 
 use reference::call::Call;
+use reference::cases::material::fresh_observation;
 use reference::cases::{Case, Outcome};
+use reference::edit::put_text;
 use reference::gate::script;
 use reference::number::Number;
 use reference::outside::Unpacked;
@@ -46,9 +48,12 @@ fn of_fetched(answer: Result<fast::Fetched, fast::Refusal>) -> Answer {
     match answer {
         Err(r) => refusal(r.number, r.place.into()),
         Ok(fetched) => Answer {
-            given: fast::Label::Count as u32 | (fast::Label::Deck as u32) << 8,
+            given: fast::Label::Count as u32
+                | (fast::Label::Deck as u32) << 8
+                | (fast::Label::Nibbles as u32) << 16,
             first: fetched.symbols as i64,
             second: fetched.set as i64,
+            third: fetched.nibbles.into(),
             ..Answer::default()
         },
     }
@@ -166,6 +171,13 @@ impl Side {
         match self {
             Side::Library => library::characters(table),
             Side::Rust => calls::characters(table),
+        }
+    }
+
+    pub fn costliest_text(self, symbols: usize, text: &mut [u8], origins: &mut [u8]) -> Answer {
+        match self {
+            Side::Library => library::costliest_text(symbols, text, origins),
+            Side::Rust => of_fast(calls::costliest_text(symbols, text, origins)),
         }
     }
 
@@ -298,6 +310,13 @@ fn contents_of(result: Result<Unpacked, Refusal>) -> (Answer, [u64; 6]) {
     }
 }
 
+/// What the independent implementation answers to a put of a text.
+fn put_to_fresh(text: &[u8], origins: &[u8]) -> Result<usize, Refusal> {
+    let mut buffer = fresh_observation().packing();
+    buffer.resize(200, 0);
+    put_text(&mut buffer, text, origins, &permitted_of(&ALL))
+}
+
 /// Runs a case on a side; whether answer and bytes are the independent implementation's.
 /// Cases of the lister, of same and of the trips have no call here.
 pub fn agrees(side: Side, trial: &Trial) -> bool {
@@ -384,6 +403,28 @@ pub fn agrees(side: Side, trial: &Trial) -> bool {
             let answer = side.read_out_to(report, &mut text, &mut origins, table);
             let result = result.map(|fetched| vec![Number::count(fetched.symbols)]);
             answer == of_reference(result) && text == due_text && origins == due_origins
+        }
+        (
+            Case::Costliest {
+                symbols,
+                text,
+                origins,
+            },
+            Outcome::Costliest {
+                result,
+                text: due_text,
+                origins: due_origins,
+            },
+        ) => {
+            let (mut text, mut origins) = (text.clone(), origins.clone());
+            let answer = side.costliest_text(*symbols as usize, &mut text, &mut origins);
+            // The bytes are each side's choice: the same has to come of putting them.
+            let n = result.map_or(0, |due| due.symbols);
+            let put = result.map(|_| put_to_fresh(&text[..n], &origins[..n]));
+            answer == of_reference(result.map(|_| Vec::new()))
+                && text[n..] == due_text[n..]
+                && origins == due_origins
+                && put == result.map(|due| due.put)
         }
         (Case::Calls { buffer, calls }, _) => list_agrees(side, buffer, calls, table),
         _ => true,

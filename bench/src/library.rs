@@ -138,6 +138,13 @@ mod symbols {
             origins_n: usize,
             table: *const FlagTable,
         ) -> Answer;
+        pub fn lmr5_costliest_text(
+            symbols: usize,
+            text: *mut u8,
+            text_n: usize,
+            origins: *mut u8,
+            origins_n: usize,
+        ) -> Answer;
         pub fn lmr5_open_text(
             report: *const u8,
             n: usize,
@@ -307,6 +314,19 @@ pub fn fetch_text(s: &[u8], text: &mut [u8], origins: &mut [u8], table: &FlagTab
             origins.as_mut_ptr(),
             origins.len(),
             table,
+        )
+    }
+}
+
+#[inline(always)]
+pub fn costliest_text(symbols: usize, text: &mut [u8], origins: &mut [u8]) -> Answer {
+    unsafe {
+        symbols::lmr5_costliest_text(
+            symbols,
+            text.as_mut_ptr(),
+            text.len(),
+            origins.as_mut_ptr(),
+            origins.len(),
         )
     }
 }

@@ -91,6 +91,7 @@ fn main() {
     println!(
         "put_small, fetch_small, read_small: the text in small letters, which are original; read: opened and read out, each step a call"
     );
+    println!("costliest: the costliest text of 85 symbols");
     let lines = measured(only.as_deref());
     if lines.is_empty() {
         eprintln!("bench: no call of that name");

@@ -3,7 +3,7 @@
 use bench::FlagTable;
 use bench::compare::{SIDES, Side, agrees};
 use bench::fast::reader::{Reader, Symbol};
-use bench::fast::{Fetched, Given, Refusal, Set, calls, flags, whole};
+use bench::fast::{Answer, Fetched, Given, Label, Refusal, Set, calls, flags, whole};
 use bench::reports::{SIZES, observation, small_observation};
 use bench::trials::{ALL, Trial, permitted_of, random_table, trials};
 use reference::call::Call;
@@ -196,15 +196,99 @@ fn put_text_is_refused_in_the_order_of_its_checks() {
     }
 }
 
+/// What put text answers that wrote so many nibbles of content.
+fn nibbles(number: i64) -> Answer {
+    let label = Label::Nibbles;
+    Ok(Given { label, number })
+}
+
+/// Spaces at the end of a text are not written.
+#[test]
+fn nibbles_of_a_text_are_counted_there_and_back() {
+    let cases: [(&[u8], &[u8], i64, usize); 9] = [
+        (b"7", &[0], 1, 1),
+        (b"Z", &[0], 2, 1),
+        (b" ", &[1], 3, 1),
+        (b"A1a", &[0, 0, 1], 6, 3),
+        (b"A1  ", &[0; 4], 3, 2),
+        (b"1  2", &[0; 4], 4, 4),
+        (b"1                  2", &[0; 20], 4, 20),
+        (&[b'5'; 255], &[0; 255], 255, 255),
+        (&[b'a'; 85], &[1; 85], 255, 85),
+    ];
+    let mut buffer = fresh_observation().packing();
+    buffer.resize(200, 0);
+    for (bytes, origins, number, symbols) in cases {
+        let put = calls::put_text(&mut buffer, bytes, origins, &ALL);
+        assert_eq!(put, nibbles(number), "{bytes:?}");
+        let due = Fetched {
+            symbols,
+            set: Set::Unknown,
+            nibbles: number as u8,
+        };
+        let fetched = calls::fetch_text(&buffer, &mut [0; 300], &mut [0; 300], &ALL);
+        assert_eq!(fetched, Ok(due), "{bytes:?}");
+    }
+}
+
+/// Of 0 symbols there is no nibble to put.
+#[test]
+fn the_costliest_text_takes_three_nibbles_a_symbol() {
+    for symbols in 0..=85 {
+        for side in SIDES {
+            let (mut bytes, mut origins) = ([0xA5; 90], [0x5A; 91]);
+            let answer = side.costliest_text(symbols, &mut bytes, &mut origins[..85]);
+            assert_eq!((answer.refusal, answer.given), (0, 0), "{side:?}");
+            assert!(origins[..symbols].iter().all(|&origin| origin == 1));
+            assert!(bytes[symbols..].iter().all(|&byte| byte == 0xA5));
+            assert!(origins[symbols..].iter().all(|&origin| origin == 0x5A));
+            let mut buffer = fresh_observation().packing();
+            buffer.resize(200, 0);
+            let put = calls::put_text(&mut buffer, &bytes[..symbols], &origins[..symbols], &ALL);
+            let (number, place) = (12, 0);
+            let due = match symbols {
+                0 => Err(Refusal { number, place }),
+                _ => nibbles(3 * symbols as i64),
+            };
+            assert_eq!(put, due, "{side:?}");
+        }
+    }
+}
+
+/// 9 comes before 13, and neither output is written.
+#[test]
+fn a_costliest_text_is_refused_in_the_order_of_its_checks() {
+    for (symbols, room, number) in [
+        (86, [86, 86], 9),
+        (86, [0, 0], 9),
+        (256, [90, 90], 9),
+        (1 << 32, [90, 90], 9),
+        (usize::MAX, [90, 0], 9),
+        (85, [84, 85], 13),
+        (85, [85, 84], 13),
+        (1, [0, 0], 13),
+    ] {
+        for side in SIDES {
+            let (mut bytes, mut origins) = (vec![0xA5; room[0]], vec![0xA5; room[1]]);
+            let answer = side.costliest_text(symbols, &mut bytes, &mut origins);
+            let given = (answer.refusal, answer.place, answer.given);
+            assert_eq!(given, (number, 0, 0), "{side:?}: {symbols}");
+            let both = bytes.iter().chain(&origins);
+            assert_eq!(both.filter(|&&byte| byte != 0xA5).count(), 0);
+        }
+    }
+}
+
 #[test]
 fn each_source_id_has_its_set() {
     let mut buffer = observation_with(&[(4, &[15, 4, 1])]).packing();
     let set = |buffer: &[u8]| {
         let (mut bytes, mut origins) = ([0xA5; 2], [0xA5; 3]);
         let fetched = calls::fetch_text(buffer, &mut bytes, &mut origins, &ALL);
-        let Fetched { symbols, set } = fetched.expect("a text");
-        assert_eq!((symbols, bytes, origins), (1, [65, 0xA5], [1, 0xA5, 0xA5]));
-        set
+        let fetched = fetched.expect("a text");
+        assert_eq!((fetched.symbols, fetched.nibbles), (1, 3));
+        assert_eq!((bytes, origins), ([65, 0xA5], [1, 0xA5, 0xA5]));
+        fetched.set
     };
     assert_eq!(set(&buffer), Set::Unknown);
     for sid in 0..=254 {
@@ -306,8 +390,8 @@ fn examples_of_the_specification() {
     assert_eq!(done, Ok(Given::NOTHING));
     assert_eq!(buffer[25..27], [0x14, 0x18]);
     assert_eq!(buffer[36], 251);
-    let done = calls::put_text(&mut buffer, b"A1", &[0, 0], &ALL);
-    assert_eq!(done, Ok(Given::NOTHING));
+    let put = calls::put_text(&mut buffer, b"A1", &[0, 0], &ALL);
+    assert_eq!(put, nibbles(3));
     assert_eq!(buffer[37..41], [0x10, 0x34, 0xC1, 0x10]);
     assert_eq!(buffer[36], 251);
 }

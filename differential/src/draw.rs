@@ -19,7 +19,7 @@ use crate::{calls, flag_tables, reports, scripts};
 pub fn trials(seed: u64, case: u64) -> Vec<Trial> {
     let mut prng = prng_of(seed, case);
     let flags = flag_tables::table(&mut prng);
-    let given = match prng.below(32) {
+    let given = match prng.below(34) {
         0..3 => vec![Given::Whole(judge_case(&mut prng, &flags))],
         3..6 => vec![Given::Whole(unpack_case(&mut prng, &flags))],
         6..10 => vec![Given::Whole(pack_case(&mut prng, &flags))],
@@ -33,7 +33,8 @@ pub fn trials(seed: u64, case: u64) -> Vec<Trial> {
         }
         27 => vec![Given::AllFlags],
         28..31 => vec![Given::Whole(read_out_case(&mut prng, &flags))],
-        _ => vec![forged(&mut prng, &flags)],
+        31 => vec![forged(&mut prng, &flags)],
+        _ => vec![Given::Whole(costliest_case(&mut prng))],
     };
     let under = |given: Given| given.under(flags);
     given.into_iter().map(under).collect()
@@ -176,6 +177,25 @@ fn read_out_case(prng: &mut Prng, flags: &FlagTable) -> Case {
     let (text, origins) = (room(prng, count), room(prng, count));
     Case::ReadOut {
         report,
+        text: prng.bytes(text),
+        origins: prng.bytes(origins),
+    }
+}
+
+/// A number of symbols up to the most, about it or far above it, and outputs that are
+/// most often long enough.
+fn costliest_case(prng: &mut Prng) -> Case {
+    let any = prng.below(86) as u64;
+    let symbols = match prng.below(8) {
+        0 => prng.pick(&[0, 0, 84, 85, 85]),
+        1 => prng.pick(&[86, 86, 87, 255, 256, 1 << 32, 1 << 63, u64::MAX]),
+        2 => calls::widened(prng, any),
+        _ => any,
+    };
+    let needed = symbols.min(300) as usize;
+    let (text, origins) = (room(prng, needed), room(prng, needed));
+    Case::Costliest {
+        symbols,
         text: prng.bytes(text),
         origins: prng.bytes(origins),
     }

@@ -7,7 +7,7 @@ use reference::gate::script;
 use reference::judge::judge;
 use reference::line::hex;
 use reference::number::Number;
-use reference::outside::{characters, fresh, pack, unpack};
+use reference::outside::{characters, costliest, fresh, pack, unpack};
 use reference::reader::{self, Reader};
 use reference::refusal::Refusal;
 use reference::text::{self, Table};
@@ -79,7 +79,7 @@ fn with_flags(mut outcome: Outcome, flags: &FlagTable) -> Outcome {
     outcome
 }
 
-/// Judge, fresh, unpack, pack, characters, load or read out.
+/// Judge, fresh, unpack, pack, characters, load, read out or costliest.
 pub fn whole(case: &Case, flags: &FlagTable) -> Outcome {
     match case {
         Case::Judge { report } => {
@@ -133,6 +133,15 @@ pub fn whole(case: &Case, flags: &FlagTable) -> Outcome {
             read_out(report, text.clone(), origins.clone(), flags),
             flags,
         ),
+        Case::Costliest {
+            symbols,
+            text,
+            origins,
+        } => {
+            let (mut text, mut origins) = (text.clone(), origins.clone());
+            let result = costliest(*symbols, &mut text, &mut origins).map(|()| Vec::new());
+            outcome(result, &[("text", &text), ("origins", &origins)])
+        }
         Case::Lister { .. }
         | Case::Same { .. }
         | Case::Restore { .. }
@@ -170,6 +179,13 @@ pub fn all_flags() -> Outcome {
         buffers: Vec::new(),
     };
     with_flags(nothing, &FlagTable::all())
+}
+
+/// Whether bytes and origins are a right choice of a costliest text: put text takes
+/// each of them for a symbol, and the writer gives three nibbles for each.
+pub fn is_costliest(bytes: &[u8], origins: &[u8]) -> bool {
+    let symbols = text::symbols(bytes, origins);
+    symbols.is_some_and(|symbols| text::write(&symbols).len() == 3 * symbols.len())
 }
 
 /// A reader's numbers, its symbols and three times the end, which leaves it as it was;

@@ -3,9 +3,11 @@
 use reference::call::Call;
 use reference::cases::Case;
 use reference::flag_table::FlagTable;
+use reference::text;
 
 use crate::expected::{
     NUMBERS, Outcome, Said, bytes_of_entries, bytes_of_numbers, bytes_of_steps, bytes_of_values,
+    is_costliest,
 };
 use crate::fence::{Fenced, MARKED, state_of};
 use crate::library::{Answer, END, Flags, Library, Reader, Symbol};
@@ -72,7 +74,7 @@ impl Harness {
         self.flags.hold(&flags.marks()).cast()
     }
 
-    /// Judge, fresh, unpack, pack, characters, load or read out.
+    /// Judge, fresh, unpack, pack, characters, load, read out or costliest.
     pub fn whole(&mut self, case: &Case, flags: &FlagTable) -> Outcome {
         match case {
             Case::Judge { report } => {
@@ -121,6 +123,11 @@ impl Harness {
                 text,
                 origins,
             } => self.read_out(report, text.clone(), origins.clone(), flags),
+            Case::Costliest {
+                symbols,
+                text,
+                origins,
+            } => self.costliest(*symbols as usize, text, origins),
             Case::Lister { .. }
             | Case::Same { .. }
             | Case::Restore { .. }
@@ -254,6 +261,31 @@ impl Harness {
             }
         }
         (steps, kept)
+    }
+
+    /// A right choice counts as that of the independent implementation. A wrong one is
+    /// left as it is.
+    fn costliest(&mut self, symbols: usize, text: &[u8], origins: &[u8]) -> Outcome {
+        let (text_n, origins_n) = (text.len(), origins.len());
+        let text_at = hold(&mut self.output, text, self.null);
+        let origins_at = hold(&mut self.origins_output, origins, self.null);
+        let answer = unsafe {
+            (self.library.costliest_text)(symbols, text_at, text_n, origins_at, origins_n)
+        };
+        let (mut text, mut origins) = (self.output.state(), self.origins_output.state());
+        if answer.refusal == 0 && symbols <= text_n.min(origins_n) {
+            let bytes = &mut text[MARKED..][..symbols];
+            let marks = &mut origins[MARKED..][..symbols];
+            if is_costliest(bytes, marks) {
+                let chosen = text::costliest(symbols);
+                bytes.copy_from_slice(&text::bytes(&chosen));
+                marks.copy_from_slice(&text::origins(&chosen));
+            }
+        }
+        Outcome {
+            said: Said::Answer(answer),
+            buffers: vec![("text", text), ("origins", origins)],
+        }
     }
 
     /// Steps of a reader of any numbers.

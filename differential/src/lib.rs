@@ -1,4 +1,4 @@
-//! The independent implementation beside a library of the twenty-one calls, on
+//! The independent implementation beside a library of the twenty-two calls, on
 //! random cases, with every buffer between fences.
 
 pub mod calls;

@@ -1,4 +1,4 @@
-//! The twenty-one calls as C sees them.
+//! The twenty-two calls as C sees them.
 
 /// The refusal and its place; the labels of the numbers that are given, the first
 /// one's in the lowest byte; the numbers.
@@ -104,6 +104,7 @@ pub struct Library {
     ) -> Answer,
     pub open_text: unsafe extern "C" fn(*const u8, usize, *mut Reader, *const Flags) -> Answer,
     pub next_symbol: unsafe extern "C" fn(*const u8, usize, *mut Reader) -> Symbol,
+    pub costliest_text: unsafe extern "C" fn(usize, *mut u8, usize, *mut u8, usize) -> Answer,
     pub replay: unsafe extern "C" fn(
         *mut u8,
         usize,

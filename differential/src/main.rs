@@ -106,6 +106,13 @@ unsafe extern "C" {
         flags: *const Flags,
     ) -> Answer;
     fn lmr5_next_symbol(report: *const u8, n: usize, reader: *mut Reader) -> Symbol;
+    fn lmr5_costliest_text(
+        symbols: usize,
+        text: *mut u8,
+        text_n: usize,
+        origins: *mut u8,
+        origins_n: usize,
+    ) -> Answer;
     fn lmr5_replay(
         report: *mut u8,
         n: usize,
@@ -138,6 +145,7 @@ const LIBRARY: Library = Library {
     fetch_text: lmr5_fetch_text,
     open_text: lmr5_open_text,
     next_symbol: lmr5_next_symbol,
+    costliest_text: lmr5_costliest_text,
     replay: lmr5_replay,
     character_table: lmr5_character_table,
     all_flags: lmr5_all_flags,

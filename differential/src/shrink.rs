@@ -150,6 +150,27 @@ fn smaller_cases(case: &Case) -> Vec<Case> {
             });
         }
     }
+    if let Case::Costliest {
+        symbols,
+        text,
+        origins,
+    } = case
+    {
+        for fewer in smaller_numbers(*symbols) {
+            with(&|case| {
+                if let Case::Costliest { symbols, .. } = case {
+                    *symbols = fewer;
+                }
+            });
+        }
+        for pair in one_shorter(text, origins) {
+            with(&|case| {
+                if let Case::Costliest { text, origins, .. } = case {
+                    (*text, *origins) = pair.clone();
+                }
+            });
+        }
+    }
     if let Case::Unpack { tail, .. } | Case::Pack { tail, .. } = case {
         for shorter in shorter(tail) {
             with(&|case| {
@@ -186,6 +207,17 @@ fn smaller_cases(case: &Case) -> Vec<Case> {
             });
         }
     }
+    smaller
+}
+
+/// Half a number, the number without one of its bits, and a small one less 1.
+fn smaller_numbers(number: u64) -> Vec<u64> {
+    let mut smaller = vec![number / 2];
+    smaller.extend((0..64).map(|bit| number & !(1 << bit)));
+    if number <= 256 {
+        smaller.push(number.saturating_sub(1));
+    }
+    smaller.retain(|&other| other < number);
     smaller
 }
 

@@ -1,4 +1,4 @@
-//! The independent implementation behind the twenty-one calls, in place of a library.
+//! The independent implementation behind the twenty-two calls, in place of a library.
 
 use std::slice::{from_raw_parts, from_raw_parts_mut};
 
@@ -31,6 +31,7 @@ pub const STAND_IN: Library = Library {
     fetch_text,
     open_text,
     next_symbol,
+    costliest_text,
     replay,
     character_table,
     all_flags,
@@ -325,6 +326,18 @@ pub unsafe extern "C" fn next_symbol(report: *const u8, n: usize, numbers: *mut 
     };
     let byte = symbol.byte().into();
     Symbol { kind, byte }
+}
+
+pub unsafe extern "C" fn costliest_text(
+    symbols: usize,
+    text: *mut u8,
+    text_n: usize,
+    origins: *mut u8,
+    origins_n: usize,
+) -> Answer {
+    let (text, origins) = unsafe { (output(text, text_n), output(origins, origins_n)) };
+    let written = outside::costliest(symbols as u64, text, origins);
+    answer(written.map(|()| Vec::new()))
 }
 
 pub unsafe extern "C" fn replay(

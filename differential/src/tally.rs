@@ -1,6 +1,7 @@
 //! How often each call came to each refusal, to one because of the table of flags and
 //! to a CK at an edge, how often put text was refused for each reason and fetch text gave
-//! each set, and how often each symbol was put.
+//! each set, how often each symbol was put, and how often a costliest text had no symbol,
+//! the most, or a number between.
 
 use std::collections::BTreeMap;
 use std::fmt;
@@ -18,8 +19,8 @@ use crate::expected::{Outcome, Said};
 use crate::fence::MARKED;
 
 /// A run of so many calls has to see every refusal that a call can meet, every one
-/// that the table of flags can decide, every reason of put text, every set and every
-/// symbol put.
+/// that the table of flags can decide, every reason of put text, every set, every
+/// symbol put, and costliest texts of no symbol, of the most and of a number between.
 pub const DEFAULT_CALLS: u64 = 2_000_000;
 
 const REFUSALS: [usize; 15] = [1, 2, 3, 4, 5, 6, 7, 8, 9, 10, 11, 12, 13, 14, 16];
@@ -28,6 +29,7 @@ const HIGHEST: usize = 16;
 const REPLAY: usize = 15;
 const ALL_FLAGS: usize = 18;
 const FORGED: usize = 20;
+const COSTLIEST: usize = 21;
 
 /// Why put text is refused by 13 or by 14.
 const REASONS: [(usize, &str); 4] = [
@@ -40,6 +42,9 @@ const REASONS: [(usize, &str); 4] = [
 /// The sets that fetch text gives; one is unknown by the source ID or by its absence.
 const SETS: [&str; 4] = ["EBCDIC", "ASCII", "unknown", "missing"];
 
+/// How many symbols an accepted costliest text has.
+const LENGTHS: [&str; 3] = ["0", "1 to 84", "85"];
+
 /// Fresh, pack, set field and clear field work CK out; where the report is then.
 const WRITERS: [(usize, &str); 4] = [(1, "output"), (3, "output"), (5, "report"), (6, "report")];
 
@@ -50,7 +55,7 @@ const BY_FLAGS: [usize; 3] = [6, 9, 14];
 const EDGES: [u64; 3] = [254, 0, 1];
 
 /// Each call with the refusals that it can meet.
-const CALLS: [(&str, &[usize]); 21] = [
+const CALLS: [(&str, &[usize]); 22] = [
     ("judge", &[1, 2, 3, 4, 5, 6, 7]),
     ("fresh", &[9, 13]),
     ("unpack", &[1, 2, 3, 4, 5, 6, 7, 13]),
@@ -72,12 +77,13 @@ const CALLS: [(&str, &[usize]); 21] = [
     ("all flags", &[]),
     ("read out", &[1, 2, 3, 4, 5, 6, 7, 11, 13]),
     ("forged", &[]),
+    ("costliest", &[9, 13]),
 ];
 
 /// The refusals of a call that the table of flags can decide.
 fn refusals_by_flags(name: &str) -> &'static [usize] {
     match name {
-        "fresh" | "replay" | "characters" | "load" | "all flags" | "forged" => &[],
+        "fresh" | "replay" | "characters" | "load" | "all flags" | "forged" | "costliest" => &[],
         "set flag" => &[6, 9],
         "put" => &[6, 14],
         _ => &[6],
@@ -97,6 +103,7 @@ pub struct Tally {
     /// By reason; a text with both a bad byte and a bad origin is not counted.
     reasons: [u64; REASONS.len()],
     sets: [u64; SETS.len()],
+    lengths: [u64; LENGTHS.len()],
     /// Symbols that an accepted put text has written; trailing plain spaces are not.
     put: BTreeMap<Symbol, u64>,
     performed: u64,
@@ -113,6 +120,7 @@ impl Tally {
             Case::Characters { .. } => 16,
             Case::Load { .. } => 17,
             Case::ReadOut { .. } => 19,
+            Case::Costliest { .. } => COSTLIEST,
             Case::Lister { .. }
             | Case::Same { .. }
             | Case::Restore { .. }
@@ -120,6 +128,18 @@ impl Tally {
             | Case::Calls { .. } => unreachable!("not a call of the library"),
         };
         self.add(row, outcome, by_flags);
+        if let (Case::Costliest { symbols, .. }, 0) = (case, outcome.refusal()) {
+            self.add_length(*symbols);
+        }
+    }
+
+    fn add_length(&mut self, symbols: u64) {
+        let length = match symbols {
+            0 => 0,
+            1..=84 => 1,
+            _ => 2,
+        };
+        self.lengths[length] += 1;
     }
 
     pub fn add_all_flags(&mut self) {
@@ -209,8 +229,8 @@ impl Tally {
     }
 
     /// The calls that were never accepted or never came to a refusal that they can
-    /// meet, the refusals that the table of flags never decided, the reasons and the sets
-    /// that were never met, and the symbols that were never put.
+    /// meet, the refusals that the table of flags never decided, the reasons, the sets and
+    /// the lengths that were never met, and the symbols that were never put.
     pub fn unseen(&self) -> Vec<String> {
         let mut unseen = Vec::new();
         for ((name, refusals), counts) in CALLS.iter().zip(&self.counts) {
@@ -233,6 +253,9 @@ impl Tally {
         }
         for set in unmet(&SETS, &self.sets) {
             unseen.push(format!("fetch text, set {set}"));
+        }
+        for length in unmet(&LENGTHS, &self.lengths) {
+            unseen.push(format!("costliest, accepted for {length} symbols"));
         }
         for symbol in all_symbols() {
             if !self.put.contains_key(&symbol) {
@@ -320,6 +343,7 @@ impl fmt::Display for Tally {
         let reasons = REASONS.map(|(_, reason)| reason);
         fmt_row(f, "put text by", &reasons, &self.reasons)?;
         fmt_row(f, "sets given", &SETS, &self.sets)?;
+        fmt_row(f, "costliest of", &LENGTHS, &self.lengths)?;
         let least = self.put.values().min().unwrap_or(&0);
         let (put, all) = (self.put.len(), all_symbols().len());
         writeln!(f, "symbols put: {put} of {all}, each {least} times or more")?;

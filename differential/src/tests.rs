@@ -1,6 +1,7 @@
 //! The harness finds what it is there to find. No library is needed.
 
 mod altered;
+mod costliest;
 mod flag_tables;
 mod texts;
 
@@ -132,6 +133,13 @@ fn answers_have_the_header_s_form() {
         place,
         ..Answer::default()
     };
+    let with_set_and_nibbles = Answer {
+        given: 3 + 256 * 10 + 65536 * 9,
+        first: 2,
+        second: 0,
+        third: 2,
+        ..Answer::default()
+    };
     let (mut harness, all) = (Harness::new(STAND_IN), FlagTable::all());
     for (case, answer) in [
         (
@@ -188,7 +196,21 @@ fn answers_have_the_header_s_form() {
                 text: output(),
                 origins: output(),
             },
-            answer(3 + 256 * 10, 2),
+            with_set_and_nibbles,
+        ),
+        (
+            Call::PutText {
+                text: b"9   ".to_vec(),
+                origins: vec![0; 4],
+            },
+            answer(9, 1),
+        ),
+        (
+            Call::Put {
+                id: 4,
+                content: vec![9],
+            },
+            answer(0, 0),
         ),
         (Call::SetFlag { flag: 3, value: 1 }, answer(0, 0)),
         (Call::Drop { id: 4 }, answer(0, 0)),

@@ -2,8 +2,8 @@
 //! crates/format, its reader with what is stored to one, and its numbers with the definitions: fields, contents, kinds of a
 //! script's entries, the log's first bytes, labels, marks of origin, sets of a deck, kinds of symbols, the longest report.
 //! Compares the field table of docs/FORMAT.md with the definitions. Says each difference, and fails if there is one. Its
-//! argument is the repository's folder. refusals.c tries the numbers of refusals and flags, the table of flags, ship texts and
-//! their reader, and the table of the characters.
+//! argument is the repository's folder. refusals.c tries the numbers of refusals and flags, the table of flags, ship texts,
+//! their nibbles and their reader, the costliest texts, and the table of the characters.
 mod code;
 mod header;
 mod page;

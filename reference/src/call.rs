@@ -60,9 +60,8 @@ impl Call {
             Call::Fetch { id, .. } => edit::fetch(buffer, *id, &mut outputs[0], table)
                 .map(|count| vec![Number::count(count)]),
             Call::Drop { id } => edit::drop_attachment(buffer, *id, table).map(nothing),
-            Call::PutText { text, origins } => {
-                edit::put_text(buffer, text, origins, table).map(nothing)
-            }
+            Call::PutText { text, origins } => edit::put_text(buffer, text, origins, table)
+                .map(|nibbles| vec![Number::nibbles(nibbles)]),
             Call::FetchText { .. } => {
                 let [text, origins] = &mut outputs[..] else {
                     unreachable!("fetch text has two outputs");

@@ -116,13 +116,14 @@ pub fn drop_attachment(buffer: &mut [u8], id: u64, table: &FlagTable) -> Result<
     replace(buffer, &report, whole, &[], report.ac - 1)
 }
 
-/// Puts a text: its bytes, and an origin for each.
+/// Puts a text: its bytes, and an origin for each. Gives how many nibbles are written
+/// behind the header.
 pub fn put_text(
     buffer: &mut [u8],
     text: &[u8],
     origins: &[u8],
     table: &FlagTable,
-) -> Result<(), Refusal> {
+) -> Result<usize, Refusal> {
     let report = judge(buffer, table)?;
     if text.len() != origins.len() {
         return Err(refusal(13, 0));
@@ -132,7 +133,8 @@ pub fn put_text(
     if nibbles.is_empty() || nibbles.len() > LONGEST {
         return Err(refusal(12, 0));
     }
-    put_nibbles(buffer, &report, text::ID, &nibbles)
+    put_nibbles(buffer, &report, text::ID, &nibbles)?;
+    Ok(nibbles.len())
 }
 
 /// What fetch text gives beside the two outputs.
@@ -140,11 +142,17 @@ pub fn put_text(
 pub struct Fetched {
     pub symbols: usize,
     pub set: CharacterSet,
+    /// Those that are read behind the header.
+    pub nibbles: usize,
 }
 
 impl Fetched {
     pub fn numbers(self) -> Vec<Number> {
-        vec![Number::count(self.symbols), Number::set(self.set)]
+        vec![
+            Number::count(self.symbols),
+            Number::set(self.set),
+            Number::nibbles(self.nibbles),
+        ]
     }
 }
 
@@ -157,6 +165,7 @@ pub fn fetch_text(
 ) -> Result<Fetched, Refusal> {
     let report = judge(buffer, table)?;
     let data = standing(&report, u64::from(text::ID))?;
+    let nibbles = data.len();
     let symbols = text::read(&nibbles_of(buffer)[data]).expect("an accepted body has a text");
     if text.len().min(origins.len()) < symbols.len() {
         return Err(refusal(13, 0));
@@ -166,6 +175,7 @@ pub fn fetch_text(
     Ok(Fetched {
         symbols: symbols.len(),
         set: report.observation.set(),
+        nibbles,
     })
 }
 

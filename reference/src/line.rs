@@ -1,7 +1,7 @@
 //! A case and its outcome as one line of text.
 
 use crate::call::{Answer, Call};
-use crate::cases::{Case, Outcome};
+use crate::cases::{Case, Chosen, Outcome};
 use crate::flag_table::FlagTable;
 use crate::judge::Report;
 use crate::number::Number;
@@ -71,6 +71,11 @@ pub fn inputs(case: &Case) -> String {
             text,
             origins,
         } => format!("read-out {} {} {}", hex(report), hex(text), hex(origins)),
+        Case::Costliest {
+            symbols,
+            text,
+            origins,
+        } => format!("costliest {symbols} {} {}", hex(text), hex(origins)),
         Case::Calls { buffer, calls } => {
             let mut parts = vec![format!("calls {}", hex(buffer))];
             parts.extend(calls.iter().map(call));
@@ -147,6 +152,11 @@ fn outcome(outcome: &Outcome) -> String {
             let answer = accepted(result, |given| numbered(&given.numbers()));
             format!("{answer} {} {}", hex(text), hex(origins))
         }
+        Outcome::Costliest {
+            result,
+            text,
+            origins,
+        } => costliest(result, text, origins),
         Outcome::Calls(answers) => {
             let answers: Vec<String> = answers
                 .iter()
@@ -193,6 +203,20 @@ fn unpacked(given: &Unpacked) -> String {
         "ok {} {} {} {} {} {}",
         given.word, given.present, given.rptin, given.ac, given.bytes, given.tail
     )
+}
+
+/// Without the bytes that were chosen.
+fn costliest(result: &Result<Chosen, Refusal>, text: &[u8], origins: &[u8]) -> String {
+    let answer = accepted(result, |_| "ok".into());
+    let symbols = result.map_or(0, |chosen| chosen.symbols);
+    let answer = format!("{answer} {} {}", hex(origins), hex(&text[symbols..]));
+    match result {
+        Ok(chosen) => {
+            let put = accepted(&chosen.put, |nibbles| format!("ok {nibbles}"));
+            format!("{answer} ; {put}")
+        }
+        Err(_) => answer,
+    }
 }
 
 fn call_answer(answer: &Answer, buffer: &[u8]) -> String {

@@ -21,7 +21,7 @@ pub enum Quantity {
     Attachments = 7,
     /// A report's size in bytes.
     Bytes = 8,
-    /// A tail's length in nibbles.
+    /// How many nibbles a tail or a text has.
     Nibbles = 9,
     /// The character set of the input deck.
     Set = 10,
@@ -70,6 +70,13 @@ impl Number {
         Number {
             quantity: Quantity::Bytes,
             value: Some(bytes as i64),
+        }
+    }
+
+    pub fn nibbles(nibbles: usize) -> Number {
+        Number {
+            quantity: Quantity::Nibbles,
+            value: Some(nibbles as i64),
         }
     }
 

@@ -1,4 +1,4 @@
-//! The calls outside the list: fresh, unpack, pack, same and characters.
+//! The calls outside the list: fresh, unpack, pack, same, characters and costliest.
 
 use crate::attachment::{Attachment, next_attachment};
 use crate::card::{CARD_BYTES, CARD_NIBBLES};
@@ -107,6 +107,22 @@ pub fn same(first: &[u8], second: &[u8], table: &FlagTable) -> Result<bool, Refu
 /// Writes the table of the characters over all that stood there.
 pub fn characters(table: &mut text::Table) {
     *table = text::table();
+}
+
+/// Writes a text of so many symbols that takes the most nibbles: its bytes to one
+/// output and its origins to another.
+pub fn costliest(symbols: u64, text: &mut [u8], origins: &mut [u8]) -> Result<(), Refusal> {
+    if symbols > text::MOST_SYMBOLS as u64 {
+        return Err(refusal(9, 0));
+    }
+    let n = symbols as usize;
+    if text.len() < n || origins.len() < n {
+        return Err(refusal(13, 0));
+    }
+    let chosen = text::costliest(n);
+    text[..n].copy_from_slice(&text::bytes(&chosen));
+    origins[..n].copy_from_slice(&text::origins(&chosen));
+    Ok(())
 }
 
 fn has_bit(word: u64, bit: usize) -> bool {

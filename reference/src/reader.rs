@@ -68,16 +68,21 @@ pub fn read_out(
     origins: &mut [u8],
     table: &FlagTable,
 ) -> Result<Fetched, Refusal> {
-    let reader = Reader::open(report, table);
+    let mut reader = Reader::open(report, table);
     reader.opened()?;
-    let count = reader.clone().count();
-    if text.len().min(origins.len()) < count {
+    let start = reader.place;
+    let symbols = reader.clone().count();
+    if text.len().min(origins.len()) < symbols {
         return Err(refusal(13, 0));
     }
-    for ((symbol, byte), origin) in reader.zip(text).zip(origins) {
+    for ((symbol, byte), origin) in reader.by_ref().zip(text).zip(origins) {
         (*byte, *origin) = (symbol.byte(), symbol.origin());
     }
     let set = judge(report, table)?.observation.set();
-    let symbols = count;
-    Ok(Fetched { symbols, set })
+    let nibbles = reader.place - start;
+    Ok(Fetched {
+        symbols,
+        set,
+        nibbles,
+    })
 }

@@ -249,8 +249,16 @@ fn gives(observation: &Observation, call: &Call) -> (Vec<Number>, Vec<Vec<u8>>) 
         Call::FetchText { .. } => {
             let nibbles = observation.content(TEXT_ID).expect("id 4 stands");
             let text = text::read(nibbles).expect("id 4 holds a text");
-            let given = vec![Number::count(text.len()), Number::set(observation.set())];
+            let given = vec![
+                Number::count(text.len()),
+                Number::set(observation.set()),
+                Number::nibbles(nibbles.len()),
+            ];
             (given, vec![text::bytes(&text), text::origins(&text)])
+        }
+        Call::PutText { .. } => {
+            let (_, nibbles) = content_of(call).expect("a put has content");
+            (vec![Number::nibbles(nibbles.len())], Vec::new())
         }
         _ => (Vec::new(), Vec::new()),
     }

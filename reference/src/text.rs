@@ -6,6 +6,9 @@ pub const ID: u8 = 4;
 pub const PLAIN: u8 = 0;
 pub const ORIGINAL: u8 = 1;
 
+/// The most symbols of which every text fits an attachment.
+pub const MOST_SYMBOLS: usize = 85;
+
 const SPACE: u8 = b' ';
 /// The longest run of spaces that one pair of nibbles takes.
 const FULL_RUN: usize = 18;
@@ -167,6 +170,15 @@ pub fn write(text: &[Symbol]) -> Vec<u8> {
         spaces = 0;
     }
     nibbles
+}
+
+/// A text of so many symbols that takes the most nibbles. Each is original, with three
+/// nibbles: a plain one has two at the most, and a run of spaces no more than it has
+/// spaces. Which bytes they are does not matter.
+pub fn costliest(symbols: usize) -> Vec<Symbol> {
+    (0..symbols)
+        .map(|place| Symbol::original(place as u8))
+        .collect()
 }
 
 /// The symbol that the next code stands for, and how often, or none at the end, where

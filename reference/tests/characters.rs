@@ -9,8 +9,9 @@ use common::all_flags::{line, run_case, run_list};
 use common::{SHORT, plain, table_by_hand};
 use reference::call::{Answer, Call};
 use reference::cases::material::{all_symbols, symbols_of};
-use reference::cases::{Case, Outcome, fixed, flag_tables, symbols};
+use reference::cases::{Case, Outcome, costliest, fixed, flag_tables, symbols};
 use reference::gate::{SEED, list_cases, record, text_cases, whole_cases};
+use reference::number::Number;
 use reference::outside::characters;
 use reference::prng::Prng;
 use reference::refusal::refusal;
@@ -177,12 +178,12 @@ fn records_by_hand() {
     assert_eq!(input, [&[9][..], &[0xFF, 0xFE].repeat(256)].concat());
 }
 
-/// Before the cases of the table of flags and of symbols, the fixed ones and the gate's
-/// end with the same arrays.
+/// Before the cases of the table of flags, of symbols and of the costliest text, the fixed
+/// ones and the gate's end with the same arrays.
 #[test]
 fn cases_end_with_arrays() {
     let before_flags = |mut cases: Vec<Case>| {
-        let behind = [flag_tables::cases(), symbols::cases()].concat();
+        let behind = [flag_tables::cases(), symbols::cases(), costliest::cases()].concat();
         assert!(cases.ends_with(&behind));
         cases.truncate(cases.len() - behind.len());
         cases
@@ -249,7 +250,7 @@ fn texts() -> Texts {
                 Call::PutText { text, origins } => {
                     let text = text::symbols(&text, &origins).unwrap();
                     let due = match length_by_hand(&text) {
-                        1..=255 => Ok(Vec::new()),
+                        nibbles @ 1..=255 => Ok(vec![Number::nibbles(nibbles)]),
                         _ => Err(refusal(12, 0)),
                     };
                     assert_eq!(answer.result, due, "{text:?}");

@@ -39,7 +39,7 @@ fn s_set_to_286_then_text_a1() {
     assert_eq!(buffer[25..27], [0x14, 0x18]);
     assert_eq!(judge(&buffer).unwrap().ck, 251);
     assert_eq!(buffer[36..38], [0xFB, 0]);
-    assert_eq!(put_text(&mut buffer, b"A1", &[0, 0]), Ok(()));
+    assert_eq!(put_text(&mut buffer, b"A1", &[0, 0]), Ok(3));
     assert_eq!(buffer[36], 0xFB);
     assert_eq!(buffer[37..41], [0x10, 0x34, 0xC1, 0x10]);
     let report = judge(&buffer).unwrap();
@@ -86,9 +86,10 @@ fn s_below_its_range() {
 fn nibbles_of_text(text: &[u8], origin: u8) -> Vec<u8> {
     let mut buffer = fresh_buffer(200);
     let origins = vec![origin; text.len()];
-    assert_eq!(put_text(&mut buffer, text, &origins), Ok(()));
+    let written = put_text(&mut buffer, text, &origins);
     let mut output = [0xEE; 255];
     let count = fetch(&buffer, 4, &mut output).unwrap();
+    assert_eq!(written, Ok(count));
     output[..count].to_vec()
 }
 
@@ -112,7 +113,7 @@ fn three_spaces_spelled_out() {
 #[test]
 fn eighty_five_escapes_fit_and_eighty_six_do_not() {
     let mut buffer = fresh_buffer(200);
-    assert_eq!(put_text(&mut buffer, &[b'a'; 85], &[1; 85]), Ok(()));
+    assert_eq!(put_text(&mut buffer, &[b'a'; 85], &[1; 85]), Ok(255));
     let after = buffer.clone();
     let refusal = put_text(&mut buffer, &[b'a'; 86], &[1; 86]);
     assert_eq!(refusal, refused(12, 0));

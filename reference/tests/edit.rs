@@ -167,17 +167,18 @@ fn r12_content() {
     refuses(&buffer, 12, 0, |b| put_text(b, &[b'7'; 86], &[1; 86]));
     refuses(&buffer, 12, 0, |b| put_text(b, &[b' '; 86], &[1; 86]));
     let mut after = buffer.clone();
-    for (text, origins) in [
-        (vec![b'7'; 255], vec![0; 255]),
-        (vec![b'Z'; 127], vec![0; 127]),
-        (vec![b'7'; 85], vec![1; 85]),
-        (vec![b' '; 85], vec![1; 85]),
+    for (text, origins, nibbles) in [
+        (vec![b'7'; 255], vec![0; 255], 255),
+        (vec![b'Z'; 127], vec![0; 127], 254),
+        (vec![b'7'; 85], vec![1; 85], 255),
+        (vec![b' '; 85], vec![1; 85], 255),
         (
             [vec![b'a'; 85], vec![b' '; 9]].concat(),
             [[1; 85].to_vec(), vec![0; 9]].concat(),
+            255,
         ),
     ] {
-        assert_eq!(put_text(&mut after, &text, &origins), Ok(()));
+        assert_eq!(put_text(&mut after, &text, &origins), Ok(nibbles));
     }
 }
 
@@ -311,7 +312,7 @@ fn r14_symbols() {
     let mut plain = 0;
     for byte in 0..=255 {
         let mut after = buffer.clone();
-        assert_eq!(put_text(&mut after, &[byte, b'1'], &[1, 0]), Ok(()));
+        assert_eq!(put_text(&mut after, &[byte, b'1'], &[1, 0]), Ok(4));
         if put_text(&mut after, &[byte, b'1'], &[0, 0]).is_ok() {
             plain += 1;
         } else {
@@ -344,9 +345,9 @@ fn puts_keep_the_order_and_drops_close_it() {
     assert_eq!(drop_attachment(&mut buffer, 9), Ok(()));
     assert_eq!(put(&mut buffer, 9, &[2]), Ok(()));
     assert_eq!(ids(&buffer), [2, 7, 9]);
-    assert_eq!(put_text(&mut buffer, b"1", &[0]), Ok(()));
+    assert_eq!(put_text(&mut buffer, b"1", &[0]), Ok(1));
     assert_eq!(put(&mut buffer, 4, &[2]), Ok(()));
-    assert_eq!(put_text(&mut buffer, b" 3", &[0, 1]), Ok(()));
+    assert_eq!(put_text(&mut buffer, b" 3", &[0, 1]), Ok(4));
     assert_eq!(ids(&buffer), [2, 7, 9, 4]);
 }
 

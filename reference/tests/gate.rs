@@ -171,7 +171,7 @@ fn by_hand() -> Vec<(Call, &'static str, &'static str)> {
                 origins: vec![0, 0],
             },
             "0A 0000000000000002 4131 0000000000000002 0000",
-            "01 00 0000000000000000",
+            "01 00 0000000000000000 09 0000000000000003",
         ),
         (
             Call::FetchText {
@@ -188,7 +188,7 @@ fn by_hand() -> Vec<(Call, &'static str, &'static str)> {
             },
             "0B 0000000000000003 070809 0000000000000004 04050607",
             "01 00 0000000000000000 03 0000000000000002 0A 0000000000000000
-             | 413109 00000607",
+             09 0000000000000003 | 413109 00000607",
         ),
         (
             Call::SetField {
@@ -205,7 +205,7 @@ fn by_hand() -> Vec<(Call, &'static str, &'static str)> {
             },
             "0B 0000000000000002 0708 0000000000000002 0506",
             "01 00 0000000000000000 03 0000000000000002 0A 0000000000000002
-             | 4131 0000",
+             09 0000000000000003 | 4131 0000",
         ),
         (
             Call::ClearField { field: 10 },
@@ -369,8 +369,8 @@ fn rows_by_hand() {
     }
 }
 
-/// A record has 37 bytes and the outputs, refused or not. Fetch text gives two
-/// numbers, and no other call more than one.
+/// A record has 37 bytes and the outputs, refused or not. Fetch text gives three
+/// numbers, put text one, and no other call more than one.
 #[test]
 fn records_of_every_list() {
     for list in list_cases::lists(SEED) {
@@ -389,11 +389,11 @@ fn records_of_every_list() {
                 }
                 Ok(numbers) => {
                     assert_eq!(record[..10], [1, 0, 0, 0, 0, 0, 0, 0, 0, 0], "{call:?}");
-                    let most = match call {
-                        Call::FetchText { .. } => 2,
-                        _ => 1,
-                    };
-                    assert!(numbers.len() <= most, "{call:?}");
+                    match call {
+                        Call::FetchText { .. } => assert_eq!(numbers.len(), 3),
+                        Call::PutText { .. } => assert_eq!(numbers.len(), 1),
+                        _ => assert!(numbers.len() <= 1, "{call:?}"),
+                    }
                     let mut row = Vec::new();
                     for number in numbers {
                         row.push(number.label());
@@ -703,7 +703,8 @@ fn read_out_records_by_hand() {
         &report,
         &hex("0003 EEEEEE 0004 DDDDDDDD"),
     ];
-    let answer = hex("02 00 0000000000000002 0000000000000000 4131EE 0000DDDD");
+    let answer = hex("02 00 0000000000000002 0000000000000000 0000000000000003
+                      4131EE 0000DDDD");
     assert_eq!(both(&read_out(3, 4)), (input.concat(), answer));
     let input = [&hex("0B 0029")[..], &report, &hex("0002 EEEE 0001 DD")];
     let answer = hex("00 0D 0000000000000000 EEEE DD");
@@ -716,6 +717,59 @@ fn read_out_records_by_hand() {
     let input = [&hex("0B 0026")[..], &fresh_buffer(38), &hex("0000 0001 DD")];
     let answer = hex("00 0B 0000000000000000 DD");
     assert_eq!(both(&absent), (input.concat(), answer));
+}
+
+/// Two symbols take six nibbles, and none take none, which put text refuses.
+#[test]
+fn costliest_records_by_hand() {
+    let costliest = |symbols, text, origins| Case::Costliest {
+        symbols,
+        text: vec![0xEE; text],
+        origins: vec![0xDD; origins],
+    };
+    for (case, input, answer) in [
+        (
+            costliest(2, 3, 4),
+            "0C 0000000000000002 0003 EEEEEE 0004 DDDDDDDD",
+            "01 00 0000000000000000 0101DDDD EE 02 00 0000000000000006",
+        ),
+        (
+            costliest(0, 1, 0),
+            "0C 0000000000000000 0001 EE 0000",
+            "01 00 0000000000000000 EE 00 0C 0000000000000000",
+        ),
+        (
+            costliest(2, 1, 2),
+            "0C 0000000000000002 0001 EE 0002 DDDD",
+            "00 0D 0000000000000000 DDDD EE",
+        ),
+        (
+            costliest(2, 2, 1),
+            "0C 0000000000000002 0002 EEEE 0001 DD",
+            "00 0D 0000000000000000 DD EEEE",
+        ),
+        (
+            costliest(86, 1, 2),
+            "0C 0000000000000056 0001 EE 0002 DDDD",
+            "00 09 0000000000000000 DDDD EE",
+        ),
+        (
+            costliest(u64::MAX, 0, 0),
+            "0C FFFFFFFFFFFFFFFF 0000 0000",
+            "00 09 0000000000000000",
+        ),
+    ] {
+        assert_eq!(both(&case), (hex(input), hex(answer)));
+    }
+    let (input, answer) = both(&costliest(85, 85, 85));
+    let lent = [hex("0C 0000000000000055 0055"), vec![0xEE; 85]].concat();
+    assert_eq!(input, [lent, hex("0055"), vec![0xDD; 85]].concat());
+    let nibbles = hex("02 00 00000000000000FF");
+    let head = hex("01 00 0000000000000000");
+    assert_eq!(answer, [head, vec![1; 85], nibbles].concat());
+    assert!(record::fits(&costliest(0, 200, 200)));
+    assert!(!record::fits(&costliest(0, 201, 0)));
+    assert!(!record::fits(&costliest(0, 0, 201)));
 }
 
 /// A text of 2287 symbols is the longest; its outputs may have 2400 bytes.
@@ -779,6 +833,7 @@ fn whole_files_meet_every_refusal_and_keep_their_limits() {
         ("recover", &[0, 1, 5, 6, 8, 9, 10, 13, 14]),
         ("load", &[0, 16]),
         ("read out", &[0, 1, 2, 3, 4, 5, 6, 7, 11, 13]),
+        ("costliest", &[0, 9, 13]),
     ] {
         let met: Vec<u8> = files.tally.refusals(kind);
         assert_eq!(met, refusals, "{kind}");

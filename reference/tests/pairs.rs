@@ -18,6 +18,7 @@ fn refusal_of(case: &Case) -> Option<Refusal> {
         Outcome::Restore { result, .. } => result.err(),
         Outcome::Recover { result, .. } => result.err(),
         Outcome::ReadOut { result, .. } => result.err(),
+        Outcome::Costliest { result, .. } => result.err(),
         Outcome::Calls(answers) => answers[0].0.result.clone().err(),
     }
 }
@@ -111,4 +112,11 @@ fn pairs_of_reading_out() {
     }
     assert!(has_pair(is_read_out, 4, 13));
     assert!(has_pair(is_read_out, 11, 13));
+}
+
+#[test]
+fn pairs_of_the_costliest_text() {
+    let is_costliest = |case: &Case| matches!(case, Case::Costliest { .. });
+    assert!(has_pair(is_costliest, 9, 13));
+    assert!(!has_pair(is_costliest, 13, 9));
 }

@@ -92,10 +92,11 @@ fn texts_go_in_and_come_out_without_trailing_spaces() {
             let mut buffer = random_observation(&mut prng).packing();
             buffer.resize(buffer.len() + 150, 0);
             let put = put_text(&mut buffer, &bytes(&text), &origins(&text));
-            assert_eq!(put, Ok(()));
+            assert_eq!(put, Ok(nibbles.len()));
             let (mut out, mut marks) = (vec![0xEE; kept.len() + 2], vec![0xDD; kept.len() + 1]);
             let fetched = fetch_text(&buffer, &mut out, &mut marks);
-            assert_eq!(fetched.map(|given| given.symbols), Ok(kept.len()));
+            let counts = fetched.map(|given| (given.symbols, given.nibbles));
+            assert_eq!(counts, Ok((kept.len(), nibbles.len())));
             assert_eq!(out, [bytes(kept), vec![0xEE; 2]].concat());
             assert_eq!(marks, [origins(kept), vec![0xDD]].concat());
         }

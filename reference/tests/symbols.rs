@@ -61,6 +61,7 @@ fn the_set_of_every_source_id() {
         let (mut text, mut marks) = ([0xEE], [0xEE]);
         let given = fetch_text(&report, &mut text, &mut marks).unwrap();
         assert_eq!((given.symbols, given.set as i64), (1, due), "{sid:?}");
+        assert_eq!(given.nibbles, 3);
         assert_eq!((text, marks), ([b'A'], [1]));
         assert_eq!(read_out(&report, &mut text, &mut marks), Ok(given));
     }
@@ -98,7 +99,8 @@ fn the_set_is_the_one_at_that_moment() {
             quantity: Quantity::Set,
             value: Some(due),
         };
-        assert_eq!(result, Ok(vec![Number::count(1), set]));
+        let nibbles = Number::nibbles(3);
+        assert_eq!(result, Ok(vec![Number::count(1), set, nibbles]));
         assert_eq!(outputs, [vec![b'A'], vec![1]]);
     }
 }
@@ -109,7 +111,7 @@ fn an_original_byte_comes_back_as_it_was() {
     for sid in [None, Some(1), Some(4)] {
         for byte in 0..=255 {
             let mut buffer = report_of_sid(sid);
-            assert_eq!(put_text(&mut buffer, &[byte], &[1]), Ok(()));
+            assert_eq!(put_text(&mut buffer, &[byte], &[1]), Ok(3));
             let mut nibbles = [0xEE; 3];
             assert_eq!(fetch(&buffer, 4, &mut nibbles), Ok(3));
             assert_eq!(nibbles, [15, byte / 16, byte % 16]);
@@ -125,7 +127,8 @@ fn a_plain_byte_comes_back_as_it_was() {
     for (byte, entry) in SHORT {
         let mut buffer = fresh_buffer(60);
         // A digit stands behind it, as a space at the end is dropped.
-        assert_eq!(put_text(&mut buffer, &[byte, b'5'], &[0, 0]), Ok(()));
+        let written = put_text(&mut buffer, &[byte, b'5'], &[0, 0]);
+        assert_eq!(written, Ok(usize::from(entry >> 12) + 1));
         let mut nibbles = [0xEE; 3];
         let code: Vec<u8> = match entry >> 12 {
             1 => vec![(entry & 15) as u8, 5, 0xEE],
@@ -192,6 +195,7 @@ fn the_reader_gives_each_symbol_once_and_then_the_end() {
         let (mut text, mut marks) = (vec![0xEE; n + 1], vec![0xDD; n + 2]);
         let given = read_out(&report, &mut text, &mut marks).unwrap();
         assert_eq!((given.symbols, given.set), (n, CharacterSet::Unknown));
+        assert_eq!(given.nibbles, nibbles.len());
         assert_eq!(text, [bytes(&symbols), vec![0xEE]].concat());
         assert_eq!(marks, [origins(&symbols), vec![0xDD; 2]].concat());
     }
@@ -386,7 +390,7 @@ fn answered() -> Vec<Vec<(Call, Answer)>> {
 }
 
 /// Each put text is refused as its rules say, and comes back without trailing plain
-/// spaces.
+/// spaces. Both calls give the number of nibbles that are left.
 #[test]
 fn every_text_of_the_lists_by_hand() {
     let (mut by_room, mut fetched) = (0, 0);
@@ -402,8 +406,10 @@ fn every_text_of_the_lists_by_hand() {
                         Some(due) => assert_eq!(number, due, "{call:?}"),
                         None if number == 13 => by_room += 1,
                         None => {
-                            assert_eq!(answer.result, Ok(Vec::new()), "{call:?}");
                             let mut symbols = reference::text::symbols(text, origins).unwrap();
+                            let nibbles = nibbles_by_hand(&symbols).len();
+                            let given = vec![Number::nibbles(nibbles)];
+                            assert_eq!(answer.result, Ok(given), "{call:?}");
                             while symbols.last() == Some(&Symbol::SPACE) {
                                 symbols.pop();
                             }
@@ -421,6 +427,8 @@ fn every_text_of_the_lists_by_hand() {
                         fetched += 1;
                         let numbers = answer.result.unwrap();
                         assert_eq!(numbers[0], Number::count(n));
+                        let nibbles = nibbles_by_hand(symbols).len();
+                        assert_eq!(numbers[2..], [Number::nibbles(nibbles)]);
                         let bytes = [&bytes(symbols)[..], &text[n..]].concat();
                         let marks = [&reference::text::origins(symbols)[..], &origins[n..]];
                         assert_eq!(answer.outputs, [bytes, marks.concat()]);

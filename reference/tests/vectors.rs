@@ -197,7 +197,7 @@ fn texts_by_hand() {
     let (before, after) = (format!("{fresh}A5A5A5A5A5"), format!("{report}A5"));
     assert_eq!(after.len(), before.len());
     let calls = "put-text 312041 000001 ; fetch-text EEEEEEEE DDDDDD ; put-text - 00";
-    let answers = format!("ok {after} ; ok 3 0 {after} 312041EE 000001 ; refused 13 0 {after}");
+    let answers = format!("ok 5 {after} ; ok 3 0 5 {after} 312041EE 000001 ; refused 13 0 {after}");
     assert_eq!(
         line(&case),
         format!("calls {before} ; {calls} -> {answers}")
@@ -209,12 +209,30 @@ fn texts_by_hand() {
     };
     assert_eq!(
         line(&read_out(4, 3)),
-        format!("read-out {report} EEEEEEEE DDDDDD -> ok 3 0 312041EE 000001")
+        format!("read-out {report} EEEEEEEE DDDDDD -> ok 3 0 5 312041EE 000001")
     );
     assert_eq!(
         line(&read_out(0, 3)),
         format!("read-out {report} - DDDDDD -> refused 13 0 - DDDDDD")
     );
+}
+
+#[test]
+fn costliest_texts_by_hand() {
+    for (symbols, text, origins, written) in [
+        (2, 3, 4, "EEEEEE DDDDDDDD -> ok 0101DDDD EE ; ok 6"),
+        (1, 1, 1, "EE DD -> ok 01 - ; ok 3"),
+        (0, 0, 1, "- DD -> ok DD - ; refused 12 0"),
+        (2, 1, 2, "EE DDDD -> refused 13 0 DDDD EE"),
+        (86, 0, 1, "- DD -> refused 9 0 DD -"),
+    ] {
+        let case = Case::Costliest {
+            symbols,
+            text: vec![0xEE; text],
+            origins: vec![0xDD; origins],
+        };
+        assert_eq!(line(&case), format!("costliest {symbols} {written}"));
+    }
 }
 
 #[test]
@@ -258,6 +276,7 @@ fn vectors_meet_every_refusal_and_accept() {
         "pack ",
         "load ",
         "read-out ",
+        "costliest ",
         "calls ",
     ];
     for kind in kinds {

@@ -205,7 +205,10 @@ pub fn put_text(s: &mut [u8], t: &[u8], origins: &[u8], table: &FlagTable) -> An
     let mut ns = [0; text::ROOM];
     match text::write(t, origins, &mut ns) {
         Ok(0) => refused(12, 0),
-        Ok(n) => put_nibbles(s, &r, 4, &ns[..n]),
+        Ok(n) => {
+            put_nibbles(s, &r, 4, &ns[..n])?;
+            Ok(given(Label::Nibbles, n as i64))
+        }
         Err(number) => refused(number, 0),
     }
 }
@@ -247,7 +250,22 @@ pub fn fetch_text(
     Ok(Fetched {
         symbols: text::read(ns, &mut out[..room], &mut origins[..room]),
         set: set_of(code(card_of(s), 10)),
+        nibbles: r.al as u8,
     })
+}
+
+/// Any byte will do.
+#[inline(never)]
+pub fn costliest_text(symbols: usize, out: &mut [u8], origins: &mut [u8]) -> Answer {
+    if symbols > 85 {
+        return refused(9, 0);
+    }
+    let (Some(out), Some(origins)) = (out.get_mut(..symbols), origins.get_mut(..symbols)) else {
+        return refused(13, 0);
+    };
+    out.fill(b'a');
+    origins.fill(1);
+    Ok(Given::NOTHING)
 }
 
 #[inline(never)]

@@ -29,6 +29,7 @@ pub enum Label {
     Flag = 2,
     Count = 3,
     Bytes = 8,
+    Nibbles = 9,
     Deck = 10,
     MissingValue = 129,
     MissingFlag = 130,
@@ -62,11 +63,13 @@ pub enum Set {
     Ascii = 2,
 }
 
-/// What fetch text gives: how many symbols it wrote, and the deck's set.
+/// What fetch text gives: how many symbols it wrote, the deck's set, and how many nibbles of
+/// content it read.
 #[derive(Clone, Copy, Debug, PartialEq, Eq)]
 pub struct Fetched {
     pub symbols: usize,
     pub set: Set,
+    pub nibbles: u8,
 }
 
 #[cold]

@@ -53,7 +53,7 @@ fn perform<'a>(
     let (front, behind) = log.split_first_chunk_mut::<FRONT>()?;
     let (k, after) = number(rest)?;
     let k = k as usize;
-    let mut deck = None;
+    let mut text = None;
     let (answer, rest, written) = match kind {
         1 => (calls::read_field(b, k, table), after, FRONT),
         2 => {
@@ -91,16 +91,18 @@ fn perform<'a>(
             out.copy_from_slice(first);
             origins.copy_from_slice(second);
             let fetched = calls::fetch_text(b, out, origins, table);
-            deck = fetched.ok().map(|fetched| fetched.set);
+            text = fetched.ok();
             let answer = fetched.map(|fetched| given(Label::Count, fetched.symbols as i64));
             (answer, after, FRONT + outputs)
         }
         _ => return None,
     };
     record(front, answer);
-    if let Some(set) = deck {
+    if let Some(fetched) = text {
         front[19] = Label::Deck as u8;
-        front[27] = set as u8;
+        front[27] = fetched.set as u8;
+        front[28] = Label::Nibbles as u8;
+        front[36] = fetched.nibbles;
     }
     Some((rest, written))
 }

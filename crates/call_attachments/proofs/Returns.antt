@@ -3,11 +3,11 @@
 use Prim.Native.Nat.{ℕ, _+_, _-_, _*_, _/_, _≤_, _<_}
 use native.Mathlib.Omega.{arith}
 use mathlib.Core.Path.{_≡_, refl, sym, ap, _∙_}
-use mathlib.Core.Bool.{false, not}
+use mathlib.Core.Bool.{true, false, not}
 use mathlib.Core.List.{List, [], _∷_, append-nil}
 use lib.ListN.{length, set}
 use lib.Seq.{paste}
-use borrow.Author.Tests.{lt-ltb, le-ltb}
+use borrow.Author.Tests.{lt-leb, le-leb}
 use Rattle.format.specs.Bits.{Bytes}
 use Rattle.format.specs.Order.{between}
 use Rattle.format.specs.Flags.{FlagTable}
@@ -16,7 +16,6 @@ use Rattle.format.specs.Observation.{Observation, size}
 use Rattle.format.specs.Report.{numbersOf, observationOf}
 use Rattle.format.specs.Calls.{edits, made, remove, gives, contentOf, putIn, removeFrom, withAttachments, withContent, idCheck, callChecks, Answer}
 use Rattle.format.specs.Buffer.{after, effect}
-use Rattle.format.specs.Reply.{refusal}
 use Rattle.laws.proofs.Order.{no-check}
 use Rattle.laws.proofs.Nibbles.{length-nibbles}
 use Rattle.laws.proofs.Attachments.{FineAt, fine-nibbles, fine-count, tail-append}
@@ -28,7 +27,7 @@ use Rattle.card.specs.Answers.{Carded}
 use Rattle.report.specs.declared.Report.{Report}
 use Rattle.report.specs.Found.{Found}
 use Rattle.report.proofs.Found.{good, al-is, end-is, count-is, absent, split, place-is, spot, stands-passes}
-use Rattle.call_attachments.specs.Edit.{Resizable, resized, PutEdit, newSize, withPut, withoutId, putting}
+use Rattle.call_attachments.specs.Edit.{Resizable, resized, PutEdit, newSize, withPut, withoutId, hasRoom, putting}
 use Rattle.call_attachments.proofs.Edits.{spliced-none, spliced-laid}
 
 -- room for an edit
@@ -164,8 +163,8 @@ module _ {b : List ℕ} {i : ℕ} {ns : List ℕ} {at old end count : ℕ} (bs :
       let d = e .edit .end-is in
       (omega arith, omega arith, omega arith, e .fine .short)
 
-  pub put-refused : length b < newSize end old (length ns) → after (refusal 13 0) b [] ≡ putting b i ns
-  put-refused h = rw (lt-ltb (length b) (size t) (rw put-size h))
+  pub put-refused : length b < newSize end old (length ns) → (false ≡ hasRoom b i ns) × (b ≡ putting b i ns)
+  put-refused h = rw (lt-leb (size t) (length b) (rw put-size h)) (refl, refl)
 
   module _ (fits : newSize end old (length ns) ≤ length b) where
     pub put-room : Resizable (length b) at old (3 + length ns) end
@@ -184,5 +183,5 @@ module _ {b : List ℕ} {i : ℕ} {ns : List ℕ} {at old end count : ℕ} (bs :
         ∙ spliced-laid (nibbles b) x at old (3 + length ns) end attachment-length (rw length-nibbles lay-room) in
         edit-laid (e .marks) bs (e .edit) c₂ spliced (fine-nibbles (e .marks) (put-fine (e .marks) i ns (e .fine) (g .fine))) d bd (k .long ∙ same) (k .card) (k .behind)
 
-    pub put-done : (d : List ℕ) → d ≡ withPut b i ns → after (Answer.accepted []) d [] ≡ putting b i ns
-    put-done d is = rw (le-ltb (length b) (size t) (rw put-size fits)) (ap (λ (l : List ℕ). after (Answer.accepted []) l []) is)
+    pub put-done : (d : List ℕ) → d ≡ withPut b i ns → (true ≡ hasRoom b i ns) × (d ≡ putting b i ns)
+    put-done d is = rw (le-leb (size t) (length b) (rw put-size fits)) (refl, is)

@@ -1,16 +1,15 @@
 -- Nibbles of a report replaced, and what a put and a drop leave.
 use Prim.Native.Nat.{ℕ, _+_, _-_, _*_, _/_, _≤_}
-use mathlib.Core.Bool.{cond}
-use mathlib.Core.List.{List, [], _++_}
+use mathlib.Core.Bool.{Bool, cond}
+use mathlib.Core.List.{List, _++_}
 use lib.ListN.{length, take, drop}
-use lib.Dec.{ltb}
+use lib.Dec.{leb}
 use Rattle.format.specs.Nibbles.{Attachment, attachment, attachmentNibbles}
 use Rattle.format.specs.Flags.{FlagTable}
 use Rattle.format.specs.Observation.{size}
 use Rattle.format.specs.Report.{observationOf}
-use Rattle.format.specs.Calls.{Answer, putIn, removeFrom, withAttachments, withContent}
-use Rattle.format.specs.Buffer.{zeros, layout, After, after}
-use Rattle.format.specs.Reply.{refusal}
+use Rattle.format.specs.Calls.{putIn, removeFrom, withAttachments, withContent}
+use Rattle.format.specs.Buffer.{zeros, layout}
 use Rattle.laws.proofs.Attachments.{FineAt}
 use Rattle.laws.proofs.Edits.{clearedTo, Edit}
 use Rattle.report.specs.declared.Report.{Report}
@@ -59,7 +58,9 @@ withPut b i ns = let s = observationOf b in layout b (size s) (withContent s i n
 abbrev pub withoutId : List ℕ → ℕ → List ℕ
 withoutId b i = let s = observationOf b in layout b (size s) (withAttachments s (removeFrom i (s .attachments)))
 
--- what a put leaves that only 13 may refuse
-abbrev pub putting : List ℕ → ℕ → List ℕ → After
-putting b i ns =
-    cond (ltb (length b) (size (withContent (observationOf b) i ns))) (after (refusal 13 0) b []) (after (Answer.accepted []) (withPut b i ns) [])
+-- whether a put has room, and the buffer after it: without room it is as it was
+abbrev pub hasRoom : List ℕ → ℕ → List ℕ → Bool
+hasRoom b i ns = leb (size (withContent (observationOf b) i ns)) (length b)
+
+abbrev pub putting : List ℕ → ℕ → List ℕ → List ℕ
+putting b i ns = cond (hasRoom b i ns) (withPut b i ns) b

@@ -10,7 +10,7 @@ ghost use Rattle.format.specs.Calls as call;
 ghost use Rattle.format.specs.Buffer.{after, effect};
 ghost use Rattle.format.specs.Reply.{answerOf};
 ghost use Rattle.report.specs.Found.{FoundBySome, Leaves};
-ghost use Rattle.call_attachments.specs.Edit.{Resizable, resized, FineBySome, Puttable, PutEdit, newSize, withPut, withoutId, putting};
+ghost use Rattle.call_attachments.specs.Edit.{Resizable, resized, FineBySome, Puttable, PutEdit, newSize, withPut, withoutId, hasRoom, putting};
 use format::FlagTable;
 use format::Reply;
 use report::Inspected;
@@ -104,7 +104,7 @@ fn commit_put(
     card::set_count(s, count);
 }
 
-// Judges whether an attachment has room in place of old nibbles, and puts it there.
+// Puts an attachment in place of old nibbles, if it has room there, which is the answer.
 fn put_at(
     s: &mut [u8],
     at: usize,
@@ -113,21 +113,21 @@ fn put_at(
     count: usize,
     id: usize,
     content: &[u8],
-) -> Reply
+) -> bool
     requires { ⌜ PutEdit (now s) id (now content) at old end count ⌝ }
-    ensures { λ r. ⌜ after (answerOf r) (now (s .exit)) [] ≡ putting (now (s .entry)) id (now (content .entry)) ⌝ }
+    ensures { λ r. ⌜ (r ≡ hasRoom (now (s .entry)) id (now (content .entry))) × (now (s .exit) ≡ putting (now (s .entry)) id (now (content .entry))) ⌝ }
 {
     if s.len() < (end - old + (3 + content.len()) + 1) / 2 {
-        return Reply::Refused(13, 0);
+        return false;
     }
     commit_put(s, at, old, end, count, id, content);
-    Reply::Done
+    true
 }
 
-// Puts an attachment to a report that was inspected: in place of the one of its id, or at the end.
-pub fn put_nibbles(s: &mut [u8], id: usize, found: Report, content: &[u8]) -> Reply
+// Puts an attachment to a report that was inspected, if it has room there: in place of the one of its id, or at the end.
+pub fn put_nibbles(s: &mut [u8], id: usize, found: Report, content: &[u8]) -> bool
     requires { ⌜ Puttable (now s) id found (now content) ⌝ }
-    ensures { λ r. ⌜ after (answerOf r) (now (s .exit)) [] ≡ putting (now (s .entry)) id (now (content .entry)) ⌝ }
+    ensures { λ r. ⌜ (r ≡ hasRoom (now (s .entry)) id (now (content .entry))) × (now (s .exit) ≡ putting (now (s .entry)) id (now (content .entry))) ⌝ }
 {
     let place = found.place;
     let al = found.al;

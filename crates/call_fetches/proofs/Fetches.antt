@@ -15,7 +15,7 @@ use Rattle.format.specs.Order.{first, between}
 use Rattle.format.specs.Flags.{FlagTable}
 use Rattle.format.specs.Nibbles.{nibbles}
 use Rattle.format.specs.Field.{table, fieldAt, coded, scaledOf, entryOf}
-use Rattle.format.specs.ShipText.{Symbol, byteOf, originOf, textValid, readText, setOfSource, setOfNumber, deckSet, setNumber}
+use Rattle.format.specs.ShipText.{Symbol, byteOf, originOf, nibbleCount, textValid, readText, setOfSource, setOfNumber, deckSet, setNumber}
 use Rattle.format.specs.Report.{observationOf, codesOf, bodyValid}
 use Rattle.format.specs.Calls.{fetches, fetch, fetchText, Quantity, counted, gives, outputsOf, writes, contentOf, idCheck}
 use Rattle.format.specs.Calls.{standsCheck, callChecks, overfull, overEach, valueAt, Answer}
@@ -30,6 +30,8 @@ use Rattle.laws.proofs.Fields.{table-length, entries-at}
 use Rattle.laws.proofs.Order.{no-check}
 use Rattle.laws.proofs.AttachmentEdits.{content-fine}
 use Rattle.laws.proofs.Effects.{fetch-done, fetch-short}
+use Rattle.laws.proofs.Bounds.{content-low}
+use Rattle.laws.proofs.TextCounts.{read-count}
 use Rattle.report.specs.declared.Report.{Report}
 use Rattle.report.specs.Found.{Found}
 use Rattle.report.proofs.Found.{good, al-is, present, content-is, spot, stands-passes}
@@ -112,6 +114,9 @@ module _ (marks : FlagTable) {b : List ℕ} {r : Report} (bs : Bytes b) (f : Fou
   unfolding bodyValid
   body-valid = ap textValid body-is ∙ content-fine marks 4 (good marks bs f .fine) (present marks bs f h) .valid
 
+  pub body-byte : r .al < 256
+  body-byte = omega (arith, al-is marks bs f, content-low marks 4 (good marks bs f .fine) .0)
+
   -- t: whether the symbols fit in both outputs
   module _ (out origins : List ℕ) (t : Bool) (e : t ≡ leb (length (readText (take (r .al) (drop (r .place + 3) (nibbles b))))) (min (length out) (length origins))) where
     abbrev xs : List Symbol
@@ -144,11 +149,14 @@ module _ (marks : FlagTable) {b : List ℕ} {r : Report} (bs : Bytes b) (f : Fou
     pub text-fetched : (o p : List ℕ) (n d : ℕ) → t ≡ true → (let ns = take (r .al) (drop (r .place + 3) (nibbles b)) in
         (o ≡ above (map byteOf (readText ns)) out) × (p ≡ above (map originOf (readText ns)) origins) × (n ≡ length (readText ns)))
         → d ≡ setNumber (deckSet (valueAt (observationOf b) 10))
-        → after (Answer.accepted (counted Quantity.count n ∷ counted Quantity.deck d ∷ [])) b (o ∷ p ∷ []) ≡ effect marks b (fetches (fetchText out origins))
+        → after (Answer.accepted (counted Quantity.count n ∷ counted Quantity.deck d ∷ counted Quantity.nibbles (r .al) ∷ [])) b (o ∷ p ∷ [])
+        ≡ effect marks b (fetches (fetchText out origins))
     unfolding callChecks outputsOf writes gives overEach
     text-fetched o p n d k g q =
         let m = min (length out) (length origins) in
-        ap₂ (λ (x y : ℕ). after (Answer.accepted (counted Quantity.count x ∷ counted Quantity.deck y ∷ [])) b (o ∷ p ∷ [])) (g .2 ∙ same-count) q
+        let taken : r .al ≡ nibbleCount xs = al-is marks bs f ∙ sym (read-count marks (observationOf b) (good marks bs f)) in
+        ap₂ (λ (x y : ℕ). after (Answer.accepted (counted Quantity.count x ∷ counted Quantity.deck d ∷ counted Quantity.nibbles y ∷ [])) b (o ∷ p ∷ [])) (g .2 ∙ same-count) taken
+        ∙ ap (λ (y : ℕ). after (Answer.accepted (counted Quantity.count (length xs) ∷ counted Quantity.deck y ∷ counted Quantity.nibbles (nibbleCount xs) ∷ [])) b (o ∷ p ∷ [])) q
         ∙ fetch-done marks b (observationOf b) bs (f .judged) (fetchText out origins) (stands-passes marks bs f h) (o ∷ p ∷ [])
         (under (omega (arith, leb-true (length (readText body)) m (sym e ∙ k), same-count)))
         (ap₂ (λ (x y : List ℕ). x ∷ y ∷ [])

@@ -6,7 +6,7 @@ ghost use Rattle.format.specs.ShipText.{setOfSource, deckSet, setNumber};
 ghost use Rattle.format.specs.Report.{observationOf};
 ghost use Rattle.format.specs.Calls as call;
 ghost use Rattle.format.specs.Buffer.{after, effect};
-ghost use Rattle.format.specs.Reply.{answerOf};
+ghost use Rattle.format.specs.Reply.{answerOf, CountsId4};
 ghost use Rattle.report.specs.Found.{AcceptedBySome, FoundBySome, Leaves};
 use format::FlagTable;
 use format::Reply;
@@ -99,15 +99,17 @@ fn fetch_text_found(s: &[u8], found: Report, out: &mut [u8], origins: &mut [u8])
     let room = numbers::lesser(out.len(), origins.len());
     if text_reader::fits(&*s, place + 3, al, room) {
         let n = text_reader::read(&*s, place + 3, al, out, origins);
-        return Reply::Text(n, deck_set(&*s));
+        let nibbles = al as u8;
+        return Reply::Text(n, deck_set(&*s), nibbles);
     }
     Reply::Refused(13, 0)
 }
 
-// Writes the bytes of the ship text's symbols to the front of out, and their marks of origin to that of origins.
+// Writes the bytes of the ship text's symbols to the front of out, and their marks of origin to that of origins. Gives how many
+// symbols and how many nibbles they are, and the deck's set.
 pub fn fetch_text(s: &[u8], out: &mut [u8], origins: &mut [u8], marks: &FlagTable) -> Reply
-    ensures { λ r. ⌜ after (answerOf r) (now (s .entry)) (now (out .exit) ∷ now (origins .exit) ∷ [])
-        ≡ effect (now (marks .entry)) (now (s .entry)) (call.fetches (call.fetchText (now (out .entry)) (now (origins .entry)))) ⌝ }
+    ensures { λ r. ⌜ (after (answerOf r) (now (s .entry)) (now (out .exit) ∷ now (origins .exit) ∷ [])
+        ≡ effect (now (marks .entry)) (now (s .entry)) (call.fetches (call.fetchText (now (out .entry)) (now (origins .entry))))) × CountsId4 r (now (s .entry)) ⌝ }
 {
     let i = report::inspect(&*s, 4, *marks);
     match i {

@@ -8,8 +8,8 @@ use mathlib.Core.List.{List, [], _∷_, _++_}
 use mathlib.Core.Option.{none}
 use lib.ListN.{length, take, drop, length-append}
 use lib.Seq.{take-at}
-use lib.Dec.{ltb, leb}
-use borrow.Author.Tests.{ltb-true, ltb-false, leb-true, leb-false, eq-eqb, ne-eqb, not-false}
+use lib.Dec.{leb}
+use borrow.Author.Tests.{leb-true, leb-false, eq-eqb, ne-eqb, not-false}
 use Rattle.format.specs.Bits.{Bytes}
 use Rattle.format.specs.Order.{Check, first, between, allMarks}
 use Rattle.format.specs.Flags.{FlagTable}
@@ -17,10 +17,12 @@ use Rattle.format.specs.Nibbles.{attachment}
 use Rattle.format.specs.ShipText.{Symbol, symbolsIn, allAdmitted, writeText}
 use Rattle.format.specs.Observation.{Observation, size}
 use Rattle.format.specs.Report.{observationOf, bodyValid}
-use Rattle.format.specs.Calls.{Editing, edits, made, put, putText, Given, gives, outputsOf, allNibbles, withContent, idCheck, lengthCheck, contentCheck}
+use Rattle.format.specs.Calls.{Editing, edits, made, put, putText, gives, outputsOf, allNibbles, withContent, idCheck, lengthCheck, contentCheck}
 use Rattle.format.specs.Calls.{pairedCheck, symbolsCheck, callChecks, Answer}
 use Rattle.format.specs.Buffer.{layout, after, effect}
-use Rattle.format.specs.Reply.{refusal}
+use Rattle.format.specs.Reply.{refusal, answerOf}
+use Rattle.format.specs.declared.Reply.{Reply}
+use Rattle.format.specs.declared.Reply.the-variants.{Refused, Done, Nibbles}
 use Rattle.laws.proofs.Sequences.{and-true, test-case}
 use Rattle.laws.proofs.Order.{range-low, range-high, range-fine, first-nil, no-check, no-checks}
 use Rattle.laws.proofs.ShipText.{text-valid, text-all-nibbles}
@@ -31,7 +33,7 @@ use Rattle.text_writer.specs.Answers.{writtenOf, Writes}
 use Rattle.text_writer.specs.declared.Written.{Written}
 use Rattle.report.specs.declared.Report.{Report}
 use Rattle.report.specs.Found.{Found}
-use Rattle.call_attachments.specs.Edit.{putting}
+use Rattle.call_attachments.specs.Edit.{hasRoom, putting}
 
 -- ---- the checks passed
 
@@ -42,17 +44,32 @@ content-passes : (marks : FlagTable) (i : ℕ) (ns : List ℕ) → allNibbles ns
 content-passes marks i ns valid = no-check (contentCheck marks i ns) [] (ap not valid) first-nil
 
 module _ (marks : FlagTable) {b : List ℕ} {j : ℕ} {r : Report} (bs : Bytes b) (f : Found marks b j r) where
-  -- a call that puts, when only 13 is left
-  putting-effect : (e : Editing) (i : ℕ) (ns : List ℕ) → made (observationOf b) e ≡ withContent (observationOf b) i ns → gives (observationOf b) (edits e) ≡ []
-      → first (callChecks marks (observationOf b) (edits e)) ≡ none → putting b i ns ≡ effect marks b (edits e)
-  putting-effect e i ns is g passed =
-      let s = observationOf b in
-      let t = withContent s i ns in
-      test-case (ltb (length b) (size t))
-      (λ q. rw q (edit-room marks b s bs (f .judged) e passed (rw is (ltb-true (length b) (size t) q))))
-      (λ q. rw q
-      (ap (λ (y : List Given). after (Answer.accepted y) (layout b (size s) t) []) (sym g)
-      ∙ edit-done marks b s bs (f .judged) e (layout b (size s) t) passed (rw is (ltb-false (length b) (size t) q)) (ap (layout b (size s)) (sym is))))
+  -- a call that puts, when only 13 is left: with room and without
+  module _ (e : Editing) (i : ℕ) (ns : List ℕ) (is : made (observationOf b) e ≡ withContent (observationOf b) i ns)
+      (passed : first (callChecks marks (observationOf b) (edits e)) ≡ none) {room : Bool} {b′ : List ℕ} (put : (room ≡ hasRoom b i ns) × (b′ ≡ putting b i ns)) where
+    abbrev t : Observation
+    t = withContent (observationOf b) i ns
+
+    putting-done : room ≡ true → after (Answer.accepted (gives (observationOf b) (edits e))) b′ [] ≡ effect marks b (edits e)
+    putting-done h =
+        let s = observationOf b in
+        let q : leb (size t) (length b) ≡ true = sym (put .0) ∙ h in
+        let laid : b′ ≡ layout b (size s) t = rw q at (put .1) in
+        edit-done marks b s bs (f .judged) e b′ passed (rw is (leb-true (size t) (length b) q)) (laid ∙ ap (layout b (size s)) (sym is))
+
+    putting-short : room ≡ false → after (refusal 13 0) b′ [] ≡ effect marks b (edits e)
+    putting-short h =
+        let q : leb (size t) (length b) ≡ false = sym (put .0) ∙ h in
+        let same : b′ ≡ b = rw q at (put .1) in
+        ap (λ (l : List ℕ). after (refusal 13 0) l []) same
+        ∙ edit-room marks b (observationOf b) bs (f .judged) e passed (rw is (leb-false (size t) (length b) q))
+
+    putting-effect : (done r : Reply) → answerOf done ≡ Answer.accepted (gives (observationOf b) (edits e)) → r ≡ cond room done (Refused 13 0)
+        → after (answerOf r) b′ [] ≡ effect marks b (edits e)
+    putting-effect done r g a =
+        test-case room
+        (λ h. let i : r ≡ done = rw h at a in ap (λ (x : Answer). after x b′ []) (ap answerOf i ∙ g) ∙ putting-done h)
+        (λ h. let i : r ≡ Refused 13 0 = rw h at a in ap (λ (x : Reply). after (answerOf x) b′ []) i ∙ putting-short h)
 
   module _ (ns : List ℕ) (known : not (between 1 15 j) ≡ false) where
     pub put-short : length ns < 1 → after (refusal 12 0) b [] ≡ effect marks b (edits (put j ns))
@@ -78,11 +95,14 @@ module _ (marks : FlagTable) {b : List ℕ} {j : ℕ} {r : Report} (bs : Bytes b
         pub put-fineAt : FineAt marks (attachment j ns)
         put-fineAt = put-checked marks j ns (not-false (between 1 15 j) known) (range-fine 1 255 (length ns) filled short) valid
 
-        pub put-effect : putting b j ns ≡ effect marks b (edits (put j ns))
-        unfolding callChecks gives made
-        put-effect =
-            putting-effect (put j ns) j ns refl refl
-            (no-check (idCheck j) _ known (length-passes ns _ filled short (content-passes marks j ns valid)))
+        put-passes : first (callChecks marks (observationOf b) (edits (put j ns))) ≡ none
+        unfolding callChecks
+        put-passes = no-check (idCheck j) _ known (length-passes ns _ filled short (content-passes marks j ns valid))
+
+        pub put-effect : {room : Bool} {b′ : List ℕ} → (room ≡ hasRoom b j ns) × (b′ ≡ putting b j ns) → (r : Reply) → r ≡ cond room Done (Refused 13 0)
+            → after (answerOf r) b′ [] ≡ effect marks b (edits (put j ns))
+        unfolding gives made
+        put-effect p r a = putting-effect (put j ns) j ns refl put-passes p Done r refl a
 
 -- ---- put text
 
@@ -158,6 +178,9 @@ module _ (marks : FlagTable) {b : List ℕ} {r : Report} (bs : Bytes b) (f : Fou
           let q = fits-by (allMarks os && allAdmitted xs) (leb (length ns) 255) (length ns) n (sym e ∙ wrote .answer) in
           (q .0, leb-true (length ns) 255 (q .1), q .2)
 
+      pub text-byte : n < 256
+      text-byte = omega (arith, fits .1, fits .2)
+
       pub text-empty : n < 1 → after (refusal 12 0) b [] ≡ effect marks b (edits (putText t os))
       text-empty h = refused-by-length (fits .0) (range-low 1 255 (length ns) (omega (arith, fits .2)))
 
@@ -176,10 +199,15 @@ module _ (marks : FlagTable) {b : List ℕ} {r : Report} (bs : Bytes b) (f : Fou
         text-fineAt =
             rw is-text (put-checked marks 4 ns refl (range-fine 1 255 (length ns) (omega (arith, fits .2)) (fits .1)) (valid (fits .0)))
 
-        pub text-effect : putting b 4 (take n out) ≡ effect marks b (edits (putText t os))
-        unfolding callChecks gives made
-        text-effect =
-            ap (putting b 4) is-text
-            ∙ putting-effect marks bs f (putText t os) 4 ns refl refl
-            (no-checks (pairedCheck t os ∷ symbolsCheck t os ∷ []) (lengthCheck ns ∷ contentCheck marks 4 ns ∷ []) (symbols-pass (fits .0))
-            (length-passes ns _ (omega (arith, fits .2)) (fits .1) (content-passes marks 4 ns (valid (fits .0)))))
+        text-passes : first (callChecks marks s (edits (putText t os))) ≡ none
+        unfolding callChecks
+        text-passes =
+            no-checks (pairedCheck t os ∷ symbolsCheck t os ∷ []) (lengthCheck ns ∷ contentCheck marks 4 ns ∷ []) (symbols-pass (fits .0))
+            (length-passes ns _ (omega (arith, fits .2)) (fits .1) (content-passes marks 4 ns (valid (fits .0))))
+
+        pub text-effect : {room : Bool} {b′ : List ℕ} → (room ≡ hasRoom b 4 (take n out)) × (b′ ≡ putting b 4 (take n out)) → (r : Reply)
+            → r ≡ cond room (Nibbles n) (Refused 13 0) → after (answerOf r) b′ [] ≡ effect marks b (edits (putText t os))
+        unfolding gives made
+        text-effect p r a =
+            putting-effect marks bs f (putText t os) 4 ns refl text-passes (p .0 ∙ ap (hasRoom b 4) is-text, p .1 ∙ ap (putting b 4) is-text) (Nibbles n) r
+            (ap (λ (k : ℕ). answerOf (Nibbles k)) (fits .2)) a

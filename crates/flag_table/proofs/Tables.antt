@@ -14,7 +14,8 @@ use lib.Dec.{eqb, leb}
 use borrow.Author.Tests.{le-leb, leb-true, leb-false, eq-eqb, ne-eqb}
 use Rattle.format.specs.Order.{Refusal, first, between, allMarks}
 use Rattle.format.specs.Flags.{FlagTable, markOf, allYes}
-use Rattle.format.specs.Loading.{rows, tableOf, someYes, everyRow, loadChecks, loadAnswerBy, loadAnswer, inForceBy, inForce}
+use Rattle.format.specs.Calls.{doneBy}
+use Rattle.format.specs.Loading.{rows, tableOf, someYes, everyRow, loadChecks, loadAnswer, inForceBy, inForce}
 use Rattle.laws.proofs.Sequences.{and-true, test-case}
 use Rattle.laws.proofs.Order.{first-fits, first-skip, first-nil}
 use Rattle.flag_table.specs.Claims.{AnyValue, RowByRow}
@@ -193,9 +194,9 @@ module _ (lent : List ℕ) where
     load-accepted y = first-skip _ _ (fits-is ∙ ap not y) ∙ first-nil
 
   -- what refuses or accepts it decides the answer and the table
-  pub answer-by : (o : Option Refusal) → first (loadChecks lent) ≡ o → loadAnswerBy o ≡ loadAnswer lent
+  pub answer-by : (o : Option Refusal) → first (loadChecks lent) ≡ o → doneBy o ≡ loadAnswer lent
   unfolding loadAnswer
-  answer-by o e = ap loadAnswerBy (sym e)
+  answer-by o e = ap doneBy (sym e)
 
   pub force-by : (former : FlagTable) (o : Option Refusal) → first (loadChecks lent) ≡ o → inForceBy o former lent ≡ inForce former lent
   unfolding inForce

@@ -1,32 +1,36 @@
--- Five lists of examples, each checked by one computed fact. The first has the figures of FORMAT 12. The second has cases in
+-- Six lists of examples, each checked by one computed fact. The first has the figures of FORMAT 12. The second has cases in
 -- which two refusals fit at once, for the orders of FORMAT 5 to 7, zeroed bytes, unpack and pack, and edges of FORMAT 2 to 9.
--- The third has the table of the characters, the fourth tables of permitted flags, the fifth plain and original symbols.
+-- The third has the table of the characters, the fourth tables of permitted flags, the fifth plain and original symbols, the sixth
+-- what texts take.
 -- Assumes nothing.
 use Prim.Native.Nat.{ℕ, zero, suc, _+_, _-_, _/_, _%_, _^_}
+use mathlib.Core.Bool.{cond}
 use mathlib.Core.List.{List, [], _∷_, _++_, map}
 use mathlib.Core.Option.{Option, none, some}
 use lib.ListN.{length, getD, take, drop, set, replicate}
 use lib.Dec.{T}
 use lib.IntN.{ℤ, pos, negsuc}
-use Rattle.format.specs.Order.{Refusal, first, allMarks}
+use Rattle.format.specs.Order.{Refusal, Check, first, allMarks}
 use Rattle.format.specs.Field.{Field, minus, table, fieldAt, required, scaled, coded, scaledOf, codedOf, inRange, entryOf, codeOf, entries, codes}
 use Rattle.format.specs.Bits.{bits, number, bitsOf, bitField, total, offset, readFields, writeFields}
 use Rattle.format.specs.Nibbles.{attachment, nibbles, bytes, padded, attachmentNibbles, tailNibbles, attachmentsOf, among}
 use Rattle.format.specs.Flags.{FlagTable, markOf, weights, weight, totalWeight, allMissing, qualityCode, allYes, flagsFit, flagBody, withFlag, flagsValid}
 use Rattle.format.specs.ShipText.{charCode, short, pairByte, codeNibbles, upFrom, entry, charTable, Symbol, plain, original, byteOf, originOf, symbolOf, symbolsIn, admitted, allAdmitted}
-use Rattle.format.specs.ShipText.{isSpace, symbolNibbles, fulls, rest, spaceRun, writeFrom, writeText, spaces, textStep, stateAfter, symbolsOf, readFrom, endFrom, atEnd, textValid, readText}
+use Rattle.format.specs.ShipText.{isSpace, symbolNibbles, fulls, rest, spaceRun, writeFrom, writeText}
+use Rattle.format.specs.ShipText.{nibbleCount, endsInSpace, spaces, textStep, stateAfter, symbolsOf, readFrom, endFrom, atEnd, textValid, readText}
 use Rattle.format.specs.ShipText.{setOfSource, setOfNumber, deckSet, setNumber}
 use Rattle.format.specs.Observation.{Observation, widths, checksum, cardNumbers, cardNibbles, packing}
 use Rattle.format.specs.Report.{observationOf, codesOf, checksumOf, fieldChecks, bodyValid, attachmentChecks, reportChecks, Verdict, refused, accepted, judge}
 use Rattle.format.specs.Calls.{Call, reads, edits, fetches, readField, setField, clearField, readFlag, setFlag, clearFlag, put, fetch, remove, putText, fetchText}
 use Rattle.format.specs.Calls.{stands, contentOf, putIn, removeFrom, withAttachments, made, Quantity, Given, gives, outputsOf, writes, overfull, overEach}
-use Rattle.format.specs.Calls.{allNibbles, callChecks, checks, Answer, step}
+use Rattle.format.specs.Calls.{allNibbles, symbolsCheck, callChecks, checks, Answer, step}
 use Rattle.format.specs.Machine.{course}
 use Rattle.format.specs.Buffer.{layout, effect, Shown, calls, run, claim}
 use Rattle.format.specs.Whole.{freshObservation, freshChecks, Wrote, fresh, presenceFrom, countPresent, Unpacked, unpackGives, unpack, packChecks, entriesGiven}
 use Rattle.format.specs.Whole.{countFrom, packObservation, packOrder, pack}
 use Rattle.format.specs.Loading.{rows, tableOf, someYes, everyRow, loadChecks, loadAnswer, inForce}
 use Rattle.format.specs.Display.{openingRefusal, displayed, handed}
+use Rattle.format.specs.Costliest.{costliestChecks, costliestRefusal}
 use Rattle.format.specs.Lister.{digitsFrom, fieldLines, listing}
 use Rattle.format.specs.declared.Scaled.{Scaled}
 use Rattle.format.proofs.Test.{Example, same, every}
@@ -190,7 +194,7 @@ examples =
     -- text A1: all bytes, CK, and back
     ∷ example textBytes (take 37 sBytes ++ (0x10 ∷ 0x34 ∷ 0xC1 ∷ 0x10 ∷ 7 ∷ []))
     ∷ example (checksumOf textBytes ∷ []) (251 ∷ [])
-    ∷ example (answersOf textBytes (fetches (fetchText (3 ∷ 3 ∷ 3 ∷ []) (5 ∷ 5 ∷ 5 ∷ [])) ∷ [])) (1 ∷ 1 ∷ 0 ∷ 2 ∷ 1 ∷ 0 ∷ 0 ∷ 65 ∷ 49 ∷ 3 ∷ 0 ∷ 0 ∷ 5 ∷ [])
+    ∷ example (answersOf textBytes (fetches (fetchText (3 ∷ 3 ∷ 3 ∷ []) (5 ∷ 5 ∷ 5 ∷ [])) ∷ [])) (1 ∷ 1 ∷ 0 ∷ 2 ∷ 1 ∷ 0 ∷ 0 ∷ 1 ∷ 0 ∷ 3 ∷ 65 ∷ 49 ∷ 3 ∷ 0 ∷ 0 ∷ 5 ∷ [])
     -- CK where every field is at its highest, and where every code is 1
     ∷ example (total highestCodes ∷ checksum highestCodes ∷ []) (19643 ∷ 8 ∷ [])
     ∷ example (checksum (replicate 46 1) ∷ []) (46 ∷ [])
@@ -210,7 +214,7 @@ examples =
     ∷ example (answersOf roomy (edits (put 4 badText) ∷ [])) (refuses 14 0)
     ∷ example (judged (judge allYes (reportOf freshCodes 1 (0 ∷ 4 ∷ 4 ∷ badText)))) (refuses 6 1)
     -- the most original symbols that fit, and one more
-    ∷ example (answersOf wide (edits (putText (replicate 85 97) (replicate 85 1)) ∷ edits (putText (replicate 86 97) (replicate 86 1)) ∷ [])) (yes ++ refuses 12 0)
+    ∷ example (answersOf wide (edits (putText (replicate 85 97) (replicate 85 1)) ∷ edits (putText (replicate 86 97) (replicate 86 1)) ∷ [])) (1 ∷ 1 ∷ 0 ∷ 255 ∷ refuses 12 0)
     -- the quality code of flag 1 at R and flag 6 at L
     ∷ example (qualityCode (1 ∷ 0 ∷ 0 ∷ 0 ∷ 0 ∷ 6 ∷ replicate 8 0) ∷ []) (3 ∷ [])
     ∷ example (answersOf roomy flagCalls)
@@ -356,7 +360,7 @@ orders =
     ∷ example (quantities (effect allYes textBytes (reads (readField 1)) .answer) ++ quantities (effect allYes textBytes (reads (readField 4)) .answer)) (1 ∷ 1 ∷ [])
     ∷ example (quantities (effect allYes (effect allYes roomy put1 .buffer) (reads (readFlag 1)) .answer)) (2 ∷ [])
     ∷ example (quantities (effect allYes textBytes (fetches (fetch 4 (replicate 9 7))) .answer) ++ quantities (effect allYes textBytes (fetches (fetchText (replicate 9 7) (replicate 9 7))) .answer))
-    (3 ∷ 3 ∷ 10 ∷ [])
+    (3 ∷ 3 ∷ 10 ∷ 9 ∷ [])
     ∷ example (quantities (effect allYes textBytes (edits (clearField 4)) .answer) ++ quantities (effect allYes textBytes (edits (remove 4)) .answer)) []
     ∷ example (quantities (unpack allYes textBytes (replicate 46 (pos 5)) (replicate 7 5) .answer)) (4 ∷ 5 ∷ 6 ∷ 7 ∷ 8 ∷ 9 ∷ [])
     ∷ example (quantities (pack allYes wholeValues requiredBits 0 [] (replicate 39 7) .answer)) (8 ∷ [])
@@ -386,7 +390,7 @@ orders =
     ∷ example (writeText (plainly (replicate 36 32 ++ (66 ∷ [])))) (11 ∷ 15 ∷ 11 ∷ 15 ∷ 12 ∷ 2 ∷ [])
     ∷ example (symbolNumbers (readText (11 ∷ 15 ∷ 11 ∷ 0 ∷ 1 ∷ []))) (replicate 21 32 ++ (49 ∷ replicate 22 0))
     ∷ example (answersOf roomy (edits (put 4 (11 ∷ 15 ∷ 11 ∷ 0 ∷ 1 ∷ [])) ∷ edits (put 4 (15 ∷ 8 ∷ 0 ∷ [])) ∷ fetches (fetchText (7 ∷ 7 ∷ []) (9 ∷ 9 ∷ [])) ∷ []))
-    (1 ∷ 1 ∷ 1 ∷ 1 ∷ 0 ∷ 1 ∷ 1 ∷ 0 ∷ 0 ∷ 128 ∷ 7 ∷ 1 ∷ 9 ∷ [])
+    (1 ∷ 1 ∷ 1 ∷ 1 ∷ 0 ∷ 1 ∷ 1 ∷ 0 ∷ 0 ∷ 1 ∷ 0 ∷ 3 ∷ 128 ∷ 7 ∷ 1 ∷ 9 ∷ [])
     -- bodies that end within a code
     ∷ example (answersOf roomy (edits (put 4 (1 ∷ 11 ∷ [])) ∷ edits (put 4 (1 ∷ 12 ∷ [])) ∷ edits (put 4 (1 ∷ 15 ∷ [])) ∷ [])) (refuses 14 0 ++ (refuses 14 0 ++ refuses 14 0))
     -- the lister: a field of two digits, values 10 and -10, and input past 1856 bytes
@@ -573,7 +577,7 @@ symbols =
     example (symbolNumbers (readText (15 ∷ 4 ∷ 1 ∷ [])) ++ symbolNumbers (readText (12 ∷ 1 ∷ []))) (65 ∷ 1 ∷ 65 ∷ 0 ∷ [])
     ∷ example (take 1 (judged (judge allYes (textReport (15 ∷ 4 ∷ 1 ∷ [])))) ++ take 1 (judged (judge allYes (textReport (15 ∷ 2 ∷ 0 ∷ []))))) (1 ∷ 1 ∷ [])
     ∷ example (answersOf roomy (edits (put 4 (15 ∷ 4 ∷ 1 ∷ [])) ∷ edits (put 4 (15 ∷ 2 ∷ 0 ∷ [])) ∷ putOriginals (65 ∷ 32 ∷ []) ∷ fetches (fetch 4 (replicate 6 7)) ∷ []))
-    (1 ∷ 1 ∷ 1 ∷ 1 ∷ 1 ∷ 0 ∷ 6 ∷ 15 ∷ 4 ∷ 1 ∷ 15 ∷ 2 ∷ 0 ∷ [])
+    (1 ∷ 1 ∷ 1 ∷ 1 ∷ 0 ∷ 6 ∷ 1 ∷ 1 ∷ 0 ∷ 6 ∷ 15 ∷ 4 ∷ 1 ∷ 15 ∷ 2 ∷ 0 ∷ [])
     -- an original 32 breaks a run, and is not dropped at the end; plain spaces behind it are
     ∷ example (writeText (plain 32 ∷ plain 32 ∷ original 32 ∷ plain 32 ∷ plain 65 ∷ [])) (10 ∷ 10 ∷ 15 ∷ 2 ∷ 0 ∷ 10 ∷ 12 ∷ 1 ∷ [])
     ∷ example (symbolNumbers (readText (10 ∷ 10 ∷ 15 ∷ 2 ∷ 0 ∷ 10 ∷ 12 ∷ 1 ∷ []))) (32 ∷ 32 ∷ 32 ∷ 32 ∷ 65 ∷ 0 ∷ 0 ∷ 1 ∷ 0 ∷ 0 ∷ [])
@@ -594,7 +598,7 @@ symbols =
     (refuses 12 0 ++ (refuses 12 0 ++ (refuses 12 0 ++ refuses 13 0)))
     -- fetch text: both outputs, and either too short
     ∷ example (answersOf roomy (edits (putText (65 ∷ 65 ∷ 32 ∷ []) (0 ∷ 1 ∷ 0 ∷ [])) ∷ fetches (fetchText (7 ∷ 7 ∷ 7 ∷ []) (9 ∷ 9 ∷ [])) ∷ []))
-    (1 ∷ 1 ∷ 1 ∷ 0 ∷ 2 ∷ 1 ∷ 0 ∷ 0 ∷ 65 ∷ 65 ∷ 7 ∷ 0 ∷ 1 ∷ [])
+    (1 ∷ 1 ∷ 0 ∷ 5 ∷ 1 ∷ 1 ∷ 0 ∷ 2 ∷ 1 ∷ 0 ∷ 0 ∷ 1 ∷ 0 ∷ 5 ∷ 65 ∷ 65 ∷ 7 ∷ 0 ∷ 1 ∷ [])
     ∷ example (answersOf textBytes (fetches (fetchText (7 ∷ 7 ∷ []) (9 ∷ [])) ∷ fetches (fetchText (7 ∷ []) (9 ∷ 9 ∷ [])) ∷ []))
     (refuses 13 0 ++ (7 ∷ 7 ∷ 9 ∷ (refuses 13 0 ++ (7 ∷ 9 ∷ 9 ∷ []))))
     ∷ example (answersOf freshBytes (fetches (fetchText (7 ∷ []) (9 ∷ [])) ∷ [])) (refuses 11 0 ++ (7 ∷ 9 ∷ []))
@@ -605,13 +609,13 @@ symbols =
     (answersOf textBytes
     (edits (setField 10 (scaled (pos 4))) ∷ fetches (fetchText (7 ∷ 7 ∷ []) (9 ∷ 9 ∷ [])) ∷ edits (setField 10 (scaled (pos 3))) ∷ fetches (fetchText (7 ∷ 7 ∷ []) (9 ∷ 9 ∷ []))
     ∷ edits (setField 10 (scaled (pos 254))) ∷ fetches (fetchText (7 ∷ 7 ∷ []) (9 ∷ 9 ∷ [])) ∷ edits (clearField 10) ∷ fetches (fetchText (7 ∷ 7 ∷ []) (9 ∷ 9 ∷ [])) ∷ []))
-    (joined (map (λ (n : ℕ). 1 ∷ 1 ∷ 1 ∷ 0 ∷ 2 ∷ 1 ∷ 0 ∷ n ∷ 65 ∷ 49 ∷ 0 ∷ 0 ∷ []) (2 ∷ 1 ∷ 0 ∷ 0 ∷ [])))
+    (joined (map (λ (n : ℕ). 1 ∷ 1 ∷ 1 ∷ 0 ∷ 2 ∷ 1 ∷ 0 ∷ n ∷ 1 ∷ 0 ∷ 3 ∷ 65 ∷ 49 ∷ 0 ∷ 0 ∷ []) (2 ∷ 1 ∷ 0 ∷ 0 ∷ [])))
     -- an escaped 65 in an EBCDIC deck; original 0, original digit
     ∷ example
     (answersOf roomy (edits (setField 10 (scaled (pos 1))) ∷ edits (put 4 (15 ∷ 4 ∷ 1 ∷ [])) ∷ fetches (fetchText (7 ∷ []) (9 ∷ [])) ∷ []))
-    (1 ∷ 1 ∷ 1 ∷ 1 ∷ 0 ∷ 1 ∷ 1 ∷ 0 ∷ 1 ∷ 65 ∷ 1 ∷ [])
+    (1 ∷ 1 ∷ 1 ∷ 1 ∷ 0 ∷ 1 ∷ 1 ∷ 0 ∷ 1 ∷ 1 ∷ 0 ∷ 3 ∷ 65 ∷ 1 ∷ [])
     ∷ example (symbolNumbers (readText (15 ∷ 0 ∷ 0 ∷ 15 ∷ 3 ∷ 1 ∷ []))) (0 ∷ 49 ∷ 1 ∷ 1 ∷ [])
-    ∷ example (quantities (effect allYes textBytes (fetches (fetchText (replicate 9 7) (replicate 9 7))) .answer)) (3 ∷ 10 ∷ [])
+    ∷ example (quantities (effect allYes textBytes (fetches (fetchText (replicate 9 7) (replicate 9 7))) .answer)) (3 ∷ 10 ∷ 9 ∷ [])
     -- the reader for display: its refusals; each symbol in its turn, then the end
     ∷ example (refusalOf (openingRefusal allYes textBytes) ++ (refusalOf (openingRefusal allYes freshBytes) ++ refusalOf (openingRefusal allYes (spoilt textBytes))))
     (1 ∷ (refuses 11 0 ++ refuses 4 0))
@@ -635,3 +639,89 @@ unfolding putOriginals textReport optionalSymbol handedOut refusalOf symbols ope
     cardNibbles packing observationOf fieldChecks bodyValid attachmentChecks reportChecks judge stands contentOf putIn removeFrom made gives outputsOf writes overfull
     overEach allNibbles callChecks checks step layout effect course calls run claim
 symbols-hold = tt
+
+-- ---- what texts take
+
+-- the last number that is given
+lastOf : List Given → List ℕ
+lastOf [] = []
+lastOf (g ∷ []) = optional (g .number)
+lastOf (g ∷ h ∷ more) = lastOf (h ∷ more)
+
+lastGiven : Answer → List ℕ
+lastGiven (Answer.refused r) = []
+lastGiven (Answer.accepted gs) = lastOf gs
+
+-- what a put text gives, what a fetch text behind it gives, and AL of id 4, the only attachment, in the report between them
+countsOf : List ℕ → List ℕ → List ℕ
+countsOf t os =
+    let a = effect allYes wide (edits (putText t os)) in
+    lastGiven (a .answer)
+    ++ (lastGiven (effect allYes (a .buffer) (fetches (fetchText (replicate 90 7) (replicate 90 7))) .answer) ++ one (bitField (a .buffer) 300 8))
+
+-- the refusal of the costliest text of m symbols with outputs of these lengths
+costliest : ℕ → ℕ → ℕ → List ℕ
+costliest m n k = refusalOf (costliestRefusal m (replicate n 7) (replicate k 9))
+
+ends : List Symbol → ℕ
+ends xs = cond (endsInSpace xs) 1 0
+
+fits : Check → ℕ
+fits c = cond (c .fits) 1 0
+
+originals : ℕ → List Symbol
+originals n = replicate n (original 0)
+
+pub costs : List Example
+costs =
+    -- the nibbles of a text, its header not counted: plain spaces at its end are not written, an original 32 is
+    example (countsOf (65 ∷ 49 ∷ []) (0 ∷ 0 ∷ [])) (1 ∷ 0 ∷ 3 ∷ 1 ∷ 0 ∷ 3 ∷ 3 ∷ [])
+    ∷ example (countsOf (65 ∷ 49 ∷ 32 ∷ 32 ∷ 32 ∷ []) (replicate 5 0)) (1 ∷ 0 ∷ 3 ∷ 1 ∷ 0 ∷ 3 ∷ 3 ∷ [])
+    ∷ example (countsOf (65 ∷ 49 ∷ 32 ∷ []) (0 ∷ 0 ∷ 1 ∷ [])) (1 ∷ 0 ∷ 6 ∷ 1 ∷ 0 ∷ 6 ∷ 6 ∷ [])
+    ∷ example (countsOf (replicate 20 32 ++ one 66) (replicate 21 0)) (1 ∷ 0 ∷ 6 ∷ 1 ∷ 0 ∷ 6 ∷ 6 ∷ [])
+    ∷ example (countsOf (replicate 85 0) (replicate 85 1)) (1 ∷ 0 ∷ 255 ∷ 1 ∷ 0 ∷ 255 ∷ 255 ∷ [])
+    ∷ example (countsOf (one 48) (one 0)) (1 ∷ 0 ∷ 1 ∷ 1 ∷ 0 ∷ 1 ∷ 1 ∷ [])
+    -- a put that replaces counts the new text alone
+    ∷ example (answersOf textBytes (putPlain (49 ∷ []) ∷ fetches (fetch 4 (7 ∷ 7 ∷ [])) ∷ [])) (1 ∷ 1 ∷ 0 ∷ 1 ∷ 1 ∷ 1 ∷ 0 ∷ 1 ∷ 1 ∷ 7 ∷ [])
+    -- what the numbers are; put and fetch give what they gave
+    ∷ example (quantities (effect allYes wide (putPlain (65 ∷ [])) .answer)) (9 ∷ [])
+    ∷ example (answersOf wide (edits (put 4 (12 ∷ 1 ∷ [])) ∷ fetches (fetch 4 (7 ∷ 7 ∷ [])) ∷ [])) (1 ∷ 1 ∷ 1 ∷ 0 ∷ 2 ∷ 12 ∷ 1 ∷ [])
+    -- the costliest text: 0 and 85 symbols with as much room, 86, either output too short, 9 before 13
+    ∷ example (costliest 0 0 0 ++ (costliest 1 1 1 ++ (costliest 85 85 85 ++ costliest 85 86 300))) (1 ∷ 1 ∷ 1 ∷ 1 ∷ [])
+    ∷ example (costliest 86 86 86 ++ (costliest 86 85 85 ++ (costliest 86 0 0 ++ costliest (2 ^ 64 - 1) 300 300))) (refuses 9 0 ++ (refuses 9 0 ++ (refuses 9 0 ++ refuses 9 0)))
+    ∷ example (costliest 85 84 85 ++ (costliest 85 85 84 ++ (costliest 1 0 0 ++ (costliest 1 1 0 ++ costliest 1 0 1))))
+    (refuses 13 0 ++ (refuses 13 0 ++ (refuses 13 0 ++ (refuses 13 0 ++ refuses 13 0))))
+    -- three nibbles for an original symbol, whatever its byte; one or two for a plain one that a text may hold; for a run of spaces no
+    -- more than it has
+    ∷ example (nibbleCount (original 65 ∷ original 32 ∷ original 48 ∷ original 0 ∷ original 255 ∷ []) ∷ []) (15 ∷ [])
+    ∷ example (nibbleCount (map original (replicate 85 97)) ∷ nibbleCount (map original (replicate 86 97)) ∷ nibbleCount (plainly (replicate 85 65)) ∷ []) (255 ∷ 258 ∷ 170 ∷ [])
+    ∷ example (map (λ (n : ℕ). nibbleCount (plainly (replicate n 32 ++ one 48))) (0 ∷ 1 ∷ 2 ∷ 3 ∷ 17 ∷ 18 ∷ 19 ∷ 20 ∷ 21 ∷ [])) (1 ∷ 2 ∷ 3 ∷ 3 ∷ 3 ∷ 3 ∷ 4 ∷ 5 ∷ 5 ∷ [])
+    ∷ example (nibbleCount [] ∷ nibbleCount (plainly (replicate 40 32)) ∷ []) (0 ∷ 0 ∷ [])
+    -- rows that end in a plain space, and rows that do not
+    ∷ example (ends [] ∷ ends (plain 32 ∷ []) ∷ ends (original 32 ∷ []) ∷ ends (plain 65 ∷ plain 32 ∷ []) ∷ ends (plain 32 ∷ plain 65 ∷ []) ∷ []) (0 ∷ 1 ∷ 0 ∷ 1 ∷ 0 ∷ [])
+    -- 12 is for no nibble, and for over 255
+    ∷ example (answersOf wide (putPlain (replicate 85 32) ∷ putOriginals (replicate 86 65) ∷ putPlain [] ∷ [])) (refuses 12 0 ++ (refuses 12 0 ++ refuses 12 0))
+    ∷ example (answersOf wide (putPlain (replicate 84 32 ++ one 48) ∷ putOriginals (replicate 85 32) ∷ [])) (1 ∷ 1 ∷ 0 ∷ 11 ∷ 1 ∷ 1 ∷ 0 ∷ 255 ∷ [])
+    ∷ example (answersOf wide (putPlain (replicate 255 48) ∷ putPlain (replicate 256 48) ∷ putPlain (replicate 127 65) ∷ putPlain (replicate 128 65) ∷ []))
+    (1 ∷ 1 ∷ 0 ∷ 255 ∷ (refuses 12 0 ++ (1 ∷ 1 ∷ 0 ∷ 254 ∷ refuses 12 0)))
+    -- 85 original symbols and a plain space; one of 85 that is plain: a letter, a space within, a space at the end
+    ∷ example (answersOf wide (edits (putText (replicate 86 32) (replicate 85 1 ++ one 0)) ∷ [])) (1 ∷ 1 ∷ 0 ∷ 255 ∷ [])
+    ∷ example (nibbleCount (plain 65 ∷ originals 84) ∷ nibbleCount (original 0 ∷ plain 32 ∷ originals 83) ∷ nibbleCount (originals 84 ++ (plain 32 ∷ [])) ∷ []) (254 ∷ 253 ∷ 252 ∷ [])
+    -- three nibbles that no text may hold: a plain byte without a short code, a mark over 1
+    ∷ example (nibbleCount (symbolsIn (one 97) (one 0)) ∷ nibbleCount (symbolsIn (one 65) (one 2)) ∷ []) (3 ∷ 3 ∷ [])
+    ∷ example (fits (symbolsCheck (one 97) (one 0)) ∷ fits (symbolsCheck (one 65) (one 2)) ∷ fits (symbolsCheck (one 97) (one 1)) ∷ []) (1 ∷ 1 ∷ 0 ∷ [])
+    -- id 4 behind another attachment
+    ∷ example (answersOf wide (edits (put 2 (1 ∷ 2 ∷ [])) ∷ putOriginals (65 ∷ []) ∷ fetches (fetchText (one 7) (one 9)) ∷ []))
+    (1 ∷ 1 ∷ 1 ∷ 0 ∷ 3 ∷ 1 ∷ 1 ∷ 0 ∷ 1 ∷ 1 ∷ 0 ∷ 0 ∷ 1 ∷ 0 ∷ 3 ∷ 65 ∷ 1 ∷ [])
+    ∷ []
+
+pub costs-hold : T (every costs)
+unfolding lastOf lastGiven countsOf costliest ends fits originals costs costliestChecks costliestRefusal endsInSpace putOriginals refusalOf one quantityNumber quantities
+    signed optional given refusal answer joined answers yes refuses example freshBytes sBytes textBytes answersOf wide same every first
+    table fieldAt required scaledOf codedOf inRange entryOf codeOf entries codes bits number bitsOf bitField total readFields writeFields nibbles bytes padded
+    attachmentNibbles tailNibbles attachmentsOf among weights weight totalWeight allMissing qualityCode allYes flagsFit flagBody withFlag flagsValid charCode short
+    pairByte codeNibbles byteOf originOf symbolOf symbolsIn admitted allAdmitted allMarks setOfSource setOfNumber deckSet setNumber plainly putPlain isSpace
+    symbolNibbles fulls rest spaceRun writeFrom writeText spaces textStep stateAfter symbolsOf readFrom endFrom atEnd textValid readText widths checksum cardNumbers
+    cardNibbles packing observationOf fieldChecks bodyValid attachmentChecks reportChecks judge stands contentOf putIn removeFrom made gives outputsOf writes overfull
+    overEach allNibbles callChecks checks step layout effect course calls run claim
+costs-hold = tt

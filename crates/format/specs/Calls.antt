@@ -10,7 +10,7 @@ use Rattle.format.specs.Order.{Refusal, Check, check, first, between, al
 use Rattle.format.specs.Field.{fieldAt, isField, required, inRange}
 use Rattle.format.specs.Nibbles.{Attachment, attachment}
 use Rattle.format.specs.Flags.{isFlag, FlagTable, flagInRange, flagAt, withFlag}
-use Rattle.format.specs.ShipText.{Symbol, byteOf, originOf, symbolsIn, allAdmitted, writeText, readText, deckSet, setNumber}
+use Rattle.format.specs.ShipText.{Symbol, byteOf, originOf, symbolsIn, allAdmitted, writeText, nibbleCount, readText, deckSet, setNumber}
 use Rattle.format.specs.Observation.{Observation, observation, size}
 use Rattle.format.specs.Report.{bodyValid}
 use Rattle.format.specs.declared.Scaled.{Scaled}
@@ -118,7 +118,7 @@ pub data Quantity : Type 0 where
   rptin : Quantity  -- RPTIN
   attachments : Quantity  -- AC
   bytes : Quantity  -- a report's size in bytes
-  nibbles : Quantity  -- so many nibbles: the length of unpack's tail
+  nibbles : Quantity  -- so many nibbles: the length of unpack's tail, or of a ship text's content
   deck : Quantity  -- the deck's set: 0 unknown, 1 EBCDIC, 2 ASCII
 
 -- a number that is given, or that it is missing
@@ -145,9 +145,16 @@ flagNumber v = cond (eqb v 0) none (some (pos v))
 unfoldable pub gives : Observation → Call → List Given
 gives s (reads (readField k)) = given value (valueNumber (valueAt s k)) ∷ []
 gives s (reads (readFlag j)) = given flag (flagNumber (flagAt (content s 1) j)) ∷ []
-gives s (edits e) = []
+gives s (edits (setField k v)) = []
+gives s (edits (clearField k)) = []
+gives s (edits (setFlag j v)) = []
+gives s (edits (clearFlag j)) = []
+gives s (edits (put i ns)) = []
+gives s (edits (remove i)) = []
+gives s (edits (putText t os)) = counted nibbles (nibbleCount (symbolsIn t os)) ∷ []
 gives s (fetches (fetch i out)) = counted count (length (content s i)) ∷ []
-gives s (fetches (fetchText out origins)) = counted count (length (shipText s)) ∷ counted deck (setNumber (deckSet (valueAt s 10))) ∷ []
+gives s (fetches (fetchText out origins)) =
+    counted count (length (shipText s)) ∷ counted deck (setNumber (deckSet (valueAt s 10))) ∷ counted nibbles (nibbleCount (shipText s)) ∷ []
 
 -- the outputs that a call is lent, refused or not
 unfoldable pub outputsOf : Call → List (List ℕ)
@@ -249,6 +256,11 @@ checks marks n s c = callChecks marks s c ++ (roomCheck n s c ∷ [])
 pub data Answer : Type 0 where
   refused : Refusal → Answer
   accepted : List Given → Answer
+
+-- the answer of a call that gives nothing
+abbrev pub doneBy : Option Refusal → Answer
+doneBy (some r) = refused r
+doneBy none = accepted []
 
 -- the answer, and what the step leaves: the observation and the outputs
 pub record Stepped : Type 0 where

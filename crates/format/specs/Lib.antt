@@ -13,4 +13,5 @@ pub mod Machine
 pub mod Buffer
 pub mod Whole
 pub mod Loading
+pub mod Costliest
 pub mod Lister

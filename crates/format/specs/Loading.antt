@@ -7,7 +7,7 @@ use lib.ListN.{length, take, drop}
 use lib.Dec.{eqb}
 use Rattle.format.specs.Order.{Refusal, Check, check, first, allMarks}
 use Rattle.format.specs.Flags.{FlagTable}
-use Rattle.format.specs.Calls.{Answer, refused, accepted}
+use Rattle.format.specs.Calls.{Answer, doneBy}
 
 -- a table is lent row after row, a byte a mark: its first n rows
 unfoldable pub rows : ℕ → List ℕ → FlagTable
@@ -31,12 +31,8 @@ unfoldable pub loadChecks : List ℕ → List Check
 loadChecks lent = check (not (eqb (length lent) 140) || (not (allMarks lent) || not (everyRow (tableOf lent)))) 16 0 ∷ []
 
 -- acceptance, which gives nothing, or the refusal
-abbrev pub loadAnswerBy : Option Refusal → Answer
-loadAnswerBy (some r) = refused r
-loadAnswerBy none = accepted []
-
 unfoldable pub loadAnswer : List ℕ → Answer
-loadAnswer lent = loadAnswerBy (first (loadChecks lent))
+loadAnswer lent = doneBy (first (loadChecks lent))
 
 -- the table in force afterwards: the lent one, or where that is refused the former one
 abbrev pub inForceBy : Option Refusal → FlagTable → List ℕ → FlagTable

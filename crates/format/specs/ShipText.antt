@@ -131,6 +131,16 @@ writeFrom s (x ∷ xs) = elim (isSpace x) [ true ↦ writeFrom (suc s) xs | fals
 unfoldable pub writeText : List Symbol → List ℕ
 writeText xs = writeFrom 0 xs
 
+-- how many nibbles a row takes
+abbrev pub nibbleCount : List Symbol → ℕ
+nibbleCount xs = length (writeText xs)
+
+-- whether the last symbol of a row is a plain space
+unfoldable pub endsInSpace : List Symbol → Bool
+endsInSpace [] = false
+endsInSpace (x ∷ []) = isSpace x
+endsInSpace (x ∷ y ∷ ys) = endsInSpace (y ∷ ys)
+
 -- ---- the reader
 
 unfoldable pub spaces : ℕ → List Symbol

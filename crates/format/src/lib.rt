@@ -48,6 +48,9 @@ pub enum Reply {
     MissingFlag,
     // How many bytes a fetch wrote.
     Count(usize),
-    // How many symbols a fetch of the ship text wrote, and the number of the deck's set.
-    Text(usize, u8),
+    // How many nibbles of content a put of the ship text wrote.
+    Nibbles(u8),
+    // How many symbols a fetch of the ship text wrote, the number of the deck's set, and how many nibbles
+    // of content it read.
+    Text(usize, u8, u8),
 }

@@ -1,4 +1,5 @@
--- Every answer fits 64 bits: a refusal's place, and each number that a call gives, negative ones too. No refusal of a report has the number 0.
+-- Every answer fits 64 bits: a refusal's place, and each number that a call gives, negative ones too. A report's refusals
+-- have the numbers 1 to 7.
 -- Assumes nothing.
 use Prim.{Unit, tt}
 use Prim.Native.Nat.{ℕ, zero, suc, _+_, _-_, _^_, _≤_, _<_}
@@ -17,20 +18,20 @@ use Rattle.format.specs.Field.{Field, table, inRange}
 use Rattle.format.specs.Bits.{Bytes, offset}
 use Rattle.format.specs.Nibbles.{Attachment, Nibbles, idAt, behind}
 use Rattle.format.specs.Flags.{FlagTable, flagAt}
-use Rattle.format.specs.ShipText.{DeckSet, unknown, ebcdic, ascii, deckSet, setNumber}
+use Rattle.format.specs.ShipText.{symbolsIn, nibbleCount, DeckSet, unknown, ebcdic, ascii, deckSet, setNumber}
 use Rattle.format.specs.Observation.{Observation, widths, size}
 use Rattle.format.specs.Report.{codesOf, countOf, tailOf, fieldChecks, attachmentChecks, reportChecks, observationOf, Verdict, verdict, judge}
-use Rattle.format.specs.Calls.{Call, reads, edits, fetches, readField, setField, clearField, readFlag, setFlag, clearFlag, put, fetch, remove, putText, fetchText, contentOf, content, valueNumber}
-use Rattle.format.specs.Calls.{Given, gives, roomCheck, callChecks, checks, Answer, refused, accepted, steppedBy, step}
+use Rattle.format.specs.Calls.{Call, reads, edits, fetches, readField, setField, clearField, readFlag, setFlag, clearFlag, put, fetch, remove, putText, fetchText}
+use Rattle.format.specs.Calls.{contentOf, content, shipText, valueNumber, Given, gives, roomCheck, callChecks, checks, Answer, refused, accepted, steppedBy, step}
 use Rattle.format.specs.Buffer.{Shown, Standing, standing, stepping, run, effectOn, effect, refusals, claimOn, claim}
 use Rattle.format.specs.declared.Scaled.{Scaled}
 use Rattle.laws.proofs.Sequences.{and-true, true-false, cond-case}
-use Rattle.laws.proofs.Order.{between-in, first-append-some, first-append-skip}
+use Rattle.laws.proofs.Order.{between-in, first-none, first-append-some, first-append-skip, first-append-none}
 use Rattle.laws.proofs.Bits.{bitField-at, bitField-lt}
 use Rattle.laws.proofs.Card.{length-widths}
 use Rattle.laws.proofs.Fields.{Fair, FairAll, nil, cons, fair-range, table-length}
 use Rattle.laws.proofs.Attachments.{Fine, empty, one}
-use Rattle.laws.proofs.ShipText.{read-text-length}
+use Rattle.laws.proofs.ShipText.{read-text-length, text-cost}
 use Rattle.laws.proofs.Report.{Good, judged, size-within}
 use Rattle.laws.proofs.WholeList.{Kept, step-kept}
 use Rattle.laws.proofs.Machine.{Each, each-answer}
@@ -52,54 +53,59 @@ AnswerFits (accepted gs) = GivenFit gs
 
 -- ---- refusals
 
--- its place is below 64, and its number is not 0
+-- the first refusal of these checks, if there is one, is such
+unfoldable pub Near : (Refusal → Type 0) → List Check → Type 0
+Near P cs = (r : Refusal) → first cs ≡ some r → P r
+
+module _ (P : Refusal → Type 0) where
+  near-nil : Near P []
+  unfolding Near first
+  near-nil r e = let z : _≡_ {A = ℕ} 0 1 = cc in absurd (omega arith)
+
+  -- a check, and those behind it, which count where it does not fit
+  pub near-cons : (c : Check) (more : List Check) → P (c .refusal) → (c .fits ≡ false → Near P more) → Near P (c ∷ more)
+  unfolding Near first
+  near-cons c more h rest r = go (c .fits) refl
+    where
+      go : (t : Bool) → c .fits ≡ t → cond t (some (c .refusal)) (first more) ≡ some r → P r
+      go true q e = let s : c .refusal ≡ r = cc in subst P s h
+      go false q e = rest q r e
+
+  pub near-one : (c : Check) → P (c .refusal) → Near P (c ∷ [])
+  near-one c h = near-cons c [] h (λ q. near-nil)
+
+  near-append : (xs ys : List Check) → Near P xs → Near P ys → Near P (xs ++ ys)
+  unfolding Near
+  near-append xs ys hx hy r = go (first xs) refl
+    where
+      go : (o : Option Refusal) → first xs ≡ o → first (xs ++ ys) ≡ some r → P r
+      go none q e = hy r (sym (first-append-skip xs ys q) ∙ e)
+      go (some x) q e = hx r (q ∙ sym (first-append-some xs ys x q) ∙ e)
+
+-- its place is below 64
 abbrev Close : Refusal → Type 0
-Close r = (r .place < 64) × (1 ≤ r .number)
+Close r = r .place < 64
 
--- the first refusal of these checks, if there is one, is so
-unfoldable Near : List Check → Type 0
-Near cs = (r : Refusal) → first cs ≡ some r → Close r
-
-near-nil : Near []
-unfolding Near first
-near-nil r e = let z : _≡_ {A = ℕ} 0 1 = cc in absurd (omega arith)
-
--- a check, and those behind it, which count where it does not fit
-near-cons : (c : Check) (more : List Check) → Close (c .refusal) → (c .fits ≡ false → Near more) → Near (c ∷ more)
-unfolding Near first
-near-cons c more h rest r = go (c .fits) refl
-  where
-    go : (t : Bool) → c .fits ≡ t → cond t (some (c .refusal)) (first more) ≡ some r → Close r
-    go true q e = let s : c .refusal ≡ r = cc in subst Close s h
-    go false q e = rest q r e
-
-near-one : (c : Check) → Close (c .refusal) → Near (c ∷ [])
-near-one c h = near-cons c [] h (λ q. near-nil)
-
-near-append : (xs ys : List Check) → Near xs → Near ys → Near (xs ++ ys)
-unfolding Near
-near-append xs ys hx hy r = go (first xs) refl
-  where
-    go : (o : Option Refusal) → first xs ≡ o → first (xs ++ ys) ≡ some r → Close r
-    go none q e = hy r (sym (first-append-skip xs ys q) ∙ e)
-    go (some x) q e = hx r (q ∙ sym (first-append-some xs ys x q) ∙ e)
+-- so is a report's, whose number is 1 to 7
+abbrev OfReport : Refusal → Type 0
+OfReport r = (r .place < 64) × (1 ≤ r .number) × (r .number ≤ 7)
 
 -- the report's
-fields-near : (k : ℕ) (fs : List Field) (cs : List ℕ) → k + length fs ≤ 64 → Near (fieldChecks k fs cs)
+fields-near : (k : ℕ) (fs : List Field) (cs : List ℕ) → k + length fs ≤ 64 → Near OfReport (fieldChecks k fs cs)
 unfolding fieldChecks
-fields-near k [] cs h = near-nil
-fields-near k (f ∷ fs) [] h = near-nil
+fields-near k [] cs h = near-nil OfReport
+fields-near k (f ∷ fs) [] h = near-nil OfReport
 fields-near k (f ∷ fs) (c ∷ cs) h =
-    near-cons _ _ (omega arith, omega arith) (λ q. near-cons _ _ (omega arith, omega arith) (λ p. fields-near (suc k) fs cs (omega arith)))
+    near-cons OfReport _ _ (omega arith, omega arith, omega arith) (λ q. near-cons OfReport _ _ (omega arith, omega arith, omega arith) (λ p. fields-near (suc k) fs cs (omega arith)))
 
-attachments-near : (marks : FlagTable) (n i : ℕ) (seen ns : List ℕ) → i + n ≤ 64 → Near (attachmentChecks marks n i seen ns)
+attachments-near : (marks : FlagTable) (n i : ℕ) (seen ns : List ℕ) → i + n ≤ 64 → Near OfReport (attachmentChecks marks n i seen ns)
 unfolding attachmentChecks
-attachments-near marks zero i seen ns h = near-nil
+attachments-near marks zero i seen ns h = near-nil OfReport
 attachments-near marks (suc n) i seen ns h =
-    near-cons _ _ (omega arith, omega arith)
-    (λ q1. near-cons _ _ (omega arith, omega arith)
-    (λ q2. near-cons _ _ (omega arith, omega arith)
-    (λ q3. near-cons _ _ (omega arith, omega arith) (λ q4. attachments-near marks n (suc i) (idAt ns ∷ seen) (behind ns) (omega arith)))))
+    near-cons OfReport _ _ (omega arith, omega arith, omega arith)
+    (λ q1. near-cons OfReport _ _ (omega arith, omega arith, omega arith)
+    (λ q2. near-cons OfReport _ _ (omega arith, omega arith, omega arith)
+    (λ q3. near-cons OfReport _ _ (omega arith, omega arith, omega arith) (λ q4. attachments-near marks n (suc i) (idAt ns ∷ seen) (behind ns) (omega arith)))))
 
 count-low : (b : List ℕ) → countOf b < 16
 unfolding widths table
@@ -107,45 +113,44 @@ count-low b =
     let at = bitField-at widths b 48 (omega (arith, length-widths)) in
     subst (λ (n : ℕ). n < 16) at (bitField-lt b (offset widths 48) 4)
 
-report-near : (marks : FlagTable) (b : List ℕ) → Near (reportChecks marks b)
+report-near : (marks : FlagTable) (b : List ℕ) → Near OfReport (reportChecks marks b)
 unfolding reportChecks
 report-near marks b =
-    near-cons _ _ (omega arith, omega arith)
-    (λ q. near-append (fieldChecks 1 table (codesOf b)) _ (fields-near 1 table (codesOf b) (omega (arith, table-length)))
-    (near-cons _ _ (omega arith, omega arith)
-    (λ p. near-append (attachmentChecks marks (countOf b) 1 [] (tailOf b)) _ (attachments-near marks (countOf b) 1 [] (tailOf b) (omega (arith, count-low b)))
-    (near-one _ (omega arith, omega arith)))))
+    near-cons OfReport _ _ (omega arith, omega arith, omega arith)
+    (λ q. near-append OfReport (fieldChecks 1 table (codesOf b)) _ (fields-near 1 table (codesOf b) (omega (arith, table-length)))
+    (near-cons OfReport _ _ (omega arith, omega arith, omega arith)
+    (λ p. near-append OfReport (attachmentChecks marks (countOf b) 1 [] (tailOf b)) _ (attachments-near marks (countOf b) 1 [] (tailOf b) (omega (arith, count-low b)))
+    (near-one OfReport _ (omega arith, omega arith, omega arith)))))
 
-judge-close : (marks : FlagTable) (b : List ℕ) (r : Refusal) → judge marks b ≡ Verdict.refused r → Close r
+judge-close : (marks : FlagTable) (b : List ℕ) (r : Refusal) → judge marks b ≡ Verdict.refused r → OfReport r
 unfolding judge Near
 judge-close marks b r = go (first (reportChecks marks b)) refl
   where
-    go : (o : Option Refusal) → first (reportChecks marks b) ≡ o → verdict o (observationOf b) ≡ Verdict.refused r → Close r
+    go : (o : Option Refusal) → first (reportChecks marks b) ≡ o → verdict o (observationOf b) ≡ Verdict.refused r → OfReport r
     go none q e = let z : _≡_ {A = ℕ} 0 1 = cc in absurd (omega arith)
-    go (some x) q e = let s : x ≡ r = cc in subst Close s (report-near marks b x q)
+    go (some x) q e = let s : x ≡ r = cc in subst OfReport s (report-near marks b x q)
 
--- no refusal of a report has the number 0
-pub judge-number : (marks : FlagTable) (b : List ℕ) (r : Refusal) → judge marks b ≡ Verdict.refused r → 1 ≤ r .number
-judge-number marks b r e = judge-close marks b r e .1
+pub judge-number : (marks : FlagTable) (b : List ℕ) (r : Refusal) → judge marks b ≡ Verdict.refused r → (1 ≤ r .number) × (r .number ≤ 7)
+judge-number marks b r e = let c = judge-close marks b r e in (c .1, c .2)
 
 -- a call's: a number is judged before it is a place
-number-near : (low high x : ℕ) (more : List Check) → (x ≤ high → Near more) → Near (check (not (between low high x)) 8 0 ∷ more)
-number-near low high x more h = near-cons _ _ (omega arith, omega arith) (λ q. h (between-in low high x (between low high x) refl q .1))
+number-near : (low high x : ℕ) (more : List Check) → (x ≤ high → Near Close more) → Near Close (check (not (between low high x)) 8 0 ∷ more)
+number-near low high x more h = near-cons Close _ _ (omega arith) (λ q. h (between-in low high x (between low high x) refl q .1))
 
-calls-near : (marks : FlagTable) (s : Observation) (c : Call) → Near (callChecks marks s c)
+calls-near : (marks : FlagTable) (s : Observation) (c : Call) → Near Close (callChecks marks s c)
 unfolding callChecks
-calls-near marks s (reads (readField k)) = number-near 1 46 k _ (λ h. near-nil)
-calls-near marks s (reads (readFlag j)) = number-near 1 14 j _ (λ h. near-one _ (omega arith, omega arith))
-calls-near marks s (edits (setField k v)) = number-near 1 46 k _ (λ h. near-one _ (omega arith, omega arith))
-calls-near marks s (edits (clearField k)) = number-near 1 46 k _ (λ h. near-one _ (omega arith, omega arith))
-calls-near marks s (edits (setFlag j v)) = number-near 1 14 j _ (λ h. near-cons _ _ (omega arith, omega arith) (λ q. near-one _ (omega arith, omega arith)))
-calls-near marks s (edits (clearFlag j)) = number-near 1 14 j _ (λ h. near-one _ (omega arith, omega arith))
-calls-near marks s (edits (put i ns)) = number-near 1 15 i _ (λ h. near-cons _ _ (omega arith, omega arith) (λ q. near-one _ (omega arith, omega arith)))
-calls-near marks s (edits (remove i)) = number-near 1 15 i _ (λ h. near-one _ (omega arith, omega arith))
+calls-near marks s (reads (readField k)) = number-near 1 46 k _ (λ h. near-nil Close)
+calls-near marks s (reads (readFlag j)) = number-near 1 14 j _ (λ h. near-one Close _ (omega arith))
+calls-near marks s (edits (setField k v)) = number-near 1 46 k _ (λ h. near-one Close _ (omega arith))
+calls-near marks s (edits (clearField k)) = number-near 1 46 k _ (λ h. near-one Close _ (omega arith))
+calls-near marks s (edits (setFlag j v)) = number-near 1 14 j _ (λ h. near-cons Close _ _ (omega arith) (λ q. near-one Close _ (omega arith)))
+calls-near marks s (edits (clearFlag j)) = number-near 1 14 j _ (λ h. near-one Close _ (omega arith))
+calls-near marks s (edits (put i ns)) = number-near 1 15 i _ (λ h. near-cons Close _ _ (omega arith) (λ q. near-one Close _ (omega arith)))
+calls-near marks s (edits (remove i)) = number-near 1 15 i _ (λ h. near-one Close _ (omega arith))
 calls-near marks s (edits (putText t os)) =
-    near-cons _ _ (omega arith, omega arith) (λ p. near-cons _ _ (omega arith, omega arith) (λ q. near-cons _ _ (omega arith, omega arith) (λ r. near-one _ (omega arith, omega arith))))
-calls-near marks s (fetches (fetch i out)) = number-near 1 15 i _ (λ h. near-one _ (omega arith, omega arith))
-calls-near marks s (fetches (fetchText out origins)) = near-one _ (omega arith, omega arith)
+    near-cons Close _ _ (omega arith) (λ p. near-cons Close _ _ (omega arith) (λ q. near-cons Close _ _ (omega arith) (λ r. near-one Close _ (omega arith))))
+calls-near marks s (fetches (fetch i out)) = number-near 1 15 i _ (λ h. near-one Close _ (omega arith))
+calls-near marks s (fetches (fetchText out origins)) = near-one Close _ (omega arith)
 
 -- ---- numbers that are given
 
@@ -203,18 +208,32 @@ set-small unknown = omega arith
 set-small ebcdic = omega arith
 set-small ascii = omega arith
 
-gives-fit : (marks : FlagTable) (s : Observation) (c : Call) → Good marks s → GivenFit (gives s c)
+-- a text that is put has passed its check of 12
+text-low : (marks : FlagTable) (s : Observation) (t os : List ℕ) → first (callChecks marks s (edits (putText t os))) ≡ none → nibbleCount (symbolsIn t os) ≤ 255
+unfolding callChecks
+text-low marks s t os e =
+    let passed = first-none _ _ (first-none _ _ (first-none _ _ e .1) .1) .0 in
+    between-in 1 255 (nibbleCount (symbolsIn t os)) _ refl passed .1
+
+gives-fit : (marks : FlagTable) (s : Observation) (c : Call) → Good marks s → first (callChecks marks s c) ≡ none → GivenFit (gives s c)
 unfolding gives
-gives-fit marks s (reads (readField k)) g = (value-fits (g .fair) table-narrow (k - 1), tt)
-gives-fit marks s (reads (readFlag j)) g =
+gives-fit marks s (reads (readField k)) g e = (value-fits (g .fair) table-narrow (k - 1), tt)
+gives-fit marks s (reads (readFlag j)) g e =
     let v = flagAt (content s 1) j in
     let h = content-low marks 1 (g .fine) .1 (j - 1) in
-    (cond-case NumberFits (eqb v 0) none (some (pos v)) (λ e. tt) (λ e. omega arith), tt)
-gives-fit marks s (edits e) g = tt
-gives-fit marks s (fetches (fetch i out)) g = let h = content-low marks i (g .fine) .0 in (omega arith, tt)
-gives-fit marks s (fetches (fetchText out origins)) g =
+    (cond-case NumberFits (eqb v 0) none (some (pos v)) (λ _. tt) (λ _. omega arith), tt)
+gives-fit marks s (edits (setField k v)) g e = tt
+gives-fit marks s (edits (clearField k)) g e = tt
+gives-fit marks s (edits (setFlag j v)) g e = tt
+gives-fit marks s (edits (clearFlag j)) g e = tt
+gives-fit marks s (edits (put i ns)) g e = tt
+gives-fit marks s (edits (remove i)) g e = tt
+gives-fit marks s (edits (putText t os)) g e = (omega (arith, text-low marks s t os e), tt)
+gives-fit marks s (fetches (fetch i out)) g e = let h = content-low marks i (g .fine) .0 in (omega arith, tt)
+gives-fit marks s (fetches (fetchText out origins)) g e =
     let h = content-low marks 4 (g .fine) .0 in
-    (omega (arith, read-text-length (content s 4)), (set-small (deckSet (getD (s .values) 9 none)), tt))
+    let symbols = read-text-length (content s 4) in
+    (omega arith, (set-small (deckSet (getD (s .values) 9 none)), (omega (arith, text-cost (shipText s)), tt)))
 
 -- ---- answers
 
@@ -222,12 +241,12 @@ step-fits : (marks : FlagTable) (n : ℕ) (s : Observation) (c : Call) → Good 
 unfolding step Near
 step-fits marks n s c g = go (first (checks marks n s c)) refl
   where
-    near : Near (checks marks n s c)
-    near = unfold checks in near-append (callChecks marks s c) (roomCheck n s c ∷ []) (calls-near marks s c) (near-one (roomCheck n s c) (omega arith))
+    near : Near Close (checks marks n s c)
+    near = unfold checks in near-append Close (callChecks marks s c) (roomCheck n s c ∷ []) (calls-near marks s c) (near-one Close (roomCheck n s c) (omega arith))
 
     go : (o : Option Refusal) → first (checks marks n s c) ≡ o → AnswerFits (steppedBy o s c .answer)
     go (some r) q = let h = near r q in omega arith
-    go none q = gives-fit marks s c g
+    go none q = gives-fit marks s c g (first-append-none (callChecks marks s c) (roomCheck n s c ∷ []) (unfold checks in q) .0)
 
 pub effect-fits : (marks : FlagTable) (b : List ℕ) (c : Call) → Bytes b → AnswerFits (effect marks b c .answer)
 unfolding effect

@@ -1,6 +1,7 @@
 -- What each return of each call leaves is its effect. The proofs of the calls cite these, one at each return.
 -- Assumes nothing.
 use Prim.Native.Nat.{ℕ, _≤_, _<_}
+use native.Mathlib.Omega.{arith}
 use mathlib.Core.Path.{_≡_, refl, sym, ap, ap₂, _∙_}
 use mathlib.Core.Bool.{Bool, true, false, not}
 use mathlib.Core.List.{List, [], _∷_, _++_, append-assoc}
@@ -12,13 +13,17 @@ use Rattle.format.specs.Flags.{FlagTable}
 use Rattle.format.specs.Observation.{Observation, size}
 use Rattle.format.specs.Report.{Verdict, judge}
 use Rattle.format.specs.Calls.{Call, Reading, Editing, Fetching, reads, edits, fetches, made, edited, afterEdit, next, shorter, gives, overfull, overEach, outputsOf}
-use Rattle.format.specs.Calls.{writes, roomCheck, callChecks, checks, Answer, Stepped, steppedBy, step}
+use Rattle.format.specs.Calls.{writes, roomCheck, callChecks, checks, Given, Answer, Stepped, steppedBy, step}
 use Rattle.format.specs.Buffer.{layout, bufferAfter, after, effect}
 use Rattle.format.specs.Reply.{refusal}
 use Rattle.laws.proofs.Order.{first-fits, first-append-skip, no-check, no-checks, first-nil}
 use Rattle.format.specs.Bits.{Bytes}
 use Rattle.laws.proofs.Report.{size-within}
 use Rattle.laws.proofs.WholeList.{layout-same}
+
+-- an answer is not both
+pub refused-accepted : {A : Type 0} (r : Refusal) (gs : List Given) → Answer.refused r ≡ Answer.accepted gs → A
+refused-accepted r gs e = let z : _≡_ {A = ℕ} 0 1 = cc in absurd (omega arith)
 
 -- on a refused report
 pub effect-refused : (marks : FlagTable) (b : List ℕ) (r : Refusal) (c : Call) → judge marks b ≡ Verdict.refused r → after (Answer.refused r) b (outputsOf c) ≡ effect marks b c

@@ -20,3 +20,5 @@ pub mod Effects
 pub mod Presence
 pub mod Whole
 pub mod Bounds
+pub mod Costliest
+pub mod TextCounts

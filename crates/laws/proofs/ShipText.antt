@@ -15,7 +15,7 @@ use Rattle.format.specs.declared.TextState.{TextState}
 use Rattle.format.specs.declared.TextState.the-variants.{Between, Run, Pair, Escape, Half, Invalid}
 use Rattle.format.specs.declared.TextStep.{TextStep}
 use Rattle.format.specs.declared.TextStep.the-variants.{On, Plain, Original}
-use Rattle.format.specs.ShipText.{charCode, short, pairByte, codeNibbles, Symbol, plain, original, admitted, allAdmitted, isSpace, symbolNibbles, fulls, rest}
+use Rattle.format.specs.ShipText.{charCode, short, pairByte, codeNibbles, Symbol, plain, original, admitted, allAdmitted, isSpace, symbolNibbles, fulls, rest, nibbleCount, endsInSpace}
 use Rattle.format.specs.ShipText.{spaceRun, writeFrom, writeText, spaces, textStep, stateAfter, symbolsOf, readFrom, endFrom, atEnd, textValid, readText}
 use Rattle.format.specs.Calls.{allNibbles}
 use Rattle.laws.proofs.Sequences.{and-true, true-false, cond-case, test-case}
@@ -477,6 +477,51 @@ pub run-length : (s : ℕ) → length (spaceRun s) ≤ s
 unfolding spaceRun
 run-length s = omega (arith, length-append (fulls (s / 18)) (rest (s % 18)), fulls-length (s / 18), rest-length (s % 18))
 
+-- what a symbol takes less than three nibbles, at least
+unfoldable pub saved : Symbol → ℕ
+saved (plain b) = cond (short b) 1 0
+saved (original b) = 0
+
+unfoldable pub allSaved : List Symbol → ℕ
+allSaved [] = 0
+allSaved (x ∷ xs) = saved x + allSaved xs
+
+saved-one : (x : Symbol) → saved x ≤ 1
+unfolding saved
+saved-one (plain b) = cond-case (λ (n : ℕ). n ≤ 1) (short b) 1 0 (λ _. omega arith) (λ _. omega arith)
+saved-one (original b) = omega arith
+
+symbol-cost : (x : Symbol) → (1 ≤ length (symbolNibbles x)) × (length (symbolNibbles x) + saved x ≤ 3)
+unfolding symbolNibbles codeNibbles saved short
+symbol-cost (plain b) =
+    let v = charCode b in
+    test-case (ltb v 16)
+    (λ e. let i : ltb v 256 ≡ true = lt-ltb v 256 (omega (arith, ltb-true v 16 e)) in rw (e, i) (omega arith, omega arith))
+    (λ e. test-case (ltb v 256) (λ f. rw (e, f) (omega arith, omega arith)) (λ f. rw (e, f) (omega arith, omega arith)))
+symbol-cost (original b) = (omega arith, omega arith)
+
+-- behind s spaces a row takes three nibbles a symbol and one a space at most, and less by what its symbols save
+write-cost : (t : List Symbol) (s : ℕ) → length (writeFrom s t) + allSaved t ≤ s + 3 * length t
+unfolding writeFrom allSaved
+write-cost [] s = omega arith
+write-cost (x ∷ t) s =
+    write-case (λ (l : List ℕ). length l + allSaved (x ∷ t) ≤ s + 3 * length (x ∷ t)) s x t
+    (λ _. omega (arith, write-cost t (suc s), saved-one x))
+    (λ _. omega (arith, write-cost t 0, symbol-cost x .1, run-length s, length-append (spaceRun s) (symbolNibbles x ++ writeFrom 0 t), length-append (symbolNibbles x) (writeFrom 0 t)))
+
+-- and at least one, where its last symbol is no space
+write-some : (t : List Symbol) (s : ℕ) → 1 ≤ length t → endsInSpace t ≡ false → 1 ≤ length (writeFrom s t)
+unfolding endsInSpace
+write-some [] s h e = absurd (omega arith)
+write-some (x ∷ t) s h e =
+    write-case (λ (l : List ℕ). 1 ≤ length l) s x t (λ f. later t e f (λ h′ e′. write-some t (suc s) h′ e′))
+    (λ _. omega (arith, symbol-cost x .0, length-append (spaceRun s) (symbolNibbles x ++ writeFrom 0 t), length-append (symbolNibbles x) (writeFrom 0 t)))
+  where
+    later : (u : List Symbol) → endsInSpace (x ∷ u) ≡ false → isSpace x ≡ true → (1 ≤ length u → endsInSpace u ≡ false → 1 ≤ length (writeFrom (suc s) u))
+        → 1 ≤ length (writeFrom (suc s) u)
+    later [] q f more = absurd (true-false (isSpace x) f q)
+    later (y ∷ ys) q f more = more (omega arith) q
+
 -- the spaces that wait, and 9 for an 11, half of the 18 that it may bring
 unfoldable pub credit : TextState → ℕ
 credit (Between s) = s
@@ -579,6 +624,15 @@ shortest ns t h e =
 pub read-text-length : (ns : List ℕ) → length (readText ns) ≤ 9 * length ns
 unfolding readText credit
 read-text-length ns = omega (arith, read-length ns (Between 0))
+
+-- FORMAT 7.9: three nibbles a symbol is the most that a row takes
+pub text-cost : (t : List Symbol) → nibbleCount t + allSaved t ≤ 3 * length t
+unfolding writeText
+text-cost t = omega (arith, write-cost t 0)
+
+pub text-some : (t : List Symbol) → 1 ≤ length t → endsInSpace t ≡ false → 1 ≤ nibbleCount t
+unfolding writeText
+text-some t h e = write-some t 0 h e
 
 -- ---- one symbol alone
 

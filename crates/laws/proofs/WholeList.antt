@@ -88,7 +88,7 @@ layout-length : (b : List ℕ) (e : ℕ) (s : Observation) → size s ≤ e → 
 unfolding layout
 layout-length b e s h k = simp (length-append, length-replicate, length-drop) (omega arith)
 
-judge-layout : (marks : FlagTable) (b : List ℕ) (e : ℕ) (s : Observation) → Good marks s → judge marks (layout b e s) ≡ Verdict.accepted s
+pub judge-layout : (marks : FlagTable) (b : List ℕ) (e : ℕ) (s : Observation) → Good marks s → judge marks (layout b e s) ≡ Verdict.accepted s
 unfolding layout
 judge-layout marks b e s g = judge-packing marks s _ g
 

@@ -4,9 +4,11 @@ use Prim.{Unit, tt}
 use Prim.Native.Nat.{ℕ, _<_, _^_}
 use native.Mathlib.Omega.{arith}
 use mathlib.Core.Path.{_≡_, refl, sym, ap, ap₂, subst, _∙_}
+use mathlib.Core.Bool.{_||_}
 use mathlib.Core.List.{List, [], _∷_, map}
 use mathlib.Core.Option.{Option, none, some}
 use lib.ListN.{length, set}
+use lib.Dec.{ltb}
 use lib.IntN.{ℤ, pos}
 use mir.Syntax.{w64}
 use mir.Val.{SFits, toZ, ofZ}
@@ -24,6 +26,8 @@ use Rattle.format.specs.Reply.{refusal, answerOf}
 use Rattle.format.specs.declared.Reply.the-variants.{Text}
 use Rattle.script.specs.Labels.{quantityLabel, labels}
 use Rattle.format.specs.Whole.{Wrote, Unpacked, unpacked, packObservation, packOrder, packGives, pack}
+use Rattle.format.specs.Costliest.{costliestChecks, costliestRefusal}
+use Rattle.laws.proofs.Sequences.{cond-case}
 use Rattle.laws.proofs.Report.{judged, size-range}
 use Rattle.laws.proofs.Whole.{judge-pack}
 use Rattle.laws.proofs.Bounds.{GivenFit, AnswerFits, effect-fits}
@@ -45,11 +49,12 @@ number-given label z f = ap (single label) (toZ-ofZ w64 z f)
 pub count-given : (label n : ℕ) (r : Answer) → n < 2 ^ 63 → r ≡ single label (toZ w64 n) → r ≡ single label (pos n)
 count-given label n r f h = h ∙ ap (single label) (toZ-pos w64 n (omega arith))
 
--- two
-pub two-given : (n k : ℕ) → n < 2 ^ 63 → k < 2 ^ 63
-    → record { refusal = 0; given = 2563; place = 0; first = toZ w64 n; second = toZ w64 k; third = pos 0 } ≡ numbered (answerOf (Text n k))
+-- three
+pub three-given : (n k m : ℕ) → n < 2 ^ 63 → k < 2 ^ 63 → m < 2 ^ 63
+    → record { refusal = 0; given = 592387; place = 0; first = toZ w64 n; second = toZ w64 k; third = toZ w64 m } ≡ numbered (answerOf (Text n k m))
 unfolding labels quantityLabel
-two-given n k h g = ap₂ (λ (x y : ℤ). answer 0 2563 0 x y (pos 0)) (toZ-pos w64 n (omega arith)) (toZ-pos w64 k (omega arith))
+three-given n k m h g l =
+    rw (toZ-pos w64 n (omega arith), toZ-pos w64 k (omega arith), toZ-pos w64 m (omega arith))
 
 -- ---- the numbers fit
 
@@ -77,6 +82,12 @@ pub pack-fits : (marks : FlagTable) (values : List ℤ) (word rptin : ℕ) (ns o
 pack-fits marks values word rptin ns out o p n e q r h =
     subst SizeFits (sym (ap (λ (w : Wrote). w .answer) e) ∙ ap packAnswer q)
     (packed-fits marks values word rptin ns out r (subst Bytes (ap (λ (w : Wrote). w .out) e) h)) .0
+
+pub costliest-fits : (m : ℕ) (text origins : List ℕ) → AnswerFits (call.doneBy (costliestRefusal m text origins))
+unfolding costliestRefusal costliestChecks first
+costliest-fits m text origins =
+    cond-case (λ (o : Option Refusal). AnswerFits (call.doneBy o)) (ltb 85 m) _ _ (λ _. omega arith)
+    (λ _. cond-case (λ (o : Option Refusal). AnswerFits (call.doneBy o)) (ltb (length text) m || ltb (length origins) m) _ _ (λ _. omega arith) (λ _. tt))
 
 -- ---- each call
 

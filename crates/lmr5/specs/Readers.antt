@@ -4,12 +4,9 @@
 use Prim.Native.Nat.{ℕ, _+_}
 use mathlib.Core.Path.{_≡_}
 use mathlib.Core.List.{List, [], _∷_}
-use mathlib.Core.Option.{Option, none, some}
 use lib.ListN.{length, getD, set}
-use Rattle.format.specs.Order.{Refusal}
 use Rattle.format.specs.Flags.{FlagTable}
-use Rattle.format.specs.Calls as call
-use Rattle.format.specs.Calls.{refused, accepted}
+use Rattle.format.specs.Calls.{doneBy}
 use Rattle.format.specs.Display.{openingRefusal, displayed}
 use Rattle.text_display.specs.declared.Opening.{Opening}
 use Rattle.text_display.specs.declared.Step.{Step}
@@ -22,14 +19,9 @@ use Rattle.lmr5.specs.Numbered.{numbered}
 abbrev pub readerOf : Opening → List ℕ
 readerOf o = o .at ∷ o .end ∷ 0 ∷ o .number ∷ o .place ∷ []
 
--- opening gives nothing, or is refused
-abbrev pub openAnswer : Option Refusal → call.Answer
-openAnswer none = accepted []
-openAnswer (some r) = refused r
-
 -- the answer, the refusal in the reader, and what every choice of the other numbers has in common: the steps give the symbols
 pub record ReaderOpened (marks : FlagTable) (b reader : List ℕ) (r : Answer) : Type 0 where
-  pub answer : r ≡ numbered (openAnswer (openingRefusal marks b))
+  pub answer : r ≡ numbered (doneBy (openingRefusal marks b))
   pub five : length reader ≡ 5
   pub number : getD reader 3 0 ≡ numberOf (openingRefusal marks b)
   pub place : getD reader 4 0 ≡ placeOf (openingRefusal marks b)

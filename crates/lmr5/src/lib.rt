@@ -13,6 +13,7 @@ ghost use Rattle.format.specs.Reply.{refusal, answerOf};
 ghost use Rattle.format.specs.Flags.{allYes};
 ghost use Rattle.format.specs.ShipText.{charTable};
 ghost use Rattle.format.specs.Loading.{loadAnswer, inForce};
+ghost use Rattle.format.specs.Costliest.{costliestRefusal, CostliestLeaves};
 ghost use Rattle.laws.proofs.Bounds.{AnswerFits};
 ghost use Rattle.unpack.specs.Answers.{contentsNumbers};
 ghost use Rattle.characters.specs.Table.{ReadBack};
@@ -93,18 +94,18 @@ fn counted(label: u32, n: usize) -> Answer
     given(label, n as i64)
 }
 
-// Two numbers.
-fn two(n: usize, set: u8) -> Answer
+// Three numbers.
+fn three(n: usize, set: u8, nibbles: u8) -> Answer
     requires { ⌜ n < 2 ^ 63 ⌝ }
-    ensures { λ r. ⌜ r ≡ numbered (answerOf (Text n set)) ⌝ }
+    ensures { λ r. ⌜ r ≡ numbered (answerOf (Text n set nibbles)) ⌝ }
 {
     Answer {
         refusal: 0,
-        given: 2563,
+        given: 592387,
         place: 0,
         first: n as i64,
         second: set as i64,
-        third: 0,
+        third: nibbles as i64,
     }
 }
 
@@ -123,7 +124,8 @@ fn answer_of(r: Reply) -> Answer
         Reply::Flag(v) => given(2, v as i64),
         Reply::MissingFlag => given(130, 0),
         Reply::Count(n) => counted(3, n),
-        Reply::Text(n, set) => two(n, set),
+        Reply::Nibbles(n) => given(9, n as i64),
+        Reply::Text(n, set, nibbles) => three(n, set, nibbles),
     }
 }
 
@@ -345,6 +347,14 @@ pub extern "C" fn lmr5_fetch_text(
         ≡ numberedAfter (effect (now (table .entry)) (now (report .entry)) (call.fetches (call.fetchText (now (text .entry)) (now (origins .entry))))) ⌝ }
 {
     answer_of(call_fetches::fetch_text(&*report, text, origins, table))
+}
+
+#[no_mangle]
+pub extern "C" fn lmr5_costliest_text(symbols: usize, text: &mut [u8], origins: &mut [u8]) -> Answer
+    ensures { λ r. ⌜ (r ≡ numbered (call.doneBy (costliestRefusal symbols (now (text .entry)) (now (origins .entry)))))
+        × CostliestLeaves symbols (now (text .entry)) (now (origins .entry)) (now (text .exit)) (now (origins .exit)) ⌝ }
+{
+    answer_of(text_cost::costliest(symbols, text, origins))
 }
 
 // ---- the reader of the ship text

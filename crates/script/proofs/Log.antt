@@ -17,7 +17,8 @@ use Rattle.format.specs.Order.{Refusal, first}
 use Rattle.format.specs.Flags.{FlagTable}
 use Rattle.format.specs.Observation.{Observation, size}
 use Rattle.format.specs.Report.{Verdict, judge}
-use Rattle.format.specs.Calls.{Call, reads, edits, fetches, readField, readFlag, fetch, fetchText, edited, shorter, overfull, overEach, outputsOf, writes, roomCheck, callChecks, checks}
+use Rattle.format.specs.Calls.{Call, reads, edits, fetches, readField, setField, clearField, readFlag, setFlag, clearFlag, put, remove, putText, fetch, fetchText}
+use Rattle.format.specs.Calls.{edited, shorter, overfull, overEach, outputsOf, writes, roomCheck, callChecks, checks}
 use Rattle.format.specs.Calls.{Quantity, value, flag, count, word, present, rptin, attachments, bytes, nibbles, deck, Given, given, gives, Answer, refused, accepted, steppedBy, step, over}
 use Rattle.format.specs.Buffer.{Shown, Standing, standing, stepping, run, effectOn, effect, refusals, claimOn, claim}
 use Rattle.laws.proofs.Sequences.{or-false}
@@ -198,7 +199,13 @@ gives-few : (s : Observation) (c : Call) → length (gives s c) ≤ 3
 unfolding gives
 gives-few s (reads (readField k)) = omega arith
 gives-few s (reads (readFlag j)) = omega arith
-gives-few s (edits e) = omega arith
+gives-few s (edits (setField k v)) = omega arith
+gives-few s (edits (clearField k)) = omega arith
+gives-few s (edits (setFlag j v)) = omega arith
+gives-few s (edits (clearFlag j)) = omega arith
+gives-few s (edits (put i ns)) = omega arith
+gives-few s (edits (remove i)) = omega arith
+gives-few s (edits (putText t os)) = omega arith
 gives-few s (fetches (fetch i out)) = omega arith
 gives-few s (fetches (fetchText out origins)) = omega arith
 

@@ -98,15 +98,11 @@ pub given-put : (q : Quantity) (n : Option ℤ)
 unfolding headOf rowOf
 given-put q n = rw no-second
 
-no-third : rowOf 1 [] ≡ zeros 9
-unfolding rowOf bytes8 bytesOf
-no-third = refl
-
--- two numbers, none of them missing
-pub two-put : (q : Quantity) (n : ℕ) (r : Quantity) (m : ℕ) → headOf (accepted (counted q n ∷ counted r m ∷ []))
-    ≡ 1 ∷ 0 ∷ (bytes8 0 ++ (quantityLabel q ∷ (bytes8 n ++ (quantityLabel r ∷ (bytes8 m ++ zeros 9)))))
+-- three numbers, none of them missing
+pub three-put : (q : Quantity) (n : ℕ) (r : Quantity) (m : ℕ) (s : Quantity) (k : ℕ) → headOf (accepted (counted q n ∷ counted r m ∷ counted s k ∷ []))
+    ≡ 1 ∷ 0 ∷ (bytes8 0 ++ (quantityLabel q ∷ (bytes8 n ++ (quantityLabel r ∷ (bytes8 m ++ (quantityLabel s ∷ bytes8 k))))))
 unfolding headOf rowOf unsigned
-two-put q n r m = rw no-third
+three-put q n r m s k = rw append-nil
 
 -- the bytes of one number, and what stands behind it
 pub one-parts : (label n : ℕ) → 1 ∷ 0 ∷ (bytes8 0 ++ (label ∷ (bytes8 n ++ zeros 18))) ≡ (1 ∷ 0 ∷ (bytes8 0 ++ (label ∷ bytes8 n))) ++ (zeros 9 ++ zeros 9)
@@ -118,6 +114,16 @@ one-length label n = simp (length-append, length-bytes8)
 pub two-parts : (label n other m : ℕ) → (1 ∷ 0 ∷ (bytes8 0 ++ (label ∷ bytes8 n))) ++ ((other ∷ bytes8 m) ++ zeros 9)
     ≡ 1 ∷ 0 ∷ (bytes8 0 ++ (label ∷ (bytes8 n ++ (other ∷ (bytes8 m ++ zeros 9)))))
 two-parts label n other m = ap (λ (xs : List ℕ). 1 ∷ 0 ∷ xs) (append-assoc (bytes8 0) (label ∷ bytes8 n) ((other ∷ bytes8 m) ++ zeros 9))
+
+-- and of two
+abbrev pub twoFront : ℕ → ℕ → ℕ → ℕ → List ℕ
+twoFront label n other m = 1 ∷ 0 ∷ (bytes8 0 ++ (label ∷ (bytes8 n ++ (other ∷ bytes8 m))))
+
+pub front-append : (label n other m : ℕ) (xs : List ℕ) → twoFront label n other m ++ xs ≡ 1 ∷ 0 ∷ (bytes8 0 ++ (label ∷ (bytes8 n ++ (other ∷ (bytes8 m ++ xs)))))
+front-append label n other m xs = rw (append-assoc (bytes8 0) (label ∷ (bytes8 n ++ (other ∷ bytes8 m))) xs, append-assoc (bytes8 n) (other ∷ bytes8 m) xs)
+
+pub front-length : (label n other m : ℕ) → length (twoFront label n other m) ≡ 28
+front-length label n other m = simp (length-append, length-bytes8)
 
 -- with the answer as the code has it
 pub reply-put : (r r′ : Reply) (log log′ xs : List ℕ) → r ≡ r′ → headOf (answerOf r′) ≡ xs → log′ ≡ over xs log → log′ ≡ over (headOf (answerOf r)) log

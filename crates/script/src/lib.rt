@@ -94,13 +94,22 @@ fn put_given(log: &mut [u8], label: u8, n: u64)
     put_labelled(&mut log[10..], label, n);
 }
 
-// The same of a call that gives two.
+// The same of two numbers, which a third may follow.
 fn put_two(log: &mut [u8], label: u8, n: u64, other: u8, m: u64)
     requires { ⌜ 37 ≤ length (now log) ⌝ }
     ensures { λ _. ⌜ now (log .exit) ≡ over (1 ∷ 0 ∷ (bytes8 0 ++ (label ∷ (bytes8 n ++ (other ∷ (bytes8 m ++ zeros 9)))))) (now (log .entry)) ⌝ }
 {
     put_given(log, label, n);
     put_labelled(&mut log[19..], other, m);
+}
+
+// The same of a call that gives three numbers.
+fn put_three(log: &mut [u8], label: u8, n: u64, other: u8, m: u64, last: u8, k: u64)
+    requires { ⌜ 37 ≤ length (now log) ⌝ }
+    ensures { λ _. ⌜ now (log .exit) ≡ over (1 ∷ 0 ∷ (bytes8 0 ++ (label ∷ (bytes8 n ++ (other ∷ (bytes8 m ++ (last ∷ bytes8 k))))))) (now (log .entry)) ⌝ }
+{
+    put_two(log, label, n, other, m);
+    put_labelled(&mut log[28..], last, k);
 }
 
 // Writes an answer over the first 37 bytes of a log.
@@ -132,8 +141,11 @@ pub fn put_reply(log: &mut [u8], r: Reply)
         Reply::Count(n) => {
             put_given(log, 3, n as u64);
         }
-        Reply::Text(n, set) => {
-            put_two(log, 3, n as u64, 10, set as u64);
+        Reply::Nibbles(n) => {
+            put_given(log, 9, n as u64);
+        }
+        Reply::Text(n, set, nibbles) => {
+            put_three(log, 3, n as u64, 10, set as u64, 9, nibbles as u64);
         }
     }
 }

@@ -147,9 +147,10 @@ fn unpack_in(s: &[u8], trip: bool, marks: &FlagTable) {
 fn put_read(r: Reply) {
     match r {
         Reply::Refused(number, place) => test_io::put_refused(number, place),
-        Reply::Text(n, set) => {
+        Reply::Text(n, set, nibbles) => {
             test_io::put_head(2, 0, n as u64);
             test_io::put8(set as u64);
+            test_io::put8(nibbles as u64);
         }
         _ => (),
     }
@@ -319,6 +320,73 @@ fn characters_one() {
     put_entries(&table);
 }
 
+// The answer to a text that is put.
+fn put_put(r: Reply) {
+    match r {
+        Reply::Refused(number, place) => test_io::put_refused(number, place),
+        Reply::Nibbles(n) => test_io::put_head(2, 0, n as u64),
+        _ => (),
+    }
+}
+
+// Puts a text to a fresh report with room behind it.
+fn put_fresh(text: &[u8], origins: &[u8]) {
+    let mut s = [0u8; 200];
+    let marks = flag_table::all_yes();
+    fresh::fresh(
+        Scaled(1),
+        Scaled(1900),
+        Scaled(1),
+        Scaled(0),
+        Scaled(0),
+        &mut s,
+    );
+    put_put(call_puts::put_text(&mut s, text, origins, &marks));
+}
+
+// The marks, the bytes that are not the program's choice, and what a put of the text gives.
+fn show_costliest(r: Reply, m: usize, text: &[u8], origins: &[u8]) {
+    match r {
+        Reply::Done => {
+            test_io::put_head(1, 0, 0);
+            test_io::put_bytes(origins);
+            if m <= text.len() {
+                test_io::put_bytes(&text[m..]);
+                if m <= origins.len() {
+                    put_fresh(&text[..m], &origins[..m]);
+                }
+            }
+        }
+        Reply::Refused(number, place) => {
+            test_io::put_refused(number, place);
+            test_io::put_bytes(origins);
+            test_io::put_bytes(text);
+        }
+        _ => (),
+    }
+}
+
+fn costliest_origins(m: usize, text: &mut [u8], origins: &mut [u8]) {
+    test_io::get_bytes(origins);
+    let r = text_cost::costliest(m, text, origins);
+    show_costliest(r, m, text, origins);
+}
+
+fn costliest_text(m: usize, text: &mut [u8]) {
+    test_io::get_bytes(text);
+    let mut origins = [0u8; 200];
+    let n = test_io::get_length(200);
+    costliest_origins(m, text, &mut origins[..n]);
+}
+
+// The costliest text of so many symbols.
+fn costliest_one() {
+    let m = test_io::get8() as usize;
+    let mut text = [0u8; 200];
+    let n = test_io::get_length(200);
+    costliest_text(m, &mut text[..n]);
+}
+
 // One vector under a table; false at the end of the input.
 fn one(kind: u8, marks: &FlagTable) -> bool {
     match kind {
@@ -326,6 +394,7 @@ fn one(kind: u8, marks: &FlagTable) -> bool {
         3 => fresh_one(),
         5 | 8 => pack_one(kind == 8, marks),
         9 => characters_one(),
+        12 => costliest_one(),
         _ => return false,
     }
     true

@@ -14,16 +14,17 @@ use Rattle.format.specs.Bits.{Bytes}
 use Rattle.format.specs.Order.{Refusal}
 use Rattle.format.specs.Flags.{FlagTable}
 use Rattle.format.specs.Nibbles.{nibbles}
-use Rattle.format.specs.ShipText.{Symbol, plain, symbolOf, pairByte, textValid, readText}
+use Rattle.format.specs.ShipText.{Symbol, plain, symbolOf, pairByte, writeFrom, writeText, nibbleCount, textValid, readText}
 use Rattle.format.specs.Report.{Verdict, observationOf, judge}
 use Rattle.format.specs.Calls.{callChecks, standsCheck, shipText}
 use Rattle.format.specs.Display.{openingOn, openingRefusal, displayedBy, displayed, handed}
 use Rattle.laws.proofs.Sequences.{and-true, cond-case, test-case}
 use Rattle.laws.proofs.Order.{first-fits}
 use Rattle.laws.proofs.Nibbles.{length-nibbles}
+use Rattle.laws.proofs.TextCounts.{read-count}
 use Rattle.report.specs.declared.Report.{Report}
 use Rattle.report.specs.Found.{Found}
-use Rattle.report.proofs.Found.{reach, absent, stands-passes, content-is, spot}
+use Rattle.report.proofs.Found.{good, al-is, reach, absent, stands-passes, content-is, spot}
 use Rattle.call_fetches.proofs.Fetches.{body-valid}
 use Rattle.text_reader.specs.declared.Code.{Code}
 use Rattle.text_reader.specs.Codes.{code, codeAt, whole, nothing, codeIn}
@@ -198,27 +199,32 @@ module _ (b : List ℕ) (at len : ℕ) (valid : textValid (take len (drop at (ni
 no-text : (b : List ℕ) → Gives b 0 0 0 []
 no-text b = gives-none b 0 0 0 (end-step b 0 0 (omega arith))
 
+no-nibbles : 0 ≡ 0 + nibbleCount []
+unfolding writeText writeFrom
+no-nibbles = refl
+
 -- by the refusal, or its absence
 opens-by : (marks : FlagTable) (b : List ℕ) (at end : ℕ) (o : Option Refusal) → openingRefusal marks b ≡ o → Gives b at end 0 (displayedBy o (shipText (observationOf b)))
-    → Opens marks b (numbersOf at end (numberOf o) (placeOf o))
+    → end ≡ at + nibbleCount (displayedBy o (shipText (observationOf b))) → Opens marks b (numbersOf at end (numberOf o) (placeOf o))
 unfolding displayed
-opens-by marks b at end o e g = record {
+opens-by marks b at end o e g n = record {
   number = ap numberOf (sym e);
   place = ap placeOf (sym e);
   gives = subst (λ (x : Option Refusal). Gives b at end 0 (displayedBy x (shipText (observationOf b)))) (sym e) g;
+  apart = subst (λ (x : Option Refusal). end ≡ at + nibbleCount (displayedBy x (shipText (observationOf b)))) (sym e) n;
 }
 
 -- the report is refused
 pub opens-refused : (marks : FlagTable) (b : List ℕ) (n p : ℕ) → judge marks b ≡ Verdict.refused (record { number = n; place = p }) → Opens marks b (numbersOf 0 0 n p)
 unfolding openingRefusal
-opens-refused marks b n p e = opens-by marks b 0 0 (some (record { number = n; place = p })) (ap (openingOn marks) e) (no-text b)
+opens-refused marks b n p e = opens-by marks b 0 0 (some (record { number = n; place = p })) (ap (openingOn marks) e) (no-text b) no-nibbles
 
 module _ (marks : FlagTable) {b : List ℕ} {r : Report} (bs : Bytes b) (f : Found marks b 4 r) where
   pub opens-missing : r .place ≡ 0 → Opens marks b (numbersOf 0 0 11 0)
   unfolding openingRefusal callChecks
   opens-missing h =
       opens-by marks b 0 0 (some (record { number = 11; place = 0 }))
-      (ap (openingOn marks) (f .judged) ∙ first-fits (standsCheck (observationOf b) 4) [] (ap not (absent marks bs f h))) (no-text b)
+      (ap (openingOn marks) (f .judged) ∙ first-fits (standsCheck (observationOf b) 4) [] (ap not (absent marks bs f h))) (no-text b) no-nibbles
 
   pub opens-found : (r .place ≡ 0 → ⊥) → Opens marks b (numbersOf (r .place + 3) (r .place + 3 + r .al) 0 0)
   unfolding openingRefusal callChecks
@@ -228,3 +234,4 @@ module _ (marks : FlagTable) {b : List ℕ} {r : Report} (bs : Bytes b) (f : Fou
       opens-by marks b at (at + r .al) none (ap (openingOn marks) (f .judged) ∙ stands-passes marks bs f h)
       (subst (λ (ns : List ℕ). Gives b at (at + r .al) 0 (readText ns)) (content-is marks bs f (spot marks bs f h))
       (body-gives b at (r .al) (body-valid marks bs f h) (omega (arith, k .0, length-nibbles b))))
+      (ap (λ (n : ℕ). at + n) (al-is marks bs f ∙ sym (read-count marks (observationOf b) (good marks bs f))))

@@ -15,18 +15,20 @@ use Rattle.format.specs.Bits.{Bytes}
 use Rattle.format.specs.Order.{Refusal, first}
 use Rattle.format.specs.Flags.{FlagTable}
 use Rattle.format.specs.Nibbles.{nibbles}
-use Rattle.format.specs.ShipText.{Symbol, byteOf, originOf, symbolOf, deckSet, setNumber}
+use Rattle.format.specs.ShipText.{Symbol, byteOf, originOf, symbolOf, nibbleCount, deckSet, setNumber}
 use Rattle.format.specs.Report.{Verdict, verdict, observationOf, reportChecks, judge}
-use Rattle.format.specs.Calls.{Quantity, fetches, fetchText, valueAt, shipText, contentOf, stands, counted, gives}
+use Rattle.format.specs.Calls.{fetches, fetchText, valueAt, shipText, contentOf, stands, gives}
 use Rattle.format.specs.Calls.{outputsOf, writes, overfull, overEach, standsCheck, callChecks, Answer, over}
 use Rattle.format.specs.Buffer.{after, effect}
 use Rattle.format.specs.Display.{openingOn, openingRefusal, displayedBy, displayed, handed}
-use Rattle.format.specs.Reply.{refusal}
+use Rattle.format.specs.Reply.{refusal, answerOf}
+use Rattle.format.specs.declared.Reply.the-variants.{Text}
 use Rattle.laws.proofs.Sequences.{test-case}
 use Rattle.laws.proofs.Order.{first-nil, first-fits, no-check}
 use Rattle.laws.proofs.Stores.{stores, stores-length, stores-over}
 use Rattle.laws.proofs.Bounds.{content-low, judge-number}
 use Rattle.laws.proofs.ShipText.{read-text-length}
+use Rattle.laws.proofs.TextCounts.{read-count}
 use Rattle.laws.proofs.Report.{judged}
 use Rattle.laws.proofs.Effects.{effect-refused, call-refuses, fetch-done, fetch-short}
 use Rattle.report.specs.Found.{Accepted}
@@ -194,7 +196,7 @@ module _ (marks : FlagTable) (b : List ℕ) (o : Opening) (opens : Opens marks b
   told-none h = go (cases marks b)
     where
       go : Cases marks b → openingRefusal marks b ≡ none
-      go (a-refusal r j) = absurd (omega (arith, judge-number marks b r j, number-is (some r) (refusal-case r j) .0))
+      go (a-refusal r j) = absurd (omega (arith, judge-number marks b r j .0, number-is (some r) (refusal-case r j) .0))
       go (no-text j e) = absurd (omega (arith, number-is (some (record { number = 11; place = 0 })) (missing-case j e) .0))
       go (a-text j e) = text-case j e
 
@@ -227,6 +229,8 @@ module _ (marks : FlagTable) (b : List ℕ) (o : Opening) (opens : Opens marks b
     pub text : stands 4 (observationOf b .attachments) ≡ true
     pub gives : Gives b (o .at) (o .end) 0 (shipText (observationOf b))
     pub few : length (shipText (observationOf b)) ≤ 2295
+    pub apart : o .end ≡ o .at + nibbleCount (shipText (observationOf b))
+    pub byte : nibbleCount (shipText (observationOf b)) < 256
 
   pub opening-fine : Bytes b → o .number ≡ 0 → Open
   unfolding displayed
@@ -239,12 +243,15 @@ module _ (marks : FlagTable) (b : List ℕ) (o : Opening) (opens : Opens marks b
       go (a-refusal r j) = refused r (refusal-case r j)
       go (no-text j e) = refused (record { number = 11; place = 0 }) (missing-case j e)
       go (a-text j e) =
-          let low = content-low marks 4 (judged marks b (observationOf b) bs j .good .fine) .0 in
+          let g = judged marks b (observationOf b) bs j .good in
+          let low = content-low marks 4 (g .fine) .0 in
           record {
             report = j;
             text = e;
             gives = subst (λ (r : Option Refusal). Gives b (o .at) (o .end) 0 (displayedBy r (shipText (observationOf b)))) (text-case j e) (opens .gives);
             few = omega (arith, read-text-length (contentOf 4 (observationOf b .attachments)));
+            apart = subst (λ (r : Option Refusal). o .end ≡ o .at + nibbleCount (displayedBy r (shipText (observationOf b)))) (text-case j e) (opens .apart);
+            byte = omega (arith, read-count marks (observationOf b) g);
           }
 
   module _ (bs : Bytes b) (out origins : List ℕ) (k : Open) where
@@ -264,13 +271,14 @@ module _ (marks : FlagTable) (b : List ℕ) (o : Opening) (opens : Opens marks b
         fetch-short marks b (observationOf b) bs (k .report) (fetchText out origins) passed
         (rw (length-map xs byteOf, length-map xs originOf, lt-ltb (length origins) (length xs) h) (or-true (ltb (length out) (length xs))))
 
-    pub reading-done : (n d : ℕ) (out′ origins′ : List ℕ) → n ≡ length (shipText (observationOf b)) → n ≤ length out → n ≤ length origins
+    pub reading-done : (n d m : ℕ) (out′ origins′ : List ℕ) → n ≡ length (shipText (observationOf b)) → n ≤ length out → n ≤ length origins
         → (out′ ≡ over (map byteOf (shipText (observationOf b))) out) × (origins′ ≡ over (map originOf (shipText (observationOf b))) origins)
-        → d ≡ setNumber (deckSet (valueAt (observationOf b) 10))
-        → after (Answer.accepted (counted Quantity.count n ∷ counted Quantity.deck d ∷ [])) b (out′ ∷ origins′ ∷ []) ≡ effect marks b (fetches (fetchText out origins))
+        → d ≡ setNumber (deckSet (valueAt (observationOf b) 10)) → m ≡ nibbleCount (shipText (observationOf b))
+        → after (answerOf (Text n d m)) b (out′ ∷ origins′ ∷ []) ≡ effect marks b (fetches (fetchText out origins))
     unfolding outputsOf writes gives overfull overEach
-    reading-done n d out′ origins′ e f g w q =
-        ap₂ (λ (x y : ℕ). after (Answer.accepted (counted Quantity.count x ∷ counted Quantity.deck y ∷ [])) b (out′ ∷ origins′ ∷ [])) e q
+    reading-done n d m out′ origins′ e f g w q t =
+        ap₂ (λ (x y : ℕ). after (answerOf (Text x y m)) b (out′ ∷ origins′ ∷ [])) e q
+        ∙ ap (λ (y : ℕ). after (answerOf (Text (length xs) (setNumber (deckSet (valueAt (observationOf b) 10))) y)) b (out′ ∷ origins′ ∷ [])) t
         ∙ fetch-done marks b (observationOf b) bs (k .report) (fetchText out origins) passed (out′ ∷ origins′ ∷ [])
         (rw (length-map xs byteOf, length-map xs originOf, le-ltb (length out) (length xs) (omega arith), le-ltb (length origins) (length xs) (omega arith)))
         (ap₂ (λ (x y : List ℕ). x ∷ y ∷ []) (w .0) (w .1))

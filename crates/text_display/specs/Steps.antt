@@ -10,7 +10,7 @@ use lib.Dec.{ltb, eqb}
 use Rattle.format.specs.Order.{Refusal}
 use Rattle.format.specs.Nibbles.{nibbles}
 use Rattle.format.specs.Flags.{FlagTable}
-use Rattle.format.specs.ShipText.{Symbol, symbolOf}
+use Rattle.format.specs.ShipText.{Symbol, symbolOf, nibbleCount}
 use Rattle.format.specs.Display.{openingRefusal, displayed, handed}
 use Rattle.report.specs.Found.{Accepted}
 use Rattle.text_reader.specs.declared.Code.{Code}
@@ -63,6 +63,8 @@ pub record Opens (marks : FlagTable) (b : List ℕ) (o : Opening) : Type 0 where
   pub number : o .number ≡ numberOf (openingRefusal marks b)
   pub place : o .place ≡ placeOf (openingRefusal marks b)
   pub gives : Gives b (o .at) (o .end) 0 (displayed marks b)
+  -- the place and the end are as many nibbles apart as the symbols take
+  pub apart : o .end ≡ o .at + nibbleCount (displayed marks b)
 
 -- the same under every table by which b begins with a report
 abbrev pub OpensAlways : List ℕ → Opening → Type 0

@@ -237,5 +237,6 @@ pub fn read_out(s: &[u8], out: &mut [u8], origins: &mut [u8], marks: &FlagTable)
         return Reply::Refused(13, 0);
     }
     write_out(s, o.at, o.end, out, origins);
-    Reply::Text(n, call_fetches::deck_set(s))
+    let nibbles = (o.end - o.at) as u8;
+    Reply::Text(n, call_fetches::deck_set(s), nibbles)
 }

@@ -130,7 +130,7 @@ pub fn fits(s: &[u8], at: usize, len: usize, room: usize) -> bool
 }
 
 // Writes a byte so many times, from a place on.
-fn put_bytes(out: &mut [u8], at: usize, count: usize, b: u8)
+pub fn put_bytes(out: &mut [u8], at: usize, count: usize, b: u8)
     requires { ⌜ at + count ≤ length (now out) ⌝ }
     ensures { λ _. ⌜ now (out .exit) ≡ sets (now (out .entry)) at (replicate count b) ⌝ }
 {

@@ -26,14 +26,12 @@ use Rattle.laws.proofs.Sequences.{or-false, cond-case}
 use Rattle.laws.proofs.Order.{first-fits, first-skip, first-nil, first-none, first-append-some, first-append-skip, first-append-none}
 use Rattle.laws.proofs.Report.{size-is}
 use Rattle.laws.proofs.Whole.{pack-outcome, unpack-accepted, pack-unpacked, unpack-after-pack}
+use Rattle.laws.proofs.Effects.{refused-accepted}
 use Rattle.report.specs.Answers.{judgedOf}
 use Rattle.report.specs.declared.Judged.{Judged}
 use Rattle.unpack.specs.Answers.{contentsNumbers}
 use Rattle.unpack.specs.declared.Contents.{Contents}
 use Rattle.trips.specs.Trips.{trip, restoreChecks, restoredBy, restoredOn, restored, recoverChecks, recoveredBy, recovered, Holds}
-
-refused-accepted : {A : Type 0} (r : Refusal) (gs : List Given) → Answer.refused r ≡ Answer.accepted gs → A
-refused-accepted r gs e = let z : _≡_ {A = ℕ} 0 1 = cc in absurd (omega arith)
 
 -- ---- pack after unpack
 

@@ -460,10 +460,15 @@ fn a_table_with_an_empty_row_that_is_loaded_is_found() {
 #[test]
 fn an_empty_row_at_an_end_is_found() {
     unsafe extern "C" fn first(marks: *const u8, n: usize, flags: *mut Flags) -> Answer {
-        unsafe { load_but(marks, n, flags, |marks| marks[0] = YES) }
+        unsafe { load_but(marks, n, flags, |marks| mend_row(&mut marks[..10])) }
     }
     unsafe extern "C" fn last(marks: *const u8, n: usize, flags: *mut Flags) -> Answer {
-        unsafe { load_but(marks, n, flags, |marks| marks[139] = YES) }
+        unsafe { load_but(marks, n, flags, |marks| mend_row(&mut marks[130..])) }
+    }
+    fn mend_row(row: &mut [u8]) {
+        if row == [NO; 10] {
+            row[0] = YES;
+        }
     }
     let (_, marks) = found_load(first);
     assert_eq!(marks[..10], [NO; 10]);

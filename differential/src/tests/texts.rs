@@ -1,4 +1,5 @@
-//! What has to be found of texts: their symbols, both outputs, the set and the reader.
+//! What has to be found of texts: their symbols, their nibbles, both outputs, the set and
+//! the reader.
 
 use reference::cases::material::{fetch_text_to, put_bytes, put_text};
 use reference::table::Scaled;
@@ -517,6 +518,82 @@ fn an_order_of_14_before_13_is_found() {
     assert_ne!(text.len(), origins.len());
 }
 
+/// A wrong put text by what it makes of an accepted answer and the text's length.
+macro_rules! put_giving {
+    ($change:expr) => {{
+        unsafe extern "C" fn wrong(
+            report: *mut u8,
+            n: usize,
+            text: *const u8,
+            text_n: usize,
+            origins: *const u8,
+            origins_n: usize,
+            flags: *const Flags,
+        ) -> Answer {
+            let mut answer =
+                unsafe { stand_in::put_text(report, n, text, text_n, origins, origins_n, flags) };
+            if answer.refusal == 0 {
+                let change: fn(&mut Answer, usize) = $change;
+                change(&mut answer, text_n);
+            }
+            answer
+        }
+        wrong as PutText
+    }};
+}
+
+/// The header's nibbles are counted, the symbols are, an odd number is made even, bytes
+/// are counted, a number over 127 is negative, it is 0, it has no label or another one,
+/// it is given twice, or it is not given.
+#[test]
+fn wrong_nibbles_of_put_text_are_found() {
+    for wrong in [
+        put_giving!(|answer, _| answer.first += 3),
+        put_giving!(|answer, symbols| answer.first = symbols as i64),
+        put_giving!(|answer, _| answer.first += answer.first % 2),
+        put_giving!(|answer, _| answer.first = (answer.first + 1) / 2),
+        put_giving!(|answer, _| answer.first = i64::from(answer.first as i8)),
+        put_giving!(|answer, _| answer.first = 0),
+        put_giving!(|answer, _| answer.given = 0),
+        put_giving!(|answer, _| answer.given = 3),
+        put_giving!(|answer, _| answer.third = answer.first),
+        put_giving!(|answer, _| (answer.given, answer.first) = (0, 0)),
+    ] {
+        let (found, _, _) = found_put(wrong);
+        assert_ne!(found.expected.said, found.got.said);
+        assert_eq!(found.expected.refusal(), 0);
+        assert_eq!(differing(&found), [""; 0]);
+    }
+}
+
+/// Spaces at the end are counted as if a symbol followed them.
+#[test]
+fn nibbles_that_are_not_written_are_found() {
+    unsafe extern "C" fn wrong(
+        report: *mut u8,
+        n: usize,
+        text: *const u8,
+        text_n: usize,
+        origins: *const u8,
+        origins_n: usize,
+        flags: *const Flags,
+    ) -> Answer {
+        unsafe {
+            let mut answer = stand_in::put_text(report, n, text, text_n, origins, origins_n, flags);
+            if answer.refusal == 0 {
+                let rows = [text, origins].map(|row| stand_in::input(row, text_n));
+                let mut symbols = reference::text::symbols(rows[0], rows[1]).unwrap();
+                symbols.extend(plain(b"0"));
+                answer.first = reference::text::write(&symbols).len() as i64 - 1;
+            }
+            answer
+        }
+    }
+    let (found, text, origins) = found_put(wrong);
+    assert_ne!(found.expected.said, found.got.said);
+    assert_eq!((text.last(), origins.last()), (Some(&b' '), Some(&0)));
+}
+
 type FetchText =
     unsafe extern "C" fn(*const u8, usize, *mut u8, usize, *mut u8, usize, *const Flags) -> Answer;
 
@@ -587,6 +664,129 @@ fn a_missing_set_is_found() {
     let found = found_fetch(wrong);
     assert_ne!(found.expected.said, found.got.said);
 }
+
+/// A wrong fetch text by what it makes of an accepted answer.
+macro_rules! fetch_giving {
+    ($change:expr) => {{
+        unsafe extern "C" fn wrong(
+            report: *const u8,
+            n: usize,
+            text: *mut u8,
+            text_n: usize,
+            origins: *mut u8,
+            origins_n: usize,
+            flags: *const Flags,
+        ) -> Answer {
+            let mut answer =
+                unsafe { stand_in::fetch_text(report, n, text, text_n, origins, origins_n, flags) };
+            if answer.refusal == 0 {
+                let change: fn(&mut Answer) = $change;
+                change(&mut answer);
+            }
+            answer
+        }
+        wrong as FetchText
+    }};
+}
+
+/// The header's nibbles are counted, the symbols are, an odd number is made even, a
+/// number over 127 is negative, it is 0, it has no label, or it changes places with the
+/// set or with the count.
+#[test]
+fn wrong_nibbles_of_fetch_text_are_found() {
+    for wrong in [
+        fetch_giving!(|answer| answer.third += 3),
+        fetch_giving!(|answer| answer.third = answer.first),
+        fetch_giving!(|answer| answer.third += answer.third % 2),
+        fetch_giving!(|answer| answer.third = i64::from(answer.third as i8)),
+        fetch_giving!(|answer| answer.third = 0),
+        fetch_giving!(|answer| answer.given %= 65536),
+        fetch_giving!(|answer| {
+            (answer.second, answer.third) = (answer.third, answer.second);
+            answer.given = 3 + 256 * 9 + 65536 * 10;
+        }),
+        fetch_giving!(|answer| (answer.first, answer.third) = (answer.third, answer.first)),
+    ] {
+        let found = found_fetch(wrong);
+        assert_ne!(found.expected.said, found.got.said);
+        assert_eq!(found.expected.refusal(), 0);
+        assert_eq!(differing(&found), [""; 0]);
+    }
+}
+
+/// The header's nibbles are counted in the log, or the number is left out of it.
+#[test]
+fn wrong_nibbles_in_the_log_are_found() {
+    /// What becomes of the row of the first record, by the call's kind.
+    unsafe fn change(script: *const u8, log: *mut u8, by: fn(u8, &mut [u8])) {
+        let row = unsafe { std::slice::from_raw_parts_mut(log.add(HEAD), FRONT - HEAD) };
+        by(unsafe { *script }, row);
+    }
+    unsafe extern "C" fn with_the_header(
+        report: *mut u8,
+        n: usize,
+        script: *const u8,
+        script_n: usize,
+        log: *mut u8,
+        log_n: usize,
+        flags: *const Flags,
+    ) -> Performed {
+        unsafe {
+            let performed = stand_in::replay(report, n, script, script_n, log, log_n, flags);
+            if performed.calls > 0 {
+                change(script, log, |kind, row| {
+                    if (kind, row[0]) == (10, 9) {
+                        row[8] = row[8].wrapping_add(3);
+                    }
+                });
+            }
+            performed
+        }
+    }
+    unsafe extern "C" fn without_the_third(
+        report: *mut u8,
+        n: usize,
+        script: *const u8,
+        script_n: usize,
+        log: *mut u8,
+        log_n: usize,
+        flags: *const Flags,
+    ) -> Performed {
+        unsafe {
+            let performed = stand_in::replay(report, n, script, script_n, log, log_n, flags);
+            if performed.calls > 0 {
+                change(script, log, |kind, row| {
+                    if kind == 11 {
+                        row[18..].fill(0);
+                    }
+                });
+            }
+            performed
+        }
+    }
+    for (wrong, kind) in [(with_the_header as Replay, 10), (without_the_third, 11)] {
+        let found = found(Library {
+            replay: wrong,
+            ..STAND_IN
+        });
+        assert_eq!(differing(&found), ["log"]);
+        let Given::Script { script, .. } = found.trial.given else {
+            panic!("no script: {}", found.trial);
+        };
+        assert_eq!(script[0], kind);
+        assert!(first_call(&script).is_some_and(|(_, rest)| rest.is_empty()));
+    }
+}
+
+type Replay = unsafe extern "C" fn(
+    *mut u8,
+    usize,
+    *const u8,
+    usize,
+    *mut u8,
+    usize,
+    *const Flags,
+) -> Performed;
 
 /// The bytes are written where only the origins are too short, and the other way about.
 #[test]

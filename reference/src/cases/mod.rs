@@ -2,6 +2,7 @@
 
 pub mod calls;
 pub mod characters;
+pub mod costliest;
 pub mod flag_tables;
 pub mod material;
 pub mod outside;
@@ -11,11 +12,11 @@ pub mod reports;
 pub mod symbols;
 
 use crate::call::{Answer, Call};
-use crate::edit::Fetched;
+use crate::edit::{Fetched, put_text};
 use crate::flag_table::FlagTable;
 use crate::judge::{Report, judge};
 use crate::lister;
-use crate::outside::{Unpacked, characters, fresh, pack, same, unpack};
+use crate::outside::{Unpacked, characters, costliest, fresh, pack, same, unpack};
 use crate::reader::read_out;
 use crate::refusal::Refusal;
 use crate::text::Table;
@@ -79,6 +80,12 @@ pub enum Case {
         text: Vec<u8>,
         origins: Vec<u8>,
     },
+    /// A text of so many symbols that takes the most nibbles.
+    Costliest {
+        symbols: u64,
+        text: Vec<u8>,
+        origins: Vec<u8>,
+    },
     /// A list of calls on one buffer.
     Calls {
         buffer: Vec<u8>,
@@ -128,8 +135,22 @@ pub enum Outcome {
         text: Vec<u8>,
         origins: Vec<u8>,
     },
+    Costliest {
+        result: Result<Chosen, Refusal>,
+        text: Vec<u8>,
+        origins: Vec<u8>,
+    },
     /// For each call its answer and the buffer after it.
     Calls(Vec<(Answer, Vec<u8>)>),
+}
+
+/// A costliest text. Its bytes are the program's choice, and what every choice has in
+/// common is what comes of putting it.
+#[derive(Clone, Copy, Debug, PartialEq, Eq)]
+pub struct Chosen {
+    pub symbols: usize,
+    /// The answer to putting it to a fresh report.
+    pub put: Result<usize, Refusal>,
 }
 
 impl Case {
@@ -235,6 +256,24 @@ impl Case {
                     origins,
                 }
             }
+            Case::Costliest {
+                symbols,
+                text,
+                origins,
+            } => {
+                let (mut text, mut origins) = (text.clone(), origins.clone());
+                let result = costliest(*symbols, &mut text, &mut origins);
+                let symbols = *symbols as usize;
+                let result = result.map(|()| Chosen {
+                    symbols,
+                    put: put_to_fresh(&text[..symbols], &origins[..symbols]),
+                });
+                Outcome::Costliest {
+                    result,
+                    text,
+                    origins,
+                }
+            }
             Case::Calls { buffer, calls } => {
                 let mut buffer = buffer.clone();
                 let mut answers = Vec::new();
@@ -246,6 +285,14 @@ impl Case {
             }
         }
     }
+}
+
+/// Puts a text to the fresh report of values 1, 1900, 1, 0, 0 in 200 bytes, with every
+/// flag permitted.
+fn put_to_fresh(text: &[u8], origins: &[u8]) -> Result<usize, Refusal> {
+    let mut buffer = [0; 200];
+    fresh([1, 1900, 1, 0, 0], &mut buffer)?;
+    put_text(&mut buffer, text, origins, &FlagTable::all())
 }
 
 /// The cases that are the same for every seed. They begin and end with every flag
@@ -260,5 +307,6 @@ pub fn fixed() -> Vec<Case> {
     cases.extend(characters::cases());
     cases.extend(flag_tables::cases());
     cases.extend(symbols::cases());
+    cases.extend(costliest::cases());
     cases
 }

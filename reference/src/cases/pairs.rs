@@ -1,6 +1,7 @@
 //! Cases in which two refusals fit at once, for each pair that an order decides.
 
 use super::Case;
+use super::costliest::{TOO_MANY, costliest};
 use super::material::*;
 use super::symbols::read_out;
 use crate::attachment::with_header;
@@ -27,6 +28,7 @@ pub fn pairs() -> Vec<Pair> {
     pairs.extend(pack_pairs());
     pairs.extend(fresh_pairs());
     pairs.extend(read_out_pairs());
+    pairs.extend(costliest_pairs());
     pairs
 }
 
@@ -665,6 +667,22 @@ fn read_out_pairs() -> Vec<Pair> {
             both: read_out(&sound.bytes(), text, origins),
             mended: read_out(&with_text(sound.clone()), text, origins),
         });
+    }
+    pairs
+}
+
+/// Too many symbols, then 13 for either output.
+fn costliest_pairs() -> Vec<Pair> {
+    let mut pairs = Vec::new();
+    for symbols in TOO_MANY {
+        for (text, origins) in [(84, 85), (85, 84), (84, 84)] {
+            pairs.push(Pair {
+                first: refusal(9, 0),
+                second: refusal(13, 0),
+                both: costliest(symbols, text, origins),
+                mended: costliest(85, text, origins),
+            });
+        }
     }
     pairs
 }

@@ -1,11 +1,13 @@
 //! Files for a program under test: what it is to read, and what it is to write.
 //! Every number in them is big-endian.
 
+pub mod costliest_cases;
 pub mod flag_cases;
 pub mod head;
 pub mod list;
 pub mod list_cases;
 pub mod log;
+pub mod nibble_cases;
 pub mod record;
 pub mod same_cases;
 pub mod script;

@@ -1,6 +1,6 @@
 //! A call outside the list as a record, and its answer.
 
-use crate::cases::{Case, Outcome};
+use crate::cases::{Case, Chosen, Outcome};
 use crate::edit::Fetched;
 use crate::gate::head::{head, loaded};
 use crate::outside::Unpacked;
@@ -18,15 +18,17 @@ const RECOVER: u8 = 8;
 const CHARACTERS: u8 = 9;
 const LOAD: u8 = 10;
 const READ_OUT: u8 = 11;
+const COSTLIEST: u8 = 12;
 
 /// The longest report, input or output; the most values; the longest tails; the most
-/// marks of a table of flags; the longest output of a text.
+/// marks of a table of flags; the longest output of a text and of a costliest one.
 pub const MOST_BYTES: usize = 2000;
 pub const MOST_VALUES: usize = 60;
 pub const MOST_UNPACK_TAIL: usize = 4000;
 pub const MOST_PACK_TAIL: usize = 4200;
 pub const MOST_MARKS: usize = 200;
 pub const MOST_TEXT: usize = 2400;
+pub const MOST_COSTLIEST: usize = 200;
 
 /// Whether a case is a record and keeps its limits.
 pub fn fits(case: &Case) -> bool {
@@ -86,6 +88,9 @@ pub fn fits(case: &Case) -> bool {
             text,
             origins,
         } => report.len() <= MOST_BYTES && text.len() <= MOST_TEXT && origins.len() <= MOST_TEXT,
+        Case::Costliest { text, origins, .. } => {
+            text.len() <= MOST_COSTLIEST && origins.len() <= MOST_COSTLIEST
+        }
         Case::Calls { .. } => false,
     }
 }
@@ -170,11 +175,23 @@ pub fn input(case: &Case) -> Vec<u8> {
             counted(origins),
         ]
         .concat(),
+        Case::Costliest {
+            symbols,
+            text,
+            origins,
+        } => [
+            vec![COSTLIEST],
+            symbols.to_be_bytes().to_vec(),
+            counted(text),
+            counted(origins),
+        ]
+        .concat(),
         Case::Calls { .. } => unreachable!("a list of calls is no record"),
     }
 }
 
-/// The head, what is given, and every output as the call leaves it.
+/// The head, what is given, and every output as the call leaves it. A costliest text's
+/// chosen bytes are not shown.
 pub fn answer(outcome: &Outcome) -> Vec<u8> {
     match outcome {
         Outcome::Judge(result) => match &**result {
@@ -224,6 +241,11 @@ pub fn answer(outcome: &Outcome) -> Vec<u8> {
             text,
             origins,
         } => [read_out(result), text.clone(), origins.clone()].concat(),
+        Outcome::Costliest {
+            result,
+            text,
+            origins,
+        } => costliest(result, text, origins),
         Outcome::Calls(_) => unreachable!("a list of calls is no record"),
     }
 }
@@ -245,11 +267,25 @@ fn unpacked(result: &Result<Unpacked, Refusal>) -> Vec<u8> {
     bytes
 }
 
-/// The head, and the deck's set where it is given.
+/// The head, and the deck's set and the nibbles where they are given.
 fn read_out(result: &Result<Fetched, Refusal>) -> Vec<u8> {
     let mut bytes = head(result.map(|given| Some(given.symbols)));
     if let Ok(given) = result {
         bytes.extend((given.set as u64).to_be_bytes());
+        bytes.extend((given.nibbles as u64).to_be_bytes());
+    }
+    bytes
+}
+
+/// The head, the origins, what of the text was not chosen, and where the call is
+/// accepted the head of putting what was.
+fn costliest(result: &Result<Chosen, Refusal>, text: &[u8], origins: &[u8]) -> Vec<u8> {
+    let symbols = result.map_or(0, |chosen| chosen.symbols);
+    let mut bytes = head(result.map(|_| None));
+    bytes.extend(origins);
+    bytes.extend(&text[symbols..]);
+    if let Ok(chosen) = result {
+        bytes.extend(head(chosen.put.map(Some)));
     }
     bytes
 }

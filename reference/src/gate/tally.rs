@@ -38,6 +38,7 @@ impl Tally {
             Outcome::Characters(_) => ("characters", 0),
             Outcome::Load { result, .. } => ("load", number(result)),
             Outcome::ReadOut { result, .. } => ("read out", number(result)),
+            Outcome::Costliest { result, .. } => ("costliest", number(result)),
             Outcome::Calls(_) => unreachable!("a list of calls is no record"),
         };
         self.add(kind, refusal);

@@ -7,16 +7,20 @@ use crate::cases::material::*;
 use crate::cases::outside::{edge_values, tails};
 use crate::cases::{self, Case, characters, pairs, random, reports};
 use crate::gate::sizes::{LONGEST_TAIL, observation_of_sum, observation_of_tail};
-use crate::gate::{flag_cases, record, same_cases, sum_cases, symbol_cases, trip_cases};
+use crate::gate::{
+    costliest_cases, flag_cases, record, same_cases, sum_cases, symbol_cases, trip_cases,
+};
 use crate::observation::Observation;
 use crate::prng::Prng;
 use crate::table::{FIELDS, fields};
 
-/// Cases from a seed, those of a library's own table of flags and those of symbols last.
+/// Cases from a seed, those of a library's own table of flags, those of symbols and
+/// those of the costliest text last.
 pub fn cases(seed: u64) -> Vec<Case> {
     let mut cases = before_loads(seed);
     cases.extend(flag_cases::records(seed));
     cases.extend(symbol_cases::records(seed));
+    cases.extend(costliest_cases::records(seed));
     cases
 }
 

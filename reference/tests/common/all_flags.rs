@@ -100,7 +100,7 @@ pub fn drop_attachment(buffer: &mut [u8], id: u64) -> Answer<()> {
     edit::drop_attachment(buffer, id, &FlagTable::all())
 }
 
-pub fn put_text(buffer: &mut [u8], text: &[u8], origins: &[u8]) -> Answer<()> {
+pub fn put_text(buffer: &mut [u8], text: &[u8], origins: &[u8]) -> Answer<usize> {
     edit::put_text(buffer, text, origins, &FlagTable::all())
 }
 

@@ -1,6 +1,8 @@
 -- `call_fetches::fetch_text` meets its contract.
 -- Assumes nothing.
+use Prim.{tt}
 use Rattle.format.specs.Calls.{fetches, fetchText, outputsOf}
+use Rattle.laws.proofs.TextCounts.{fetch-counts}
 use Rattle.report.proofs.Found.{inspect-refused, inspect-found}
 use borrow.Author.Needs.{needs}
 use Rattle.call_fetches.proofs.fetch_text.Statement.{statement}
@@ -22,7 +24,7 @@ returns : tie.Need-returns
 unfolding outputsOf
 returns c =
     let args = c .before .before .before .before .before .before .before .before .args in
-    inspect-refused _ _ _ _ (c .before .before .before .inspect .ensures) _ _ (fetches (fetchText (args .out .now) (args .origins .now))) (c .before .i .given .1)
+    (inspect-refused _ _ _ _ (c .before .before .before .inspect .ensures) _ _ (fetches (fetchText (args .out .now) (args .origins .now))) (c .before .i .given .1), tt)
 
 same-length : tie.Need-same-length
 same-length c = search needs
@@ -32,9 +34,13 @@ same-length-2 c = search needs
 
 returns-2 : tie.Need-returns-2
 returns-2 c =
+    let fetch-text-found = c .before .before .before .before .fetch-text-found in
     let inspect = c .before .before .before .before .before .before .before .before .before .before .inspect in
-    c .before .before .before .before .fetch-text-found .ensures _
-    (inspect-found _ _ _ _ (inspect .ensures) _ (c .before .before .before .before .before .before .before .before .i2 .given .1) .judged)
+    let i2 = c .before .before .before .before .before .before .before .before .i2 in
+    let shared-slice-known = c .before .before .before .before .before .before .before .before .before .before .before .before .before .before .shared-slice-known in
+    let found = fetch-text-found in
+    let done = found .ensures _ (inspect-found _ _ _ _ (inspect .ensures) _ (i2 .given .1) .judged) in
+    (done, fetch-counts _ _ (λ j. shared-slice-known .given j .fits) _ _ _ _ (found .result) done)
 
 pub fetch-text-spec : {M : Type 1} → statement M
 fetch-text-spec =

@@ -7,7 +7,7 @@ use lib.Dec.{leb}
 use Rattle.format.specs.Calls.{fetches, fetchText, outputsOf, callChecks}
 use Rattle.laws.proofs.Order.{first-nil}
 use Rattle.report.proofs.Found.{found-by, reach, missing}
-use Rattle.call_fetches.proofs.Fetches.{within-both, body-valid, text-short, text-fetched}
+use Rattle.call_fetches.proofs.Fetches.{within-both, body-valid, body-byte, text-short, text-fetched}
 use borrow.Author.Tests.{leb-true}
 use borrow.Author.Needs.{needs}
 use Rattle.call_fetches.proofs.fetch_text_found.Statement.{statement}
@@ -24,7 +24,10 @@ lesser-requires : tie.Need-lesser-requires
 lesser-requires c κs = search needs
 
 add-fits : tie.Need-add-fits
-add-fits c = omega (arith, reach _ (λ j. c .before .before .before .before .shared-slice-known .given j .fits) (c .before .before .before .before .before .pre .1) (c .before .if1 .left) .1)
+add-fits c =
+    let shared-slice-known = c .before .before .before .before .shared-slice-known in
+    let pre = c .before .before .before .before .before .pre in
+    omega (arith, reach _ (λ j. shared-slice-known .given j .fits) (pre .1) (c .before .if1 .left) .1)
 
 fits-requires : tie.Need-fits-requires
 fits-requires c κs =
@@ -56,6 +59,13 @@ read-requires c κs =
       within-both _ _ _ _ least room .0,
       within-both _ _ _ _ least room .1,
     )
+
+cast-nibbles : tie.Need-cast-nibbles
+cast-nibbles c =
+    let shared-slice-known = c .before .before .before .before .before .before .before .before .before .before .before .before .before .shared-slice-known in
+    let pre = c .before .before .before .before .before .before .before .before .before .before .before .before .before .before .pre in
+    let if1 = c .before .before .before .before .before .before .before .before .before .before .if1 in
+    omega (arith, body-byte _ (λ j. shared-slice-known .given j .fits) (pre .1) (if1 .left))
 
 deck-set-requires : tie.Need-deck-set-requires
 deck-set-requires c κs = search needs
@@ -94,6 +104,7 @@ fetch-text-found-spec =
     fits-requires
     add-read
     read-requires
+    cast-nibbles
     deck-set-requires
     same-length
     same-length-2

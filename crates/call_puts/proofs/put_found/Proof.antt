@@ -53,33 +53,37 @@ put-nibbles-requires c κs =
     let v = c .before .before .content-valid .ensures in
     record { marks = _; found = f; fine = put-fineAt _ (λ j. g j .fits) f _ known (if2 .left) (if3 .left) (sym v ∙ c .before .if4 .taken) }
 
+answered-requires : tie.Need-answered-requires
+answered-requires c κs = search needs
+
 same-length : tie.Need-same-length
 same-length c = search needs
 
 returns-4 : tie.Need-returns-4
 returns-4 c =
-    let slice-known = c .before .before .before .before .before .before .before .before .before .before .before .slice-known in
-    let content-valid = c .before .before .before .before .before .content-valid in
-    let args = c .before .before .before .before .before .before .before .before .before .before .before .before .args in
-    let g = slice-known .given in
-    let tested = c .before .before .before .before .before .before .before .before .before .within in
-    let if1 = c .before .before .before .before .before .before .before .before .if1 in
-    let known = number-passes 1 15 (args .id) _ (tested .ensures) (if1 .left) in
-    let f = c .before .before .before .before .before .before .before .before .before .before .before .before .pre in
-    let v = content-valid .ensures in
-    let if2 = c .before .before .before .before .before .before .before .if2 in
-    let if3 = c .before .before .before .before .before .before .if3 in
-    let if4 = c .before .before .before .before .if4 in
-    c .before .before .put-nibbles .ensures ∙ put-effect _ (λ j. g j .fits) f _ known (if2 .left) (if3 .left) (sym v ∙ if4 .taken)
+    let args = c .before .before .before .before .before .before .before .before .before .before .before .before .before .args in
+    let within = c .before .before .before .before .before .before .before .before .before .before .within in
+    let if1 = c .before .before .before .before .before .before .before .before .before .if1 in
+    let slice-known = c .before .before .before .before .before .before .before .before .before .before .before .before .slice-known in
+    let pre = c .before .before .before .before .before .before .before .before .before .before .before .before .before .pre in
+    let if2 = c .before .before .before .before .before .before .before .before .if2 in
+    let if3 = c .before .before .before .before .before .before .before .if3 in
+    let content-valid = c .before .before .before .before .before .before .content-valid in
+    let if4 = c .before .before .before .before .before .if4 in
+    let put-nibbles = c .before .before .before .put-nibbles in
+    let known = number-passes 1 15 (args .id) _ (within .ensures) (if1 .left) in
+    put-effect _ (λ j. slice-known .given j .fits) pre _ known (if2 .left) (if3 .left) (sym (content-valid .ensures) ∙ if4 .taken) (put-nibbles .ensures) _ (c .answered .ensures)
 
 returns-5 : tie.Need-returns-5
 returns-5 c =
     let args = c .before .before .before .before .before .before .before .before .args in
-    let g = c .before .before .before .before .before .before .before .slice-known .given in
-    let known = number-passes 1 15 (args .id) _ (c .before .before .before .before .before .within .ensures) (c .before .before .before .before .if1 .left) in
-    let f = c .before .before .before .before .before .before .before .before .pre in
-    let v = c .before .content-valid .ensures in
-    put-invalid _ (λ j. g j .fits) f _ known (c .before .before .before .if2 .left) (c .before .before .if3 .left) (sym v ∙ c .if4 .left)
+    let within = c .before .before .before .before .before .within in
+    let if1 = c .before .before .before .before .if1 in
+    let slice-known = c .before .before .before .before .before .before .before .slice-known in
+    let pre = c .before .before .before .before .before .before .before .before .pre in
+    let if2 = c .before .before .before .if2 in
+    let known = number-passes 1 15 (args .id) _ (within .ensures) (if1 .left) in
+    put-invalid _ (λ j. slice-known .given j .fits) pre _ known (if2 .left) (c .before .before .if3 .left) (sym (c .before .content-valid .ensures) ∙ c .if4 .left)
 
 pub put-found-spec : {M : Type 1} → statement M
 put-found-spec =
@@ -91,6 +95,7 @@ put-found-spec =
     returns-3
     content-valid-requires
     put-nibbles-requires
+    answered-requires
     same-length
     returns-4
     returns-5)

@@ -4,7 +4,7 @@ use mathlib.Core.Path.{sym, ap, subst, _∙_}
 use mathlib.Core.List.{List}
 use Prim.Native.Nat.{ℕ}
 use denote.Ref.{now}
-use Rattle.call_attachments.specs.Edit.{Puttable, putting}
+use Rattle.call_attachments.specs.Edit.{Puttable, hasRoom, putting}
 use Rattle.call_puts.proofs.Contents.{front-part}
 use borrow.Author.Needs.{needs}
 use Rattle.call_puts.proofs.put_front.Statement.{statement}
@@ -31,7 +31,8 @@ same-length c = search needs
 returns : tie.Need-returns
 returns c =
     let args = c .before .before .before .before .before .before .before .args in
-    c .before .before .put-nibbles .ensures ∙ ap (putting (args .s .now) 4) (front-part (args .n) (args .ns .now))
+    let front = front-part (args .n) (args .ns .now) in
+    (c .before .before .put-nibbles .ensures .0 ∙ ap (hasRoom (args .s .now) 4) front, c .before .before .put-nibbles .ensures .1 ∙ ap (putting (args .s .now) 4) front)
 
 pub put-front-spec : {M : Type 1} → statement M
 put-front-spec =

@@ -59,8 +59,17 @@ counted-requires c κs = subst (λ (r : Reply). AnswerFits (answerOf r)) (c .bef
 enum-known-r-5 : tie.Need-enum-known-r-5
 enum-known-r-5 c = search needs
 
-two-requires : tie.Need-two-requires
-two-requires c κs = subst (λ (r : Reply). AnswerFits (answerOf r)) (c .before .r5 .given .1) (c .before .before .before .pre) .0
+cast-given-2 : tie.Need-cast-given-2
+cast-given-2 c = search needs
+
+given-requires-5 : tie.Need-given-requires-5
+given-requires-5 c κs = search needs
+
+enum-known-r-6 : tie.Need-enum-known-r-6
+enum-known-r-6 c = search needs
+
+three-requires : tie.Need-three-requires
+three-requires c κs = subst (λ (r : Reply). AnswerFits (answerOf r)) (c .before .r6 .given .1) (c .before .before .before .pre) .0
 
 returns : tie.Need-returns
 returns c = c .refused .ensures ∙ ap (λ (r : Reply). numbered (answerOf r)) (sym (c .before .before .r .given .1))
@@ -89,7 +98,11 @@ unfolding labels quantityLabel
 returns-7 c = c .counted .ensures ∙ ap (λ (r : Reply). numbered (answerOf r)) (sym (c .before .before .r4 .given .1))
 
 returns-8 : tie.Need-returns-8
-returns-8 c = c .two .ensures ∙ ap (λ (r : Reply). numbered (answerOf r)) (sym (c .before .before .r5 .given .1))
+unfolding labels quantityLabel
+returns-8 c = count-given _ _ _ (search needs) (c .given5 .ensures) ∙ ap (λ (r : Reply). numbered (answerOf r)) (sym (c .before .before .r5 .given .1))
+
+returns-9 : tie.Need-returns-9
+returns-9 c = c .three .ensures ∙ ap (λ (r : Reply). numbered (answerOf r)) (sym (c .before .before .r6 .given .1))
 
 pub answer-of-spec : {M : Type 1} → statement M
 answer-of-spec =
@@ -111,7 +124,10 @@ answer-of-spec =
     enum-known-r-4
     counted-requires
     enum-known-r-5
-    two-requires
+    cast-given-2
+    given-requires-5
+    enum-known-r-6
+    three-requires
     returns
     returns-2
     returns-3
@@ -119,4 +135,5 @@ answer-of-spec =
     returns-5
     returns-6
     returns-7
-    returns-8)
+    returns-8
+    returns-9)

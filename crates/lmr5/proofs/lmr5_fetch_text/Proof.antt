@@ -10,7 +10,8 @@ fetch-text-requires c κs = search needs
 
 answer-of-requires : tie.Need-answer-of-requires
 answer-of-requires c κs =
-    call-fits _ _ _ _ _ _ (c .before .before .before .before .fetch-text .ensures) (λ i. c .before .before .before .before .before .before .before .before .before .shared-slice-known .given i .fits)
+    call-fits _ _ _ _ _ _ (c .before .before .before .before .fetch-text .ensures .0)
+    (λ i. c .before .before .before .before .before .before .before .before .before .shared-slice-known .given i .fits)
 
 same-length : tie.Need-same-length
 same-length c = search needs
@@ -19,7 +20,7 @@ same-length-2 : tie.Need-same-length-2
 same-length-2 c = search needs
 
 returns : tie.Need-returns
-returns c = call-numbered _ _ _ _ _ (c .before .before .before .before .before .fetch-text .ensures) (c .answer-of .ensures)
+returns c = call-numbered _ _ _ _ _ (c .before .before .before .before .before .fetch-text .ensures .0) (c .answer-of .ensures)
 
 pub lmr5-fetch-text-spec : {M : Type 1} → statement M
 lmr5-fetch-text-spec =

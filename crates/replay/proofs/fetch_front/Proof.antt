@@ -53,7 +53,7 @@ returns c =
     let pre = c .before .before .before .before .before .before .before .before .before .before .before .before .before .before .before .before .before .pre in
     let lesser = c .before .before .before .before .before .before .before .before .before .before .before .before .lesser in
     front-fetched _ _ _ _ (λ j. shared-slice-known .given j .fits) _ (lesser .ensures) _ _ _ _ _ (pre)
-    (c .before .before .before .before .before .before .before .before .before .copy .ensures) (c .before .before .before .before .fetch-text .ensures)
+    (c .before .before .before .before .before .before .before .before .before .copy .ensures) (c .before .before .before .before .fetch-text .ensures .0)
 
 pub fetch-front-spec : {M : Type 1} → statement M
 fetch-front-spec =

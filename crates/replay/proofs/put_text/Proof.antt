@@ -109,7 +109,7 @@ returns-4 c =
     let answered = c .before .before .answered in
     let fits : 17 + args .n + number-at .result ≤ length (args .s .now) = omega (arith, if3 .left, if2 .left, if1 .left, pre .nine) in
     ap (leaves _ _) (answered .ensures .1)
-    ∙ turn-plain _ _ (args .s .now) _ 10 _ _ _ _ _ _ _ (pre .of-kind) refl refl (c .before .before .before .before .before .before .put-text .ensures) (answered .ensures .0)
+    ∙ turn-plain _ _ (args .s .now) _ 10 _ _ _ _ _ _ _ (pre .of-kind) refl refl (c .before .before .before .before .before .before .put-text .ensures .0) (answered .ensures .0)
     (texts-lent (args .marks .now) (args .b .now) (args .s .now) (args .log .now) 10 (args .n) _ (λ (d e : List ℕ). call.edits (call.putText d e)) (pre .of-kind) refl
     (pre .number) (number-at .ensures) fits (λ (d e : List ℕ). call.edits (call.putText d e)) refl)
     (texts-taken (args .marks .now) (args .b .now) (args .s .now) (args .log .now) 10 (args .n) _ (λ (d e : List ℕ). call.edits (call.putText d e)) (pre .of-kind) refl

@@ -8,12 +8,12 @@ use mathlib.Core.List.{_∷_, _++_}
 use mathlib.Core.Option.{none, some}
 use lib.IntN.{pos}
 use Rattle.numbers.specs.Words.{unsigned}
-use Rattle.format.specs.Calls.{value, flag, count, deck}
+use Rattle.format.specs.Calls.{value, flag, count, nibbles, deck}
 use Rattle.format.specs.Buffer.{zeros}
-use Rattle.format.specs.declared.Reply.the-variants.{Refused, Done, Value, MissingValue, Flag, MissingFlag, Count, Text}
+use Rattle.format.specs.declared.Reply.the-variants.{Refused, Done, Value, MissingValue, Flag, MissingFlag, Count, Nibbles, Text}
 use Rattle.script.specs.Labels.{quantityLabel}
 use Rattle.script.specs.Script.{bytes8}
-use Rattle.script.proofs.Replay.{given-put, two-put, reply-put}
+use Rattle.script.proofs.Replay.{given-put, three-put, reply-put}
 use borrow.Author.Needs.{needs}
 use Rattle.script.proofs.put_reply.Statement.{statement}
 use Rattle.script.proofs.put_reply.Tie as tie
@@ -69,11 +69,23 @@ put-given-requires-5 c κs = search needs
 enum-known-r-5 : tie.Need-enum-known-r-5
 enum-known-r-5 c = search needs
 
-cast-put-two : tie.Need-cast-put-two
-cast-put-two c = search needs
+cast-put-given-2 : tie.Need-cast-put-given-2
+cast-put-given-2 c = search needs
 
-put-two-requires : tie.Need-put-two-requires
-put-two-requires c κs = search needs
+put-given-requires-6 : tie.Need-put-given-requires-6
+put-given-requires-6 c κs = search needs
+
+enum-known-r-6 : tie.Need-enum-known-r-6
+enum-known-r-6 c = search needs
+
+cast-put-three : tie.Need-cast-put-three
+cast-put-three c = search needs
+
+cast-put-three-2 : tie.Need-cast-put-three-2
+cast-put-three-2 c = search needs
+
+put-three-requires : tie.Need-put-three-requires
+put-three-requires c κs = search needs
 
 same-length : tie.Need-same-length
 same-length c = search needs
@@ -143,7 +155,19 @@ returns-8 : tie.Need-returns-8
 unfolding quantityLabel unsigned
 returns-8 c =
     let r5 = c .before .before .before .before .before .r5 in
-    reply-put _ (Text (r5 .given .0 .0) (r5 .given .0 .1 .0)) _ _ _ (r5 .given .1) (two-put count (r5 .given .0 .0) deck (r5 .given .0 .1 .0)) (c .before .before .put-two .ensures)
+    reply-put _ (Nibbles (r5 .given .0 .0)) _ _ _ (r5 .given .1) (given-put nibbles (some (pos (r5 .given .0 .0)))) (c .before .before .put-given6 .ensures)
+
+same-length-9 : tie.Need-same-length-9
+same-length-9 c = search needs
+
+returns-9 : tie.Need-returns-9
+unfolding quantityLabel unsigned
+returns-9 c =
+    let r6 = c .before .before .before .before .before .r6 in
+    let n = r6 .given .0 .0 in
+    let set = r6 .given .0 .1 .0 in
+    let taken = r6 .given .0 .1 .1 .0 in
+    reply-put _ (Text n set taken) _ _ _ (r6 .given .1) (three-put count n deck set nibbles taken) (c .before .before .put-three .ensures)
 
 pub put-reply-spec : {M : Type 1} → statement M
 put-reply-spec =
@@ -166,8 +190,12 @@ put-reply-spec =
     enum-known-r-4
     put-given-requires-5
     enum-known-r-5
-    cast-put-two
-    put-two-requires
+    cast-put-given-2
+    put-given-requires-6
+    enum-known-r-6
+    cast-put-three
+    cast-put-three-2
+    put-three-requires
     same-length
     returns
     same-length-2
@@ -183,4 +211,6 @@ put-reply-spec =
     same-length-7
     returns-7
     same-length-8
-    returns-8)
+    returns-8
+    same-length-9
+    returns-9)
