@@ -140,8 +140,8 @@ fn al(report: &[u8]) -> usize {
     usize::from(report[37] % 16 * 16 + report[38] / 16)
 }
 
-/// Every text of 1 to 85 symbols that does not end in a plain space has 1 to 255 nibbles
-/// and is put.
+/// Up to 85 symbols are put, whichever they are, unless a plain space is at their end:
+/// they have at least one nibble, and 255 at most.
 #[test]
 fn no_text_of_up_to_85_symbols_is_too_long() {
     let mut prng = Prng::new(31);
@@ -343,7 +343,7 @@ fn the_header_is_not_counted() {
     assert_eq!(put_text(&mut buffer, b"6", &[0]), Ok(1));
 }
 
-/// What every choice has in common: m symbols that put text does not refuse by 14, and
+/// What holds of any choice: put text does not refuse its symbols by 14, and there are
 /// three nibbles for each.
 fn is_costliest(text: &[u8], marks: &[u8]) -> bool {
     let has_short_code = |byte: u8| SHORT.iter().any(|&(short, _)| short == byte);

@@ -704,9 +704,17 @@ costs =
     ∷ example (answersOf wide (putPlain (replicate 84 32 ++ one 48) ∷ putOriginals (replicate 85 32) ∷ [])) (1 ∷ 1 ∷ 0 ∷ 11 ∷ 1 ∷ 1 ∷ 0 ∷ 255 ∷ [])
     ∷ example (answersOf wide (putPlain (replicate 255 48) ∷ putPlain (replicate 256 48) ∷ putPlain (replicate 127 65) ∷ putPlain (replicate 128 65) ∷ []))
     (1 ∷ 1 ∷ 0 ∷ 255 ∷ (refuses 12 0 ++ (1 ∷ 1 ∷ 0 ∷ 254 ∷ refuses 12 0)))
-    -- 85 original symbols and a plain space; one of 85 that is plain: a letter, a space within, a space at the end
+    -- other refusals of a short row: the report's, another number of marks, a symbol that no text may hold, no room
+    ∷ example (answersOf (spoilt wide) (putOriginals (replicate 85 65) ∷ [])) (refuses 4 0)
+    ∷ example (answersOf wide (edits (putText (replicate 85 65) (replicate 84 1)) ∷ edits (putText (replicate 85 97) (replicate 85 0)) ∷ [])) (refuses 13 0 ++ refuses 14 0)
+    ∷ example (answersOf freshBytes (putOriginals (replicate 85 65) ∷ [])) (refuses 13 0)
+    -- 85 original symbols and a plain space; one of 85 that is plain: a letter at the front, a letter at the end, a space within, a space
+    -- at the end
     ∷ example (answersOf wide (edits (putText (replicate 86 32) (replicate 85 1 ++ one 0)) ∷ [])) (1 ∷ 1 ∷ 0 ∷ 255 ∷ [])
-    ∷ example (nibbleCount (plain 65 ∷ originals 84) ∷ nibbleCount (original 0 ∷ plain 32 ∷ originals 83) ∷ nibbleCount (originals 84 ++ (plain 32 ∷ [])) ∷ []) (254 ∷ 253 ∷ 252 ∷ [])
+    ∷ example
+    (nibbleCount (plain 65 ∷ originals 84) ∷ nibbleCount (originals 84 ++ (plain 65 ∷ [])) ∷ nibbleCount (original 0 ∷ plain 32 ∷ originals 83)
+    ∷ nibbleCount (originals 84 ++ (plain 32 ∷ [])) ∷ [])
+    (254 ∷ 254 ∷ 253 ∷ 252 ∷ [])
     -- three nibbles that no text may hold: a plain byte without a short code, a mark over 1
     ∷ example (nibbleCount (symbolsIn (one 97) (one 0)) ∷ nibbleCount (symbolsIn (one 65) (one 2)) ∷ []) (3 ∷ 3 ∷ [])
     ∷ example (fits (symbolsCheck (one 97) (one 0)) ∷ fits (symbolsCheck (one 65) (one 2)) ∷ fits (symbolsCheck (one 97) (one 1)) ∷ []) (1 ∷ 1 ∷ 0 ∷ [])
@@ -716,7 +724,7 @@ costs =
     ∷ []
 
 pub costs-hold : T (every costs)
-unfolding lastOf lastGiven countsOf costliest ends fits originals costs costliestChecks costliestRefusal endsInSpace putOriginals refusalOf one quantityNumber quantities
+unfolding lastOf lastGiven countsOf costliest ends fits originals costs spoilt costliestChecks costliestRefusal endsInSpace putOriginals refusalOf one quantityNumber quantities
     signed optional given refusal answer joined answers yes refuses example freshBytes sBytes textBytes answersOf wide same every first
     table fieldAt required scaledOf codedOf inRange entryOf codeOf entries codes bits number bitsOf bitField total readFields writeFields nibbles bytes padded
     attachmentNibbles tailNibbles attachmentsOf among weights weight totalWeight allMissing qualityCode allYes flagsFit flagBody withFlag flagsValid charCode short

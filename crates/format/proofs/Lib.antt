@@ -1,3 +1,4 @@
 pub mod Test
 pub mod Table
 pub mod Examples
+pub mod Costliest

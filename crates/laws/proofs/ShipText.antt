@@ -625,7 +625,7 @@ pub read-text-length : (ns : List ℕ) → length (readText ns) ≤ 9 * length n
 unfolding readText credit
 read-text-length ns = omega (arith, read-length ns (Between 0))
 
--- FORMAT 7.9: three nibbles a symbol is the most that a row takes
+-- FORMAT 7.9: no row takes over three nibbles a symbol
 pub text-cost : (t : List Symbol) → nibbleCount t + allSaved t ≤ 3 * length t
 unfolding writeText
 text-cost t = omega (arith, write-cost t 0)

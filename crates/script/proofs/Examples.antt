@@ -77,6 +77,12 @@ examples =
     ((1 ∷ zeros 9) ++ (130 ∷ zeros 26))
     ∷ example (recordOf (shown (accepted (given Quantity.count (some (pos 5)) ∷ given Quantity.nibbles none ∷ given Quantity.bytes (some (pos 38)) ∷ [])) []))
     ((1 ∷ zeros 9) ++ ((3 ∷ zeros 7) ++ ((5 ∷ 137 ∷ zeros 8) ++ ((8 ∷ zeros 7) ++ (38 ∷ [])))))
+    -- what put text gives, and fetch text with its two outputs
+    ∷ example (recordOf (shown (accepted (given Quantity.nibbles (some (pos 255)) ∷ [])) [])) ((1 ∷ zeros 9) ++ ((9 ∷ zeros 7) ++ (255 ∷ zeros 18)))
+    ∷ example
+    (recordOf
+    (shown (accepted (given Quantity.count (some (pos 2)) ∷ given Quantity.deck (some (pos 1)) ∷ given Quantity.nibbles (some (pos 5)) ∷ [])) ((65 ∷ 193 ∷ []) ∷ (0 ∷ 1 ∷ []) ∷ [])))
+    ((1 ∷ zeros 9) ++ ((3 ∷ zeros 7) ++ (2 ∷ 10 ∷ zeros 7 ++ (1 ∷ 9 ∷ zeros 7 ++ (5 ∷ 65 ∷ 193 ∷ 0 ∷ 1 ∷ [])))))
     ∷ []
 
 hold : T (every examples)

@@ -144,8 +144,8 @@ pub enum Outcome {
     Calls(Vec<(Answer, Vec<u8>)>),
 }
 
-/// A costliest text. Its bytes are the program's choice, and what every choice has in
-/// common is what comes of putting it.
+/// A costliest text. The program chooses its bytes; what comes of putting it is the same
+/// for all choices.
 #[derive(Clone, Copy, Debug, PartialEq, Eq)]
 pub struct Chosen {
     pub symbols: usize,
