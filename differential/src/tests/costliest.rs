@@ -92,6 +92,20 @@ fn a_costliest_text_has_the_header_s_form() {
     }
 }
 
+/// A library that has this body for the costliest text.
+macro_rules! library {
+    ($name:ident($symbols:ident, $text:ident, $text_n:ident, $origins:ident, $origins_n:ident)
+        $body:block) => {
+        unsafe extern "C" fn $name(
+            $symbols: usize,
+            $text: *mut u8,
+            $text_n: usize,
+            $origins: *mut u8,
+            $origins_n: usize,
+        ) -> Answer $body
+    };
+}
+
 /// A library that chooses its own bytes.
 unsafe fn choose(
     lent: (usize, *mut u8, usize, *mut u8, usize),
@@ -114,16 +128,10 @@ unsafe fn choose(
 /// A library by the byte and the origin that it chooses for each place.
 macro_rules! choosing {
     ($byte:expr, $origin:expr) => {{
-        unsafe extern "C" fn chosen(
-            symbols: usize,
-            text: *mut u8,
-            text_n: usize,
-            origins: *mut u8,
-            origins_n: usize,
-        ) -> Answer {
+        library!(chosen(symbols, text, text_n, origins, origins_n) {
             let lent = (symbols, text, text_n, origins, origins_n);
             unsafe { choose(lent, $byte, $origin) }
-        }
+        });
         chosen as Costliest
     }};
 }
@@ -197,13 +205,7 @@ fn a_choice_that_put_text_refuses_is_found() {
 /// The mark of the last symbol is left as it was lent.
 #[test]
 fn a_mark_that_is_not_written_is_found() {
-    unsafe extern "C" fn wrong(
-        symbols: usize,
-        text: *mut u8,
-        text_n: usize,
-        origins: *mut u8,
-        origins_n: usize,
-    ) -> Answer {
+    library!(wrong(symbols, text, text_n, origins, origins_n) {
         unsafe {
             let former = stand_in::input(origins, origins_n).to_vec();
             let answer = stand_in::costliest_text(symbols, text, text_n, origins, origins_n);
@@ -212,7 +214,7 @@ fn a_mark_that_is_not_written_is_found() {
             }
             answer
         }
-    }
+    });
     let (found, symbols, lengths) = found_costliest(wrong);
     assert!(differing(&found).contains(&"origins"));
     assert_eq!((symbols, lengths), (1, [1, 1]));
@@ -220,13 +222,7 @@ fn a_mark_that_is_not_written_is_found() {
 
 #[test]
 fn a_text_of_86_symbols_is_found() {
-    unsafe extern "C" fn wrong(
-        symbols: usize,
-        text: *mut u8,
-        text_n: usize,
-        origins: *mut u8,
-        origins_n: usize,
-    ) -> Answer {
+    library!(wrong(symbols, text, text_n, origins, origins_n) {
         if symbols != 86 || text_n.min(origins_n) < 86 {
             return unsafe { stand_in::costliest_text(symbols, text, text_n, origins, origins_n) };
         }
@@ -235,7 +231,7 @@ fn a_text_of_86_symbols_is_found() {
             origins.write_bytes(1, 86);
         }
         Answer::default()
-    }
+    });
     let (found, symbols, lengths) = found_costliest(wrong);
     assert_eq!(found.expected.said, Said::Answer(refused(9, 0)));
     assert_eq!(found.got.said, Said::Answer(Answer::default()));
@@ -244,18 +240,12 @@ fn a_text_of_86_symbols_is_found() {
 
 #[test]
 fn a_text_of_85_symbols_that_is_refused_is_found() {
-    unsafe extern "C" fn wrong(
-        symbols: usize,
-        text: *mut u8,
-        text_n: usize,
-        origins: *mut u8,
-        origins_n: usize,
-    ) -> Answer {
+    library!(wrong(symbols, text, text_n, origins, origins_n) {
         match symbols {
             85 => refused(9, 0),
             _ => unsafe { stand_in::costliest_text(symbols, text, text_n, origins, origins_n) },
         }
-    }
+    });
     let (found, symbols, _) = found_costliest(wrong);
     assert_eq!((found.got.refusal(), symbols), (9, 85));
 }
@@ -263,36 +253,18 @@ fn a_text_of_85_symbols_that_is_refused_is_found() {
 /// A number of which only the low bits are looked at.
 #[test]
 fn a_number_that_is_cut_is_found() {
-    unsafe extern "C" fn to_a_byte(
-        symbols: usize,
-        text: *mut u8,
-        text_n: usize,
-        origins: *mut u8,
-        origins_n: usize,
-    ) -> Answer {
+    library!(to_a_byte(symbols, text, text_n, origins, origins_n) {
         let symbols = symbols % (1 << 8);
         unsafe { stand_in::costliest_text(symbols, text, text_n, origins, origins_n) }
-    }
-    unsafe extern "C" fn to_half(
-        symbols: usize,
-        text: *mut u8,
-        text_n: usize,
-        origins: *mut u8,
-        origins_n: usize,
-    ) -> Answer {
+    });
+    library!(to_half(symbols, text, text_n, origins, origins_n) {
         let symbols = symbols % (1 << 32);
         unsafe { stand_in::costliest_text(symbols, text, text_n, origins, origins_n) }
-    }
-    unsafe extern "C" fn without_the_highest(
-        symbols: usize,
-        text: *mut u8,
-        text_n: usize,
-        origins: *mut u8,
-        origins_n: usize,
-    ) -> Answer {
+    });
+    library!(without_the_highest(symbols, text, text_n, origins, origins_n) {
         let symbols = symbols % (1 << 63);
         unsafe { stand_in::costliest_text(symbols, text, text_n, origins, origins_n) }
-    }
+    });
     for (wrong, least) in [
         (to_a_byte as Costliest, 1 << 8),
         (to_half, 1 << 32),
@@ -308,13 +280,7 @@ fn a_number_that_is_cut_is_found() {
 /// A byte of either output.
 #[test]
 fn a_byte_behind_the_symbols_is_found() {
-    unsafe extern "C" fn in_text(
-        symbols: usize,
-        text: *mut u8,
-        text_n: usize,
-        origins: *mut u8,
-        origins_n: usize,
-    ) -> Answer {
+    library!(in_text(symbols, text, text_n, origins, origins_n) {
         unsafe {
             let answer = stand_in::costliest_text(symbols, text, text_n, origins, origins_n);
             if answer.refusal == 0 && symbols < text_n {
@@ -322,14 +288,8 @@ fn a_byte_behind_the_symbols_is_found() {
             }
             answer
         }
-    }
-    unsafe extern "C" fn in_origins(
-        symbols: usize,
-        text: *mut u8,
-        text_n: usize,
-        origins: *mut u8,
-        origins_n: usize,
-    ) -> Answer {
+    });
+    library!(in_origins(symbols, text, text_n, origins, origins_n) {
         unsafe {
             let answer = stand_in::costliest_text(symbols, text, text_n, origins, origins_n);
             if answer.refusal == 0 && symbols < origins_n {
@@ -337,7 +297,7 @@ fn a_byte_behind_the_symbols_is_found() {
             }
             answer
         }
-    }
+    });
     for (wrong, touched, lengths) in [
         (in_text as Costliest, "text", [1, 0]),
         (in_origins, "origins", [0, 1]),
@@ -352,13 +312,7 @@ fn a_byte_behind_the_symbols_is_found() {
 /// The last byte of a longer output, and the byte in front of one.
 #[test]
 fn a_byte_at_an_end_of_an_output_is_found() {
-    unsafe extern "C" fn at_the_end(
-        symbols: usize,
-        text: *mut u8,
-        text_n: usize,
-        origins: *mut u8,
-        origins_n: usize,
-    ) -> Answer {
+    library!(at_the_end(symbols, text, text_n, origins, origins_n) {
         unsafe {
             let answer = stand_in::costliest_text(symbols, text, text_n, origins, origins_n);
             if answer.refusal == 0 && symbols + 9 <= origins_n {
@@ -366,14 +320,8 @@ fn a_byte_at_an_end_of_an_output_is_found() {
             }
             answer
         }
-    }
-    unsafe extern "C" fn in_front(
-        symbols: usize,
-        text: *mut u8,
-        text_n: usize,
-        origins: *mut u8,
-        origins_n: usize,
-    ) -> Answer {
+    });
+    library!(in_front(symbols, text, text_n, origins, origins_n) {
         unsafe {
             let answer = stand_in::costliest_text(symbols, text, text_n, origins, origins_n);
             if text_n > 0 {
@@ -381,7 +329,7 @@ fn a_byte_at_an_end_of_an_output_is_found() {
             }
             answer
         }
-    }
+    });
     assert_eq!(differing(&found_costliest(at_the_end).0), ["origins"]);
     let (found, _, _) = found_costliest(in_front);
     assert_eq!(differing(&found), ["text"]);
@@ -392,13 +340,7 @@ fn a_byte_at_an_end_of_an_output_is_found() {
 /// On 9 a symbol is written; on 13 what fits of the text, or of the origins.
 #[test]
 fn an_output_of_a_refused_call_that_is_written_is_found() {
-    unsafe extern "C" fn on_9(
-        symbols: usize,
-        text: *mut u8,
-        text_n: usize,
-        origins: *mut u8,
-        origins_n: usize,
-    ) -> Answer {
+    library!(on_9(symbols, text, text_n, origins, origins_n) {
         unsafe {
             let answer = stand_in::costliest_text(symbols, text, text_n, origins, origins_n);
             if answer.refusal == 9 && origins_n > 0 {
@@ -406,14 +348,8 @@ fn an_output_of_a_refused_call_that_is_written_is_found() {
             }
             answer
         }
-    }
-    unsafe extern "C" fn text_on_13(
-        symbols: usize,
-        text: *mut u8,
-        text_n: usize,
-        origins: *mut u8,
-        origins_n: usize,
-    ) -> Answer {
+    });
+    library!(text_on_13(symbols, text, text_n, origins, origins_n) {
         unsafe {
             let answer = stand_in::costliest_text(symbols, text, text_n, origins, origins_n);
             if answer.refusal == 13 {
@@ -421,14 +357,8 @@ fn an_output_of_a_refused_call_that_is_written_is_found() {
             }
             answer
         }
-    }
-    unsafe extern "C" fn origins_on_13(
-        symbols: usize,
-        text: *mut u8,
-        text_n: usize,
-        origins: *mut u8,
-        origins_n: usize,
-    ) -> Answer {
+    });
+    library!(origins_on_13(symbols, text, text_n, origins, origins_n) {
         unsafe {
             let answer = stand_in::costliest_text(symbols, text, text_n, origins, origins_n);
             if answer.refusal == 13 {
@@ -436,7 +366,7 @@ fn an_output_of_a_refused_call_that_is_written_is_found() {
             }
             answer
         }
-    }
+    });
     for (wrong, refusal, touched) in [
         (on_9 as Costliest, 9, "origins"),
         (text_on_13, 13, "text"),
@@ -451,18 +381,12 @@ fn an_output_of_a_refused_call_that_is_written_is_found() {
 
 #[test]
 fn an_order_of_13_before_9_is_found() {
-    unsafe extern "C" fn wrong(
-        symbols: usize,
-        text: *mut u8,
-        text_n: usize,
-        origins: *mut u8,
-        origins_n: usize,
-    ) -> Answer {
+    library!(wrong(symbols, text, text_n, origins, origins_n) {
         if text_n.min(origins_n) < symbols {
             return refused(13, 0);
         }
         unsafe { stand_in::costliest_text(symbols, text, text_n, origins, origins_n) }
-    }
+    });
     let (found, symbols, _) = found_costliest(wrong);
     assert_eq!((found.expected.refusal(), found.got.refusal()), (9, 13));
     assert!(symbols > 85);
@@ -471,13 +395,7 @@ fn an_order_of_13_before_9_is_found() {
 /// Only one of the two outputs is looked at, and as much is written as there is room.
 #[test]
 fn a_short_output_that_is_taken_is_found() {
-    unsafe extern "C" fn by_the_text(
-        symbols: usize,
-        text: *mut u8,
-        text_n: usize,
-        origins: *mut u8,
-        origins_n: usize,
-    ) -> Answer {
+    library!(by_the_text(symbols, text, text_n, origins, origins_n) {
         let fits = symbols.min(origins_n);
         unsafe {
             let answer = stand_in::costliest_text(symbols, text, text_n, origins, origins_n);
@@ -486,14 +404,8 @@ fn a_short_output_that_is_taken_is_found() {
             }
             stand_in::costliest_text(fits, text, text_n, origins, origins_n)
         }
-    }
-    unsafe extern "C" fn by_the_origins(
-        symbols: usize,
-        text: *mut u8,
-        text_n: usize,
-        origins: *mut u8,
-        origins_n: usize,
-    ) -> Answer {
+    });
+    library!(by_the_origins(symbols, text, text_n, origins, origins_n) {
         let fits = symbols.min(text_n);
         unsafe {
             let answer = stand_in::costliest_text(symbols, text, text_n, origins, origins_n);
@@ -502,7 +414,7 @@ fn a_short_output_that_is_taken_is_found() {
             }
             stand_in::costliest_text(fits, text, text_n, origins, origins_n)
         }
-    }
+    });
     for (wrong, lengths) in [(by_the_text as Costliest, [1, 0]), (by_the_origins, [0, 1])] {
         let (found, symbols, smallest) = found_costliest(wrong);
         assert_eq!((found.expected.refusal(), found.got.refusal()), (13, 0));
@@ -513,18 +425,12 @@ fn a_short_output_that_is_taken_is_found() {
 /// An output of just as many bytes is refused.
 #[test]
 fn an_output_that_fits_and_is_refused_is_found() {
-    unsafe extern "C" fn wrong(
-        symbols: usize,
-        text: *mut u8,
-        text_n: usize,
-        origins: *mut u8,
-        origins_n: usize,
-    ) -> Answer {
+    library!(wrong(symbols, text, text_n, origins, origins_n) {
         if symbols <= 85 && origins_n == symbols {
             return refused(13, 0);
         }
         unsafe { stand_in::costliest_text(symbols, text, text_n, origins, origins_n) }
-    }
+    });
     let (found, _, _) = found_costliest(wrong);
     assert_eq!((found.expected.refusal(), found.got.refusal()), (0, 13));
 }
@@ -532,34 +438,22 @@ fn an_output_that_fits_and_is_refused_is_found() {
 /// The number of nibbles is given, or the number is the place of its refusal.
 #[test]
 fn a_number_that_a_costliest_text_gives_is_found() {
-    unsafe extern "C" fn nibbles(
-        symbols: usize,
-        text: *mut u8,
-        text_n: usize,
-        origins: *mut u8,
-        origins_n: usize,
-    ) -> Answer {
+    library!(nibbles(symbols, text, text_n, origins, origins_n) {
         let mut answer =
             unsafe { stand_in::costliest_text(symbols, text, text_n, origins, origins_n) };
         if answer.refusal == 0 {
             (answer.given, answer.first) = (9, 3 * symbols as i64);
         }
         answer
-    }
-    unsafe extern "C" fn place(
-        symbols: usize,
-        text: *mut u8,
-        text_n: usize,
-        origins: *mut u8,
-        origins_n: usize,
-    ) -> Answer {
+    });
+    library!(place(symbols, text, text_n, origins, origins_n) {
         let mut answer =
             unsafe { stand_in::costliest_text(symbols, text, text_n, origins, origins_n) };
         if answer.refusal == 9 {
             answer.place = symbols as u64;
         }
         answer
-    }
+    });
     for (wrong, refusal) in [(nibbles as Costliest, 0), (place, 9)] {
         let (found, _, _) = found_costliest(wrong);
         assert_ne!(found.expected.said, found.got.said);
@@ -696,53 +590,35 @@ fn write_out(costliest_text: Costliest, case: &Case) {
 #[test]
 #[ignore = "dies; run by fences_stop_a_costliest_text"]
 fn write_past_the_text_of_a_costliest() {
-    unsafe extern "C" fn wrong(
-        symbols: usize,
-        text: *mut u8,
-        text_n: usize,
-        origins: *mut u8,
-        origins_n: usize,
-    ) -> Answer {
+    library!(wrong(symbols, text, text_n, origins, origins_n) {
         unsafe {
             text.add(symbols).write_volatile(0);
             stand_in::costliest_text(symbols, text, text_n, origins, origins_n)
         }
-    }
+    });
     write_out(wrong, &costliest(3, 3, 9));
 }
 
 #[test]
 #[ignore = "dies; run by fences_stop_a_costliest_text"]
 fn write_past_the_origins_of_a_costliest() {
-    unsafe extern "C" fn wrong(
-        symbols: usize,
-        text: *mut u8,
-        text_n: usize,
-        origins: *mut u8,
-        origins_n: usize,
-    ) -> Answer {
+    library!(wrong(symbols, text, text_n, origins, origins_n) {
         unsafe {
             origins.add(symbols).write_volatile(1);
             stand_in::costliest_text(symbols, text, text_n, origins, origins_n)
         }
-    }
+    });
     write_out(wrong, &costliest(3, 9, 3));
 }
 
 #[test]
 #[ignore = "dies; run by fences_stop_a_costliest_text"]
 fn write_to_an_empty_text() {
-    unsafe extern "C" fn wrong(
-        symbols: usize,
-        text: *mut u8,
-        text_n: usize,
-        origins: *mut u8,
-        origins_n: usize,
-    ) -> Answer {
+    library!(wrong(symbols, text, text_n, origins, origins_n) {
         unsafe {
             text.write_volatile(0);
             stand_in::costliest_text(symbols, text, text_n, origins, origins_n)
         }
-    }
+    });
     write_out(wrong, &costliest(0, 0, 0));
 }
