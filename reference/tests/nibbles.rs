@@ -140,7 +140,7 @@ fn al(report: &[u8]) -> usize {
     usize::from(report[37] % 16 * 16 + report[38] / 16)
 }
 
-/// Up to 85 symbols are put, whichever they are, unless a plain space is at their end:
+/// 1 to 85 symbols are put, whichever they are, unless a plain space is at their end:
 /// they have at least one nibble, and 255 at most.
 #[test]
 fn no_text_of_up_to_85_symbols_is_too_long() {
