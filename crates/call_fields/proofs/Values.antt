@@ -14,10 +14,10 @@ use Rattle.format.specs.Field.{Field, table, fieldAt, isField, required, inRang
 use Rattle.format.specs.Flags.{FlagTable}
 use Rattle.format.specs.Observation.{checksum, cardNumbers, size}
 use Rattle.format.specs.Report.{codesOf, observationOf}
-use Rattle.format.specs.Calls.{reads, edits, made, readField, setField, clearField, valueAt, withValue, valueNumber, fieldNumberCheck, valueCheck, requiredCheck}
-use Rattle.format.specs.Calls.{callChecks, Quantity, given, gives, outputsOf, Answer}
+use Rattle.format.specs.Calls.{reads, edits, made, readField, setField, clearField, valueAt, withValue, valueGiven, fieldNumberCheck, valueCheck, requiredCheck}
+use Rattle.format.specs.Calls.{callChecks, readGives, gives, outputsOf, Answer}
 use Rattle.format.specs.Reply.{refusal, answerOf}
-use Rattle.format.specs.declared.Reply.the-variants.{Done, Value, MissingValue}
+use Rattle.format.specs.declared.Reply.the-variants.{Value, MissingValue}
 use Rattle.format.specs.Buffer.{layout, after, effect}
 use Rattle.format.specs.declared.Coded.{Coded}
 use Rattle.format.specs.declared.Scaled.{Scaled}
@@ -26,6 +26,8 @@ use Rattle.laws.proofs.Report.{numbers-taken, same-within}
 use Rattle.laws.proofs.Effects.{call-refuses, read-done, edit-done}
 use Rattle.laws.proofs.Laid.{field-laid, value-numbers, total-set}
 use Rattle.card.specs.Answers.{Carded, codingOf}
+use Rattle.card.specs.Rows.{Row, fieldIn}
+use Rattle.card.proofs.Rows.{field-row}
 use Rattle.card.proofs.Numbers.{codes-length}
 use Rattle.card.proofs.Entries.{entry-missing, entry-there, entry-is, entries-length}
 use Rattle.card.proofs.Laid.{coding-outside, coding-code}
@@ -43,6 +45,16 @@ value-is b k c l h e =
 
 codes-back : (b : List ℕ) → codes table (entries table (codesOf b)) ≡ codesOf b
 codes-back b = codes-entries table (codesOf b) (codes-length b ∙ sym table-length)
+
+-- ---- what is told of a code
+
+module _ (f : Field) (c : Coded) (m : Bool) (is : m ≡ eqb (c .0) 0) where
+  pub told-missing : m ≡ true → answerOf MissingValue ≡ Answer.accepted (valueGiven (entryOf f c) ∷ [])
+  told-missing e = ap (λ (x : Option Scaled). Answer.accepted (valueGiven x ∷ [])) (sym (entry-missing f c (eqb-true (c .0) 0 (sym is ∙ e))))
+
+  pub told-value : m ≡ false → (v : Scaled) → v ≡ scaledOf f c → answerOf (Value v) ≡ Answer.accepted (valueGiven (entryOf f c) ∷ [])
+  told-value e v q =
+      ap (λ (x : Option Scaled). Answer.accepted (valueGiven x ∷ [])) (ap some q ∙ sym (entry-there f c (eqb-false (c .0) 0 (sym is ∙ e))))
 
 -- ---- the code of a value
 
@@ -78,40 +90,40 @@ module _ (marks : FlagTable) (b : List ℕ) (bs : Bytes b) (j : Accepted marks b
   known-passes : not (isField k) ≡ false
   known-passes = number-passes 1 46 k t is h
 
-  field-gives : (c : Coded) → c .0 ≡ getD (codesOf b) (k - 1) 0 → (e : Option Scaled) → entryOf (fieldAt k) c ≡ e
-      → after (Answer.accepted (given Quantity.value (valueNumber e) ∷ [])) b [] ≡ effect marks b (reads (readField k))
-  unfolding callChecks gives
-  field-gives c at e there =
-      ap (λ (x : Option Scaled). after (Answer.accepted (given Quantity.value (valueNumber x) ∷ [])) b []) (sym (value-is b k c (known .0) (known .1) at ∙ there))
-      ∙ read-done marks b (observationOf b) bs j (readField k) (no-check (fieldNumberCheck k) [] known-passes first-nil)
+  -- what is told of the code that stands in field k
+  module _ (row : ℕ) (of : Row k row) (o : Coded) (at : o .0 ≡ getD (codesOf b) (k - 1) 0) (a : Answer) (tells : a ≡ Answer.accepted (valueGiven (entryOf (fieldIn row) o) ∷ [])) where
+    stands : a ≡ Answer.accepted (readGives (observationOf b) (readField k) ∷ [])
+    unfolding readGives
+    stands =
+        tells ∙ ap (λ (f : Field). Answer.accepted (valueGiven (entryOf f o) ∷ [])) (field-row k row of (known .0) (known .1))
+        ∙ ap (λ (e : Option Scaled). Answer.accepted (valueGiven e ∷ [])) (sym (value-is b k o (known .0) (known .1) at))
 
-  module _ (c : Coded) (at : c .0 ≡ getD (codesOf b) (k - 1) 0) (m : Bool) (missing : m ≡ eqb (c .0) 0) where
-    pub field-missing : m ≡ true → after (answerOf MissingValue) b [] ≡ effect marks b (reads (readField k))
-    field-missing e = field-gives c at none (entry-missing (fieldAt k) c (eqb-true (c .0) 0 (sym missing ∙ e)))
+    pub field-read : after a b [] ≡ effect marks b (reads (readField k))
+    unfolding callChecks gives
+    field-read =
+        ap (λ (x : Answer). after x b []) stands
+        ∙ read-done marks b (observationOf b) bs j (readField k) (no-check (fieldNumberCheck k) [] known-passes first-nil)
 
-    pub field-read : m ≡ false → (v : Scaled) → v ≡ scaledOf (fieldAt k) c → after (answerOf (Value v)) b [] ≡ effect marks b (reads (readField k))
-    field-read e v is = field-gives c at (some v) (entry-there (fieldAt k) c (eqb-false (c .0) 0 (sym missing ∙ e)) ∙ ap some (sym is))
+    -- set and clear: another code stored, and the checks before 13 passed
+    module _ (d : List ℕ) (bd : Bytes d) where
+      pub field-set : (v : Scaled) (c : Coded) → Code c ≡ codingOf (fieldAt k) v → Carded b d (replaced b k (c .0)) → after a d [] ≡ effect marks b (edits (setField k v))
+      unfolding callChecks made gives codeOf
+      field-set v c e r =
+          let q = coding-code (fieldAt k) v c e in
+          ap (λ (x : Answer). after x d []) stands
+          ∙ edit-done marks b (observationOf b) bs j (setField k v) d
+          (no-check (fieldNumberCheck k) (valueCheck k v ∷ []) known-passes (no-check (valueCheck k v) [] (ap not (coding-in (fieldAt k) v c e)) first-nil))
+          (same-within marks b (observationOf b) bs j (withValue (observationOf b) k (some v)) refl)
+          (value-laid marks b bs k (known .0) (known .1) d (some v) c j bd (q .0) r)
 
-  -- set and clear: a code stored, and the checks before 13 passed
-  module _ (d : List ℕ) (bd : Bytes d) where
-    pub field-set : (v : Scaled) (c : Coded) → Code c ≡ codingOf (fieldAt k) v → Carded b d (replaced b k (c .0))
-        → after (answerOf Done) d [] ≡ effect marks b (edits (setField k v))
-    unfolding callChecks made gives codeOf
-    field-set v c e r =
-        let q = coding-code (fieldAt k) v c e in
-        edit-done marks b (observationOf b) bs j (setField k v) d
-        (no-check (fieldNumberCheck k) (valueCheck k v ∷ []) known-passes (no-check (valueCheck k v) [] (ap not (coding-in (fieldAt k) v c e)) first-nil))
-        (same-within marks b (observationOf b) bs j (withValue (observationOf b) k (some v)) refl)
-        (value-laid marks b bs k (known .0) (known .1) d (some v) c j bd (q .0) r)
-
-    pub field-cleared : (q : Bool) → q ≡ required k → q ≡ false → (c : Coded) → c ≡ coded 0 → Carded b d (replaced b k (c .0))
-        → after (answerOf Done) d [] ≡ effect marks b (edits (clearField k))
-    unfolding callChecks made gives codeOf
-    field-cleared q eq free c e r =
-        edit-done marks b (observationOf b) bs j (clearField k) d
-        (no-check (fieldNumberCheck k) (requiredCheck k ∷ []) known-passes (no-check (requiredCheck k) [] (sym eq ∙ free) first-nil))
-        (same-within marks b (observationOf b) bs j (withValue (observationOf b) k none) refl)
-        (value-laid marks b bs k (known .0) (known .1) d none c j bd e r)
+      pub field-cleared : (q : Bool) → q ≡ required k → q ≡ false → (c : Coded) → c ≡ coded 0 → Carded b d (replaced b k (c .0)) → after a d [] ≡ effect marks b (edits (clearField k))
+      unfolding callChecks made gives codeOf
+      field-cleared q eq free c e r =
+          ap (λ (x : Answer). after x d []) stands
+          ∙ edit-done marks b (observationOf b) bs j (clearField k) d
+          (no-check (fieldNumberCheck k) (requiredCheck k ∷ []) known-passes (no-check (requiredCheck k) [] (sym eq ∙ free) first-nil))
+          (same-within marks b (observationOf b) bs j (withValue (observationOf b) k none) refl)
+          (value-laid marks b bs k (known .0) (known .1) d none c j bd e r)
 
   pub field-outside : (v : Scaled) → Outside ≡ codingOf (fieldAt k) v → after (refusal 9 k) b [] ≡ effect marks b (edits (setField k v))
   unfolding callChecks outputsOf

@@ -1,13 +1,15 @@
 // The calls on fields of the report that a buffer begins with: read, set, clear. Each judges the report first.
 ghost use mathlib.Core.Path.{_≡_};
-ghost use mathlib.Core.List.{[]};
-ghost use Prim.Native.Nat.{_≤_};
-ghost use Rattle.format.specs.Field.{fieldAt};
-ghost use Rattle.format.specs.Calls.{reads, edits, readField, setField, clearField};
-ghost use Rattle.format.specs.Buffer.{after, effect};
+ghost use mathlib.Core.List.{[], _∷_};
+ghost use Prim.Native.Nat.{_-_, _≤_};
+ghost use lib.ListN.{getD};
+ghost use Rattle.format.specs.Field.{fieldAt, entryOf};
+ghost use Rattle.format.specs.Report.{codesOf};
+ghost use Rattle.format.specs.Calls.{reads, edits, readField, setField, clearField, valueGiven, accepted};
+ghost use Rattle.format.specs.Buffer.{after, effect, asRead};
 ghost use Rattle.format.specs.Reply.{answerOf};
 ghost use Rattle.card.specs.Answers.{Carded};
-ghost use Rattle.card.specs.Rows.{Row};
+ghost use Rattle.card.specs.Rows.{Row, fieldIn};
 ghost use Rattle.report.specs.Found.{AcceptedBySome, Leaves};
 ghost use Rattle.call_fields.specs.Replaced.{replaced};
 use card::Coding;
@@ -16,6 +18,16 @@ use format::FlagTable;
 use format::Reply;
 use format::Scaled;
 use report::Inspected;
+
+// What a coded number of the field that a row is of stands for: a value, or that it is missing.
+fn told(row: u64, c: Coded) -> Reply
+    ensures { λ r. ⌜ answerOf r ≡ accepted (valueGiven (entryOf (fieldIn row) c) ∷ []) ⌝ }
+{
+    if card::is_missing(c) {
+        return Reply::MissingValue;
+    }
+    Reply::Value(card::scaled_in(row, c))
+}
 
 // The value of field k of an accepted report.
 fn field_of(s: &[u8], k: usize) -> Reply
@@ -27,10 +39,7 @@ fn field_of(s: &[u8], k: usize) -> Reply
     }
     let row = card::row(k);
     let c = card::code_in(&*s, row);
-    if card::is_missing(c) {
-        return Reply::MissingValue;
-    }
-    Reply::Value(card::scaled_in(row, c))
+    told(row, c)
 }
 
 // The value of field k, or that it is missing.
@@ -44,10 +53,10 @@ pub fn read_field(s: &[u8], k: usize, marks: &FlagTable) -> Reply
     }
 }
 
-// Stores a code in field k, whose row is given, of an accepted report, and sets the checksum.
-fn replace(s: &mut [u8], k: usize, row: u64, c: Coded)
+// Stores a code in field k, whose row is given, of an accepted report, and sets the checksum. Gives the code that stood there.
+fn replace(s: &mut [u8], k: usize, row: u64, c: Coded) -> Coded
     requires { ⌜ AcceptedBySome (now s) × (1 ≤ k) × (k ≤ 46) × Row k row × (c .0 ≤ fieldAt k .highest) ⌝ }
-    ensures { λ _. ⌜ Carded (now (s .entry)) (now (s .exit)) (replaced (now (s .entry)) k (c .0)) ⌝ }
+    ensures { λ r. ⌜ Carded (now (s .entry)) (now (s .exit)) (replaced (now (s .entry)) k (c .0)) × (r .0 ≡ getD (codesOf (now (s .entry))) (k - 1) 0) ⌝ }
 {
     let n = card::checksum(s);
     let old = card::code_in(s, row);
@@ -56,6 +65,7 @@ fn replace(s: &mut [u8], k: usize, row: u64, c: Coded)
     card::store_in(s, row, c);
     // 65535 is a multiple of 255, and no code is above it
     card::set_checksum(s, n + 65535 - y as u64 + x as u64);
+    old
 }
 
 // Sets field k of an accepted report.
@@ -71,15 +81,16 @@ fn set_field_of(s: &mut [u8], k: usize, v: Scaled) -> Reply
     match g {
         Coding::Outside => Reply::Refused(9, k),
         Coding::Code(c) => {
-            replace(s, k, row, c);
-            Reply::Done
+            let old = replace(s, k, row, c);
+            told(row, old)
         }
     }
 }
 
-// Sets field k to v.
+// Sets field k to v, and tells what stood there.
 pub fn set_field(s: &mut [u8], k: usize, v: Scaled, marks: &FlagTable) -> Reply
-    ensures { λ r. ⌜ after (answerOf r) (now (s .exit)) [] ≡ effect (now (marks .entry)) (now (s .entry)) (edits (setField k v)) ⌝ }
+    ensures { λ r. ⌜ (after (answerOf r) (now (s .exit)) [] ≡ effect (now (marks .entry)) (now (s .entry)) (edits (setField k v)))
+        × (answerOf r ≡ asRead (now (marks .entry)) (now (s .entry)) (readField k) (answerOf r)) ⌝ }
 {
     let i = report::inspect(s, 0, *marks);
     match i {
@@ -100,13 +111,13 @@ fn clear_field_of(s: &mut [u8], k: usize) -> Reply
     if card::is_required(k) {
         return Reply::Refused(10, k);
     }
-    replace(s, k, row, Coded(0));
-    Reply::Done
+    told(row, replace(s, k, row, Coded(0)))
 }
 
-// Makes field k missing.
+// Makes field k missing, and tells what stood there.
 pub fn clear_field(s: &mut [u8], k: usize, marks: &FlagTable) -> Reply
-    ensures { λ r. ⌜ after (answerOf r) (now (s .exit)) [] ≡ effect (now (marks .entry)) (now (s .entry)) (edits (clearField k)) ⌝ }
+    ensures { λ r. ⌜ (after (answerOf r) (now (s .exit)) [] ≡ effect (now (marks .entry)) (now (s .entry)) (edits (clearField k)))
+        × (answerOf r ≡ asRead (now (marks .entry)) (now (s .entry)) (readField k) (answerOf r)) ⌝ }
 {
     let i = report::inspect(s, 0, *marks);
     match i {

@@ -16,11 +16,11 @@ use Rattle.format.specs.Nibbles.{attachment, nibbles, attachmentNibbles, tailNi
 use Rattle.format.specs.Flags.{FlagTable, isFlag, permitted, flagInRange, flagFits, qualityCode, flagAt, flagBody, withFlag}
 use Rattle.format.specs.Observation.{size}
 use Rattle.format.specs.Report.{observationOf, bodyValid}
-use Rattle.format.specs.Calls.{reads, edits, made, readFlag, setFlag, clearFlag, putIn, withContent, content, flagNumber, flagNumberCheck, flagValueCheck, standsCheck}
-use Rattle.format.specs.Calls.{callChecks, Quantity, given, gives, outputsOf, Answer}
+use Rattle.format.specs.Calls.{reads, edits, made, readFlag, setFlag, clearFlag, putIn, withContent, content, flagGiven, flagNumberCheck, flagValueCheck, standsCheck}
+use Rattle.format.specs.Calls.{callChecks, readGives, gives, outputsOf, Answer}
 use Rattle.format.specs.Buffer.{layout, after, effect}
 use Rattle.format.specs.Reply.{refusal, answerOf}
-use Rattle.format.specs.declared.Reply.the-variants.{Done, Flag, MissingFlag}
+use Rattle.format.specs.declared.Reply.the-variants.{Flag, MissingFlag}
 use Rattle.laws.proofs.Sequences.{and-true}
 use Rattle.laws.proofs.Order.{between-in, number-passes, first-nil, no-check}
 use Rattle.laws.proofs.Flags.{missing-fits, range-fits, valid-flags, flag-set-length, flag-set-valid, flag-set-nibbles}
@@ -85,6 +85,14 @@ module _ (ns : List ℕ) (at j v : ℕ) (h : at + 16 ≤ length ns) (low : 1 ≤
       ap (λ (l : List ℕ). set (set (set l (at + (j - 1)) v) (at + 14) (q / 16)) (at + 15) (q % 16)) sixteen
       ∙ three-set (take at ns) (take 14 (drop at ns)) (drop (at + 16) ns) _ _ at (j - 1) v (q / 16) (q % 16) lp lf (omega arith)
       ∙ rw (fourteen, ← is) (ap (λ (l : List ℕ). take at ns ++ l) (sym (append-assoc (set f (j - 1) v) (q / 16 ∷ q % 16 ∷ []) (drop (at + 16) ns))))
+
+-- ---- what is told of a nibble
+
+pub told-missing : (v : ℕ) → v ≡ 0 → answerOf MissingFlag ≡ Answer.accepted (flagGiven v ∷ [])
+told-missing v e = rw (eq-eqb v 0 e)
+
+pub told-flag : (v : ℕ) → (v ≡ 0 → ⊥) → answerOf (Flag v) ≡ Answer.accepted (flagGiven v ∷ [])
+told-flag v n = rw (ne-eqb v 0 n)
 
 -- ---- the returns of the calls on flags
 
@@ -174,59 +182,59 @@ module _ (marks : FlagTable) (b : List ℕ) (bs : Bytes b) (place : ℕ) (f : Fl
       passes : first (flagNumberCheck j ∷ standsCheck (observationOf b) 1 ∷ []) ≡ none
       passes = no-check (flagNumberCheck j) (standsCheck (observationOf b) 1 ∷ []) (number-passes 1 14 j t is h) (stands-passes marks bs (f .found) stands)
 
-      flag-gives : (v : ℕ) → v ≡ getD (nibbles b) (place + 3 + (j - 1)) 0 → after (Answer.accepted (given Quantity.flag (flagNumber v) ∷ [])) b [] ≡ effect marks b (reads (readFlag j))
-      unfolding callChecks made gives
-      flag-gives v e =
-          let k = known in
-          let at : v ≡ flagAt (content (observationOf b) 1) j =
-          e ∙ sym (getD-take 16 (drop (place + 3) (nibbles b)) (j - 1) 0 (omega arith) ∙ getD-drop (place + 3) (nibbles b) (j - 1) 0)
-          ∙ ap (λ (x : List ℕ). getD x (j - 1) 0) flags-body in
-          ap (λ (x : ℕ). after (Answer.accepted (given Quantity.flag (flagNumber x) ∷ [])) b []) at
-          ∙ read-done marks b (observationOf b) bs (f .found .judged) (readFlag j) passes
+      -- what is told of the nibble that stands in flag j
+      module _ (o : ℕ) (at : o ≡ getD (nibbles b) (place + 3 + (j - 1)) 0) (a : Answer) (tells : a ≡ Answer.accepted (flagGiven o ∷ [])) where
+        shows : a ≡ Answer.accepted (readGives (observationOf b) (readFlag j) ∷ [])
+        unfolding readGives
+        shows =
+            let k = known in
+            let is : o ≡ flagAt (content (observationOf b) 1) j =
+            at ∙ sym (getD-take 16 (drop (place + 3) (nibbles b)) (j - 1) 0 (omega arith) ∙ getD-drop (place + 3) (nibbles b) (j - 1) 0)
+            ∙ ap (λ (x : List ℕ). getD x (j - 1) 0) flags-body in
+            tells ∙ ap (λ (x : ℕ). Answer.accepted (flagGiven x ∷ [])) is
 
-      module _ (v : ℕ) (at : v ≡ getD (nibbles b) (place + 3 + (j - 1)) 0) where
-        pub flag-missing : v ≡ 0 → after (answerOf MissingFlag) b [] ≡ effect marks b (reads (readFlag j))
-        flag-missing e = rw (eq-eqb v 0 e) at (flag-gives v at)
+        pub flag-read : after a b [] ≡ effect marks b (reads (readFlag j))
+        unfolding callChecks gives
+        flag-read = ap (λ (x : Answer). after x b []) shows ∙ read-done marks b (observationOf b) bs (f .found .judged) (readFlag j) passes
 
-        pub flag-read : (v ≡ 0 → ⊥) → after (answerOf (Flag v)) b [] ≡ effect marks b (reads (readFlag j))
-        flag-read n = rw (ne-eqb v 0 n) at (flag-gives v at)
+        -- set and clear
+        module _ (d : List ℕ) (bd : Bytes d) (same : length d ≡ length b) (v : ℕ) (written : nibbles d ≡ flagged (nibbles b) (place + 3) j v) where
+          flag-laid : flagFits marks j v ≡ true → d ≡ layout b (size (observationOf b)) (withContent (observationOf b) 1 (withFlag (content (observationOf b) 1) j v))
+          unfolding flagged bodyValid
+          flag-laid fits =
+              let old = content (observationOf b) 1 in
+              let l = flag-set-length old j v body-long in
+              body-laid (withFlag old j v) l d bd same
+              (record {
+                filled = omega arith;
+                short = omega arith;
+                nibbles = flag-set-nibbles old j v marks (fine .valid) (known .0) fits;
+                low = omega arith;
+                high = omega arith;
+                valid = flag-set-valid old j v marks (fine .valid) (known .0) fits;
+              })
+              (written ∙ rw flags-body refl)
 
-      -- set and clear
-      module _ (d : List ℕ) (bd : Bytes d) (same : length d ≡ length b) (v : ℕ) (written : nibbles d ≡ flagged (nibbles b) (place + 3) j v) where
-        flag-laid : flagFits marks j v ≡ true → d ≡ layout b (size (observationOf b)) (withContent (observationOf b) 1 (withFlag (content (observationOf b) 1) j v))
-        unfolding flagged bodyValid
-        flag-laid fits =
-            let old = content (observationOf b) 1 in
-            let l = flag-set-length old j v body-long in
-            body-laid (withFlag old j v) l d bd same
-            (record {
-              filled = omega arith;
-              short = omega arith;
-              nibbles = flag-set-nibbles old j v marks (fine .valid) (known .0) fits;
-              low = omega arith;
-              high = omega arith;
-              valid = flag-set-valid old j v marks (fine .valid) (known .0) fits;
-            })
-            (written ∙ rw flags-body refl)
+          flag-fits : size (withContent (observationOf b) 1 (withFlag (content (observationOf b) 1) j v)) ≤ length b
+          flag-fits =
+              let old = content (observationOf b) 1 in
+              let p = spot marks bs (f .found) stands in
+              same-within marks b (observationOf b) bs (f .found .judged) (withContent (observationOf b) 1 (withFlag old j v))
+              (omega (arith, put-size p (withFlag old j v), flag-set-length old j v body-long, body-long))
 
-        flag-fits : size (withContent (observationOf b) 1 (withFlag (content (observationOf b) 1) j v)) ≤ length b
-        flag-fits =
-            let old = content (observationOf b) 1 in
-            let p = spot marks bs (f .found) stands in
-            same-within marks b (observationOf b) bs (f .found .judged) (withContent (observationOf b) 1 (withFlag old j v))
-            (omega (arith, put-size p (withFlag old j v), flag-set-length old j v body-long, body-long))
+          pub flag-set : (u : Bool) → u ≡ flagInRange marks j v → not u ≡ false → after a d [] ≡ effect marks b (edits (setFlag j v))
+          unfolding callChecks made gives
+          flag-set u eu hu =
+              let inside = sym eu ∙ not-false u hu in
+              ap (λ (x : Answer). after x d []) shows
+              ∙ edit-done marks b (observationOf b) bs (f .found .judged) (setFlag j v) d
+              (no-check (flagNumberCheck j) (flagValueCheck marks j v ∷ standsCheck (observationOf b) 1 ∷ []) (number-passes 1 14 j t is h)
+              (no-check (flagValueCheck marks j v) (standsCheck (observationOf b) 1 ∷ []) (value-passes marks j v u eu hu) (stands-passes marks bs (f .found) stands)))
+              flag-fits (flag-laid (range-fits marks j v inside))
 
-        pub flag-set : (u : Bool) → u ≡ flagInRange marks j v → not u ≡ false → after (answerOf Done) d [] ≡ effect marks b (edits (setFlag j v))
-        unfolding callChecks made gives
-        flag-set u eu hu =
-            let inside = sym eu ∙ not-false u hu in
-            edit-done marks b (observationOf b) bs (f .found .judged) (setFlag j v) d
-            (no-check (flagNumberCheck j) (flagValueCheck marks j v ∷ standsCheck (observationOf b) 1 ∷ []) (number-passes 1 14 j t is h)
-            (no-check (flagValueCheck marks j v) (standsCheck (observationOf b) 1 ∷ []) (value-passes marks j v u eu hu) (stands-passes marks bs (f .found) stands)))
-            flag-fits (flag-laid (range-fits marks j v inside))
-
-        pub flag-cleared : v ≡ 0 → after (answerOf Done) d [] ≡ effect marks b (edits (clearFlag j))
-        unfolding callChecks made gives
-        flag-cleared e =
-            edit-done marks b (observationOf b) bs (f .found .judged) (clearFlag j) d passes
-            (rw e at flag-fits) (rw e at (flag-laid (rw e (missing-fits marks j))))
+          pub flag-cleared : v ≡ 0 → after a d [] ≡ effect marks b (edits (clearFlag j))
+          unfolding callChecks made gives
+          flag-cleared e =
+              ap (λ (x : Answer). after x d []) shows
+              ∙ edit-done marks b (observationOf b) bs (f .found .judged) (clearFlag j) d passes
+              (rw e at flag-fits) (rw e at (flag-laid (rw e (missing-fits marks j))))

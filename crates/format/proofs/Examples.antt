@@ -1,7 +1,7 @@
--- Six lists of examples, each checked by one computed fact. The first has the figures of FORMAT 12. The second has cases in
+-- Seven lists of examples, each checked by one computed fact. The first has the figures of FORMAT 12. The second has cases in
 -- which two refusals fit at once, for the orders of FORMAT 5 to 7, zeroed bytes, unpack and pack, and edges of FORMAT 2 to 9.
 -- The third has the table of the characters, the fourth tables of permitted flags, the fifth plain and original symbols, the sixth
--- what texts take.
+-- what texts take, the seventh former values.
 -- Assumes nothing.
 use Prim.Native.Nat.{ℕ, zero, suc, _+_, _-_, _/_, _%_, _^_}
 use mathlib.Core.Bool.{cond}
@@ -21,11 +21,11 @@ use Rattle.format.specs.ShipText.{nibbleCount, endsInSpace, spaces, text
 use Rattle.format.specs.ShipText.{setOfSource, setOfNumber, deckSet, setNumber}
 use Rattle.format.specs.Observation.{Observation, widths, checksum, cardNumbers, cardNibbles, packing}
 use Rattle.format.specs.Report.{observationOf, codesOf, checksumOf, fieldChecks, bodyValid, attachmentChecks, reportChecks, Verdict, refused, accepted, judge}
-use Rattle.format.specs.Calls.{Call, reads, edits, fetches, readField, setField, clearField, readFlag, setFlag, clearFlag, put, fetch, remove, putText, fetchText}
-use Rattle.format.specs.Calls.{stands, contentOf, putIn, removeFrom, withAttachments, made, Quantity, Given, gives, outputsOf, writes, overfull, overEach}
+use Rattle.format.specs.Calls.{Call, Reading, Editing, reads, edits, fetches, readField, setField, clearField, readFlag, setFlag, clearFlag, put, fetch, remove, putText, fetchText}
+use Rattle.format.specs.Calls.{stands, contentOf, putIn, removeFrom, withAttachments, made, Quantity, Given, readGives, gives, outputsOf, writes, overfull, overEach}
 use Rattle.format.specs.Calls.{allNibbles, symbolsCheck, callChecks, checks, Answer, step}
 use Rattle.format.specs.Machine.{course}
-use Rattle.format.specs.Buffer.{layout, effect, Shown, calls, run, claim}
+use Rattle.format.specs.Buffer.{layout, effect, asRead, Shown, calls, run, claim}
 use Rattle.format.specs.Whole.{freshObservation, freshChecks, Wrote, fresh, presenceFrom, countPresent, Unpacked, unpackGives, unpack, packChecks, entriesGiven}
 use Rattle.format.specs.Whole.{countFrom, packObservation, packOrder, pack}
 use Rattle.format.specs.Loading.{rows, tableOf, someYes, everyRow, loadChecks, loadAnswer, inForce}
@@ -218,9 +218,9 @@ examples =
     -- the quality code of flag 1 at R and flag 6 at L
     ∷ example (qualityCode (1 ∷ 0 ∷ 0 ∷ 0 ∷ 0 ∷ 6 ∷ replicate 8 0) ∷ []) (3 ∷ [])
     ∷ example (answersOf roomy flagCalls)
-    (1 ∷ 1 ∷ 1 ∷ 1 ∷ 1 ∷ 0 ∷ 16 ∷ 1 ∷ 0 ∷ 0 ∷ 0 ∷ 0 ∷ 6 ∷ 0 ∷ 0 ∷ 0 ∷ 0 ∷ 0 ∷ 0 ∷ 0 ∷ 0 ∷ 0 ∷ 3 ∷ 9 ∷ [])
+    (1 ∷ 1 ∷ 0 ∷ 1 ∷ 0 ∷ 1 ∷ 1 ∷ 0 ∷ 16 ∷ 1 ∷ 0 ∷ 0 ∷ 0 ∷ 0 ∷ 6 ∷ 0 ∷ 0 ∷ 0 ∷ 0 ∷ 0 ∷ 0 ∷ 0 ∷ 0 ∷ 0 ∷ 3 ∷ 9 ∷ [])
     -- a field cleared that is not required, and one that is
-    ∷ example (answersOf freshBytes (edits (clearField 4) ∷ edits (clearField 3) ∷ [])) (yes ++ refuses 10 3)
+    ∷ example (answersOf freshBytes (edits (clearField 4) ∷ edits (clearField 3) ∷ [])) (1 ∷ 0 ∷ refuses 10 3)
     ∷ []
 
 -- every example holds: one computed fact, with all that it computes with unfolded
@@ -232,7 +232,7 @@ unfolding signed optional given valueNumbers observationNumbers refusal judged a
     flagBody withFlag flagsValid charCode short pairByte codeNibbles byteOf originOf symbolOf symbolsIn admitted allAdmitted allMarks setOfSource setOfNumber deckSet
     setNumber plainly symbolNumbers putPlain isSpace symbolNibbles fulls rest spaceRun writeFrom
     writeText spaces textStep stateAfter symbolsOf readFrom endFrom atEnd textValid readText widths checksum cardNumbers cardNibbles packing
-    observationOf fieldChecks bodyValid attachmentChecks reportChecks judge stands contentOf putIn removeFrom made gives outputsOf writes overfull
+    observationOf fieldChecks bodyValid attachmentChecks reportChecks judge stands contentOf putIn removeFrom made readGives gives outputsOf writes overfull
     overEach allNibbles callChecks checks step layout effect course calls run claim freshObservation freshChecks fresh digitsFrom fieldLines listing
 examples-hold = tt
 
@@ -334,7 +334,7 @@ orders =
     (answersOf roomy
     (put1 ∷ edits (setFlag 14 10) ∷ reads (readFlag 14) ∷ fetches (fetch 1 (replicate 16 9)) ∷ edits (clearFlag 14) ∷ reads (readFlag 14)
     ∷ fetches (fetch 1 (replicate 16 9)) ∷ []))
-    (1 ∷ 1 ∷ 1 ∷ 1 ∷ 0 ∷ 10 ∷ 1 ∷ 1 ∷ 0 ∷ 16 ∷ (replicate 13 0 ++ (10 ∷ 0 ∷ 4 ∷ 1 ∷ 1 ∷ 0 ∷ 1 ∷ 1 ∷ 0 ∷ 16 ∷ replicate 16 0)))
+    (1 ∷ 1 ∷ 0 ∷ 1 ∷ 1 ∷ 0 ∷ 10 ∷ 1 ∷ 1 ∷ 0 ∷ 16 ∷ (replicate 13 0 ++ (10 ∷ 0 ∷ 4 ∷ 1 ∷ 1 ∷ 0 ∷ 10 ∷ 1 ∷ 0 ∷ 1 ∷ 1 ∷ 0 ∷ 16 ∷ replicate 16 0)))
     -- fresh: the order of FORMAT 7.2
     ∷ example (let w = fresh (scaled (pos 1)) (scaled (pos 1799)) (scaled (pos 13)) (scaled (pos 0)) (scaled (pos 0)) (7 ∷ []) in answer (w .answer) ++ w .out) (refuses 9 2 ++ one 7)
     ∷ example (let w = freshExample (replicate 37 7) in answer (w .answer) ++ w .out) (refuses 13 0 ++ replicate 37 7)
@@ -361,7 +361,7 @@ orders =
     ∷ example (quantities (effect allYes (effect allYes roomy put1 .buffer) (reads (readFlag 1)) .answer)) (2 ∷ [])
     ∷ example (quantities (effect allYes textBytes (fetches (fetch 4 (replicate 9 7))) .answer) ++ quantities (effect allYes textBytes (fetches (fetchText (replicate 9 7) (replicate 9 7))) .answer))
     (3 ∷ 3 ∷ 10 ∷ 9 ∷ [])
-    ∷ example (quantities (effect allYes textBytes (edits (clearField 4)) .answer) ++ quantities (effect allYes textBytes (edits (remove 4)) .answer)) []
+    ∷ example (quantities (effect allYes textBytes (edits (put 4 (one 1))) .answer) ++ quantities (effect allYes textBytes (edits (remove 4)) .answer)) []
     ∷ example (quantities (unpack allYes textBytes (replicate 46 (pos 5)) (replicate 7 5) .answer)) (4 ∷ 5 ∷ 6 ∷ 7 ∷ 8 ∷ 9 ∷ [])
     ∷ example (quantities (pack allYes wholeValues requiredBits 0 [] (replicate 39 7) .answer)) (8 ∷ [])
     -- all 14 bits of CK are compared; a sum of 1020, which is 4 times 255, has CK 0, and 255 is refused
@@ -374,7 +374,7 @@ orders =
     ∷ example (answersOf roomy (edits (put 9 (replicate 17 3)) ∷ fetches (fetch 9 (replicate 18 8)) ∷ [])) (1 ∷ 1 ∷ 1 ∷ 0 ∷ 17 ∷ (replicate 17 3 ++ one 8))
     -- a quality code of 43, and the rule
     ∷ example (answersOf roomy (edits (put 1 (replicate 14 10 ++ (2 ∷ 10 ∷ []))) ∷ edits (put 1 (replicate 14 10 ++ (2 ∷ 11 ∷ []))) ∷ edits (clearFlag 1) ∷ fetches (fetch 1 (replicate 16 8)) ∷ []))
-    (refuses 14 0 ++ (1 ∷ 1 ∷ 1 ∷ 1 ∷ 0 ∷ 16 ∷ 0 ∷ (replicate 13 10 ++ (2 ∷ 8 ∷ []))))
+    (refuses 14 0 ++ (1 ∷ 1 ∷ 1 ∷ 0 ∷ 10 ∷ 1 ∷ 1 ∷ 0 ∷ 16 ∷ 0 ∷ (replicate 13 10 ++ (2 ∷ 8 ∷ []))))
     ∷ example
     (answersOf roomy
     (edits (put 1 (11 ∷ replicate 15 0)) ∷ edits (put 1 (replicate 15 0)) ∷ edits (put 1 (replicate 14 0 ++ (0 ∷ 1 ∷ [])))
@@ -383,7 +383,7 @@ orders =
     -- field 1, and the required fields
     ∷ example (answersOf freshBytes (reads (readField 1) ∷ reads (readField 46) ∷ reads (readField 0) ∷ [])) (1 ∷ 1 ∷ 0 ∷ 1 ∷ 1 ∷ 0 ∷ refuses 8 0)
     ∷ example (answersOf freshBytes (edits (clearField 1) ∷ edits (clearField 2) ∷ edits (clearField 6) ∷ edits (clearField 7) ∷ edits (clearField 5) ∷ []))
-    (refuses 10 1 ++ (refuses 10 2 ++ (refuses 10 6 ++ (refuses 10 7 ++ yes))))
+    (refuses 10 1 ++ (refuses 10 2 ++ (refuses 10 6 ++ (refuses 10 7 ++ (1 ∷ 0 ∷ [])))))
     -- runs of 17, 18 and 36 spaces, and 21
     ∷ example (writeText (plainly (replicate 17 32 ++ (66 ∷ [])))) (11 ∷ 14 ∷ 12 ∷ 2 ∷ [])
     ∷ example (writeText (plainly (replicate 18 32 ++ (66 ∷ [])))) (11 ∷ 15 ∷ 12 ∷ 2 ∷ [])
@@ -421,7 +421,7 @@ unfolding manyAttachments longTail longReport codesWith codesWithout spoilt one 
     allMissing qualityCode allYes flagsFit flagBody withFlag flagsValid charCode short pairByte codeNibbles byteOf originOf symbolOf symbolsIn admitted allAdmitted
     allMarks setOfSource setOfNumber deckSet setNumber plainly symbolNumbers putPlain isSpace symbolNibbles fulls rest spaceRun
     writeFrom writeText spaces textStep stateAfter symbolsOf readFrom endFrom atEnd textValid readText widths checksum cardNumbers cardNibbles packing observationOf
-    fieldChecks bodyValid attachmentChecks reportChecks judge stands contentOf putIn removeFrom made gives outputsOf writes overfull overEach allNibbles callChecks checks
+    fieldChecks bodyValid attachmentChecks reportChecks judge stands contentOf putIn removeFrom made readGives gives outputsOf writes overfull overEach allNibbles callChecks checks
     step layout effect course calls run claim freshObservation freshChecks fresh digitsFrom fieldLines listing
 orders-hold = tt
 
@@ -512,7 +512,7 @@ tables =
     -- set flag: 8 before 9, 9 before 11; another value, another flag
     ∷ example (under noA freshBytes (edits (setFlag 15 2) ∷ edits (setFlag 1 2) ∷ edits (setFlag 1 1) ∷ edits (setFlag 2 2) ∷ []))
     (refuses 8 0 ++ (refuses 9 1 ++ (refuses 11 0 ++ refuses 11 0)))
-    ∷ example (under noA roomy (put1 ∷ edits (setFlag 1 2) ∷ edits (setFlag 1 3) ∷ edits (setFlag 2 2) ∷ edits (setFlag 1 11) ∷ [])) (1 ∷ (refuses 9 1 ++ (1 ∷ 1 ∷ refuses 9 1)))
+    ∷ example (under noA roomy (put1 ∷ edits (setFlag 1 2) ∷ edits (setFlag 1 3) ∷ edits (setFlag 2 2) ∷ edits (setFlag 1 11) ∷ [])) (1 ∷ (refuses 9 1 ++ (1 ∷ 0 ∷ 1 ∷ 0 ∷ refuses 9 1)))
     -- put: 14, before 13; the same content where every value is permitted
     ∷ example (under noA freshBytes (edits (put 1 contentA) ∷ [])) (refuses 14 0)
     ∷ example (under allYes freshBytes (edits (put 1 contentA) ∷ [])) (refuses 13 0)
@@ -530,9 +530,9 @@ tables =
     ∷ example (packedUnder noA ((0 ∷ 1 ∷ 5 ∷ 9 ∷ 1 ∷ 0 ∷ 1 ∷ []) ++ contentA) (replicate 60 7)) (refuses 6 2 ++ replicate 60 7)
     ∷ example (take 4 (packedUnder allYes ((0 ∷ 1 ∷ 5 ∷ 9 ∷ 1 ∷ 0 ∷ 1 ∷ []) ++ contentA) (replicate 60 7))) (1 ∷ 1 ∷ 0 ∷ 49 ∷ [])
     -- a missing flag under a table of one value, and under one without a yes; any other number than 1 is no
-    ∷ example (under (tableOf (only 9)) roomy (put1 ∷ edits (setFlag 3 10) ∷ edits (setFlag 3 9) ∷ edits (clearFlag 3) ∷ [])) (1 ∷ 1 ∷ (refuses 9 3 ++ yes))
-    ∷ example (under (replicate 14 (replicate 10 0)) roomy (put1 ∷ edits (clearFlag 14) ∷ edits (setFlag 14 10) ∷ [])) (1 ∷ 1 ∷ refuses 9 14)
-    ∷ example (under (tableOf (set (replicate 140 1) 46 2)) roomy (put1 ∷ edits (setFlag 5 7) ∷ edits (setFlag 5 6) ∷ [])) (1 ∷ (refuses 9 5 ++ yes))
+    ∷ example (under (tableOf (only 9)) roomy (put1 ∷ edits (setFlag 3 10) ∷ edits (setFlag 3 9) ∷ edits (clearFlag 3) ∷ [])) (1 ∷ 1 ∷ 0 ∷ (refuses 9 3 ++ (1 ∷ 1 ∷ 0 ∷ 10 ∷ [])))
+    ∷ example (under (replicate 14 (replicate 10 0)) roomy (put1 ∷ edits (clearFlag 14) ∷ edits (setFlag 14 10) ∷ [])) (1 ∷ 1 ∷ 0 ∷ refuses 9 14)
+    ∷ example (under (tableOf (set (replicate 140 1) 46 2)) roomy (put1 ∷ edits (setFlag 5 7) ∷ edits (setFlag 5 6) ∷ [])) (1 ∷ (refuses 9 5 ++ (1 ∷ 0 ∷ [])))
     -- the lister has the table of every value
     ∷ example (take 4 (listing withA)) (49 ∷ 32 ∷ 49 ∷ 10 ∷ [])
     ∷ []
@@ -545,7 +545,7 @@ unfolding without only noA under withA contentA loading packedUnder tables rows 
     weights weight totalWeight allMissing qualityCode allYes flagsFit flagBody withFlag flagsValid charCode short pairByte codeNibbles byteOf originOf symbolOf symbolsIn
     admitted allAdmitted allMarks setOfSource setOfNumber deckSet setNumber plainly symbolNumbers putPlain isSpace
     symbolNibbles fulls rest spaceRun writeFrom writeText spaces textStep stateAfter symbolsOf readFrom endFrom atEnd textValid readText widths checksum cardNumbers
-    cardNibbles packing observationOf fieldChecks bodyValid attachmentChecks reportChecks judge stands contentOf putIn removeFrom made gives outputsOf writes overfull
+    cardNibbles packing observationOf fieldChecks bodyValid attachmentChecks reportChecks judge stands contentOf putIn removeFrom made readGives gives outputsOf writes overfull
     overEach allNibbles callChecks checks step layout effect course calls run claim freshObservation freshChecks fresh digitsFrom fieldLines listing
 tables-hold = tt
 
@@ -570,6 +570,10 @@ handedOut xs n = joined (map (λ (i : ℕ). optionalSymbol (handed xs i)) (upFro
 refusalOf : Option Refusal → List ℕ
 refusalOf none = yes
 refusalOf (some r) = refusal r
+
+-- what a fetch of the text A1 gives and writes where the deck's set is n
+fetchedIn : ℕ → List ℕ
+fetchedIn n = 1 ∷ 1 ∷ 0 ∷ 2 ∷ 1 ∷ 0 ∷ n ∷ 1 ∷ 0 ∷ 3 ∷ 65 ∷ 49 ∷ 0 ∷ 0 ∷ []
 
 pub symbols : List Example
 symbols =
@@ -609,11 +613,11 @@ symbols =
     (answersOf textBytes
     (edits (setField 10 (scaled (pos 4))) ∷ fetches (fetchText (7 ∷ 7 ∷ []) (9 ∷ 9 ∷ [])) ∷ edits (setField 10 (scaled (pos 3))) ∷ fetches (fetchText (7 ∷ 7 ∷ []) (9 ∷ 9 ∷ []))
     ∷ edits (setField 10 (scaled (pos 254))) ∷ fetches (fetchText (7 ∷ 7 ∷ []) (9 ∷ 9 ∷ [])) ∷ edits (clearField 10) ∷ fetches (fetchText (7 ∷ 7 ∷ []) (9 ∷ 9 ∷ [])) ∷ []))
-    (joined (map (λ (n : ℕ). 1 ∷ 1 ∷ 1 ∷ 0 ∷ 2 ∷ 1 ∷ 0 ∷ n ∷ 1 ∷ 0 ∷ 3 ∷ 65 ∷ 49 ∷ 0 ∷ 0 ∷ []) (2 ∷ 1 ∷ 0 ∷ 0 ∷ [])))
+    (1 ∷ 0 ∷ (fetchedIn 2 ++ (1 ∷ 1 ∷ 0 ∷ 4 ∷ (fetchedIn 1 ++ (1 ∷ 1 ∷ 0 ∷ 3 ∷ (fetchedIn 0 ++ (1 ∷ 1 ∷ 0 ∷ 254 ∷ fetchedIn 0)))))))
     -- an escaped 65 in an EBCDIC deck; original 0, original digit
     ∷ example
     (answersOf roomy (edits (setField 10 (scaled (pos 1))) ∷ edits (put 4 (15 ∷ 4 ∷ 1 ∷ [])) ∷ fetches (fetchText (7 ∷ []) (9 ∷ [])) ∷ []))
-    (1 ∷ 1 ∷ 1 ∷ 1 ∷ 0 ∷ 1 ∷ 1 ∷ 0 ∷ 1 ∷ 1 ∷ 0 ∷ 3 ∷ 65 ∷ 1 ∷ [])
+    (1 ∷ 0 ∷ 1 ∷ 1 ∷ 1 ∷ 0 ∷ 1 ∷ 1 ∷ 0 ∷ 1 ∷ 1 ∷ 0 ∷ 3 ∷ 65 ∷ 1 ∷ [])
     ∷ example (symbolNumbers (readText (15 ∷ 0 ∷ 0 ∷ 15 ∷ 3 ∷ 1 ∷ []))) (0 ∷ 49 ∷ 1 ∷ 1 ∷ [])
     ∷ example (quantities (effect allYes textBytes (fetches (fetchText (replicate 9 7) (replicate 9 7))) .answer)) (3 ∷ 10 ∷ 9 ∷ [])
     -- the reader for display: its refusals; each symbol in its turn, then the end
@@ -629,14 +633,14 @@ symbols =
     ∷ []
 
 pub symbols-hold : T (every symbols)
-unfolding putOriginals textReport optionalSymbol handedOut refusalOf symbols openingRefusal displayed handed upFrom spoilt one quantityNumber quantities without noA withA flagless put1
+unfolding putOriginals textReport optionalSymbol handedOut refusalOf fetchedIn symbols openingRefusal displayed handed upFrom spoilt one quantityNumber quantities without noA withA flagless put1
     rows badText signed optional given valueNumbers
     observationNumbers refusal judged answer joined answers yes refuses example freshBytes sBytes textBytes reportWith reportOf freshCodes answersOf roomy same every first
     table fieldAt required scaledOf codedOf inRange entryOf codeOf entries codes bits number bitsOf bitField total readFields writeFields nibbles bytes padded
     attachmentNibbles tailNibbles attachmentsOf among weights weight totalWeight allMissing qualityCode allYes flagsFit flagBody withFlag flagsValid charCode short
     pairByte codeNibbles byteOf originOf symbolOf symbolsIn admitted allAdmitted allMarks setOfSource setOfNumber deckSet setNumber plainly symbolNumbers putPlain isSpace
     symbolNibbles fulls rest spaceRun writeFrom writeText spaces textStep stateAfter symbolsOf readFrom endFrom atEnd textValid readText widths checksum cardNumbers
-    cardNibbles packing observationOf fieldChecks bodyValid attachmentChecks reportChecks judge stands contentOf putIn removeFrom made gives outputsOf writes overfull
+    cardNibbles packing observationOf fieldChecks bodyValid attachmentChecks reportChecks judge stands contentOf putIn removeFrom made readGives gives outputsOf writes overfull
     overEach allNibbles callChecks checks step layout effect course calls run claim
 symbols-hold = tt
 
@@ -730,6 +734,112 @@ unfolding lastOf lastGiven countsOf costliest ends fits originals costs spoilt c
     attachmentNibbles tailNibbles attachmentsOf among weights weight totalWeight allMissing qualityCode allYes flagsFit flagBody withFlag flagsValid charCode short
     pairByte codeNibbles byteOf originOf symbolOf symbolsIn admitted allAdmitted allMarks setOfSource setOfNumber deckSet setNumber plainly putPlain isSpace
     symbolNibbles fulls rest spaceRun writeFrom writeText spaces textStep stateAfter symbolsOf readFrom endFrom atEnd textValid readText widths checksum cardNumbers
-    cardNibbles packing observationOf fieldChecks bodyValid attachmentChecks reportChecks judge stands contentOf putIn removeFrom made gives outputsOf writes overfull
+    cardNibbles packing observationOf fieldChecks bodyValid attachmentChecks reportChecks judge stands contentOf putIn removeFrom made readGives gives outputsOf writes overfull
     overEach allNibbles callChecks checks step layout effect course calls run claim
 costs-hold = tt
+
+-- ---- former values
+
+-- the answers of an edit and of a read, on one buffer
+besideRead : List ℕ → Editing → Reading → List ℕ
+besideRead b e r = answer (effect allYes b (edits e) .answer) ++ answer (effect allYes b (reads r) .answer)
+
+-- a report with id 1: flag 1 is R, flag 14 is S, the others are missing
+flaggedBytes : List ℕ
+flaggedBytes = claim allYes roomy (put1 ∷ edits (setFlag 1 1) ∷ edits (setFlag 14 10) ∷ []) .state
+
+-- each field in turn set to its lowest value
+lowestCalls : List Call
+lowestCalls = map (λ (k : ℕ). edits (setField k (scaledOf (fieldAt k) (coded 1)))) (upFrom 1 46)
+
+-- answers that give one value: of each field that of its highest code, or that of code 1
+givenEach : (Field → ℕ) → List ℕ
+givenEach code = joined (map (λ (f : Field). 1 ∷ 1 ∷ signed (scaledOf f (coded (code f)) .0)) table)
+
+-- what the read r answers on b, beside an accepted answer that gives nothing and one that gives what stands in another buffer
+readBeside : FlagTable → List ℕ → List ℕ → Reading → List ℕ
+readBeside marks b other r =
+    answer (asRead marks b r (Answer.accepted [])) ++ answer (asRead marks b r (effect allYes other (reads r) .answer))
+
+pub formerValues : List Example
+formerValues =
+    -- a field: set over missing, over 286, over -999 with the same value, cleared, cleared again
+    example
+    (answersOf freshBytes
+    (edits (setField 31 (scaled (pos 286))) ∷ edits (setField 31 (scaled (minus 999))) ∷ edits (setField 31 (scaled (minus 999))) ∷ edits (clearField 31) ∷ edits (clearField 31)
+    ∷ reads (readField 31) ∷ []))
+    (1 ∷ 0 ∷ 1 ∷ 1 ∷ 0 ∷ 286 ∷ 1 ∷ 1 ∷ 1 ∷ 998 ∷ 1 ∷ 1 ∷ 1 ∷ 998 ∷ 1 ∷ 0 ∷ 1 ∷ 0 ∷ [])
+    -- a value of 0 is given as 0, and missing as missing
+    ∷ example (answersOf freshBytes (edits (setField 6 (scaled (pos 5))) ∷ edits (setField 6 (scaled (pos 0))) ∷ edits (setField 6 (scaled (pos 3599))) ∷ []))
+    (1 ∷ 1 ∷ 0 ∷ 0 ∷ 1 ∷ 1 ∷ 0 ∷ 5 ∷ 1 ∷ 1 ∷ 0 ∷ 0 ∷ [])
+    ∷ example (answersOf freshBytes (edits (setField 28 (scaled (pos 0))) ∷ edits (clearField 28) ∷ edits (clearField 28) ∷ [])) (1 ∷ 0 ∷ 1 ∷ 1 ∷ 0 ∷ 0 ∷ 1 ∷ 0 ∷ [])
+    -- -1, which is next to 0; every field from its highest value to its lowest, and once more
+    ∷ example (answersOf freshBytes (edits (setField 7 (scaled (minus 1))) ∷ edits (setField 7 (scaled (minus 900))) ∷ edits (setField 7 (scaled (pos 900))) ∷ []))
+    (1 ∷ 1 ∷ 0 ∷ 0 ∷ 1 ∷ 1 ∷ 1 ∷ 0 ∷ 1 ∷ 1 ∷ 1 ∷ 899 ∷ [])
+    ∷ example (answersOf (reportOf highestCodes 0 []) (lowestCalls ++ lowestCalls)) (givenEach (λ (f : Field). f .highest) ++ givenEach (λ (f : Field). 1))
+    -- the field that is named, and no other; the last field
+    ∷ example (answersOf sBytes (edits (setField 30 (scaled (pos 1))) ∷ edits (setField 32 (scaled (pos 1))) ∷ edits (clearField 31) ∷ edits (setField 46 (scaled (pos 1))) ∷ edits (clearField 46) ∷ []))
+    (1 ∷ 0 ∷ 1 ∷ 0 ∷ 1 ∷ 1 ∷ 0 ∷ 286 ∷ 1 ∷ 0 ∷ 1 ∷ 1 ∷ 0 ∷ 1 ∷ [])
+    -- required fields; a refused call gives its refusal alone, and what stood is given later
+    ∷ example
+    (answersOf freshBytes
+    (edits (setField 2 (scaled (pos 2054))) ∷ edits (setField 3 (scaled (pos 13))) ∷ edits (clearField 3) ∷ edits (setField 3 (scaled (pos 12))) ∷ edits (setField 3 (scaled (pos 1)))
+    ∷ edits (setField 0 (scaled (pos 1))) ∷ edits (clearField 47) ∷ []))
+    (1 ∷ 1 ∷ 0 ∷ 1900 ∷ (refuses 9 3 ++ (refuses 10 3 ++ (1 ∷ 1 ∷ 0 ∷ 1 ∷ 1 ∷ 1 ∷ 0 ∷ 12 ∷ (refuses 8 0 ++ refuses 8 0)))))
+    -- a flag: set over missing, over R, over S with the same value, cleared, cleared again
+    ∷ example
+    (answersOf roomy
+    (put1 ∷ edits (setFlag 1 1) ∷ edits (setFlag 1 10) ∷ edits (setFlag 1 10) ∷ edits (clearFlag 1) ∷ edits (clearFlag 1) ∷ reads (readFlag 1) ∷ []))
+    (1 ∷ 1 ∷ 0 ∷ 1 ∷ 1 ∷ 0 ∷ 1 ∷ 1 ∷ 1 ∷ 0 ∷ 10 ∷ 1 ∷ 1 ∷ 0 ∷ 10 ∷ 1 ∷ 0 ∷ 1 ∷ 0 ∷ [])
+    -- id 1 behind another attachment, and before it was dropped
+    ∷ example
+    (answersOf roomy
+    (edits (put 9 (7 ∷ 3 ∷ [])) ∷ put1 ∷ edits (setFlag 1 2) ∷ edits (setFlag 7 3) ∷ edits (setFlag 1 4) ∷ edits (clearFlag 7) ∷ edits (remove 9) ∷ edits (clearFlag 1) ∷ []))
+    (1 ∷ 1 ∷ 1 ∷ 0 ∷ 1 ∷ 0 ∷ 1 ∷ 1 ∷ 0 ∷ 2 ∷ 1 ∷ 1 ∷ 0 ∷ 3 ∷ 1 ∷ 1 ∷ 1 ∷ 0 ∷ 4 ∷ [])
+    -- the flag that is named; refused calls
+    ∷ example (answersOf flaggedBytes (edits (setFlag 2 7) ∷ edits (setFlag 13 7) ∷ edits (setFlag 14 7) ∷ edits (setFlag 1 11) ∷ edits (setFlag 15 1) ∷ edits (clearFlag 0) ∷ edits (clearFlag 1) ∷ []))
+    (1 ∷ 0 ∷ 1 ∷ 0 ∷ 1 ∷ 1 ∷ 0 ∷ 10 ∷ (refuses 9 1 ++ (refuses 8 0 ++ (refuses 8 0 ++ (1 ∷ 1 ∷ 0 ∷ 1 ∷ [])))))
+    ∷ example (answersOf freshBytes (edits (setFlag 1 1) ∷ edits (clearFlag 1) ∷ [])) (refuses 11 0 ++ refuses 11 0)
+    ∷ example (under noA flaggedBytes (edits (setFlag 1 2) ∷ edits (setFlag 1 3) ∷ edits (clearFlag 1) ∷ [])) (refuses 9 1 ++ (1 ∷ 1 ∷ 0 ∷ 1 ∷ 1 ∷ 1 ∷ 0 ∷ 3 ∷ []))
+    -- a refused report
+    ∷ example (answersOf (spoilt sBytes) (edits (setField 31 (scaled (pos 1))) ∷ edits (clearField 31) ∷ edits (setFlag 1 1) ∷ edits (clearFlag 1) ∷ []))
+    (joined (replicate 4 (refuses 4 0)))
+    -- what the numbers are
+    ∷ example
+    (quantities (effect allYes sBytes (edits (setField 31 (scaled (pos 1)))) .answer) ++ (quantities (effect allYes sBytes (edits (clearField 31)) .answer)
+    ++ (quantities (effect allYes flaggedBytes (edits (setFlag 1 2)) .answer) ++ quantities (effect allYes flaggedBytes (edits (clearFlag 1)) .answer))))
+    (1 ∷ 1 ∷ 2 ∷ 2 ∷ [])
+    ∷ example
+    (quantities (effect allYes freshBytes (edits (setField 31 (scaled (pos 1)))) .answer) ++ (quantities (effect allYes freshBytes (edits (clearField 31)) .answer)
+    ++ (quantities (effect allYes flaggedBytes (edits (setFlag 2 2)) .answer) ++ quantities (effect allYes flaggedBytes (edits (clearFlag 2)) .answer))))
+    (1 ∷ 1 ∷ 2 ∷ 2 ∷ [])
+    -- as the read answers on the same buffer
+    ∷ example (besideRead sBytes (setField 31 (scaled (pos 1))) (readField 31) ++ besideRead sBytes (clearField 31) (readField 31)) (joined (replicate 4 (1 ∷ 1 ∷ 0 ∷ 286 ∷ [])))
+    ∷ example (besideRead freshBytes (setField 31 (scaled (pos 1))) (readField 31) ++ besideRead freshBytes (clearField 31) (readField 31)) (joined (replicate 4 (1 ∷ 0 ∷ [])))
+    ∷ example (besideRead flaggedBytes (setFlag 14 1) (readFlag 14) ++ besideRead flaggedBytes (clearFlag 14) (readFlag 14)) (joined (replicate 4 (1 ∷ 1 ∷ 0 ∷ 10 ∷ [])))
+    ∷ example (besideRead flaggedBytes (setFlag 7 1) (readFlag 7) ++ besideRead flaggedBytes (clearFlag 7) (readFlag 7)) (joined (replicate 4 (1 ∷ 0 ∷ [])))
+    -- what is asked of an accepted answer: that of the read, whatever the answer gives; under the table, on the report, of the number
+    ∷ example (readBeside allYes sBytes freshBytes (readField 31) ++ readBeside allYes freshBytes sBytes (readField 31)) (1 ∷ 1 ∷ 0 ∷ 286 ∷ 1 ∷ 1 ∷ 0 ∷ 286 ∷ 1 ∷ 0 ∷ 1 ∷ 0 ∷ [])
+    ∷ example (readBeside allYes flaggedBytes withA (readFlag 14) ++ (readBeside allYes flaggedBytes withA (readFlag 1) ++ readBeside allYes withA flaggedBytes (readFlag 14)))
+    (1 ∷ 1 ∷ 0 ∷ 10 ∷ 1 ∷ 1 ∷ 0 ∷ 10 ∷ 1 ∷ 1 ∷ 0 ∷ 1 ∷ 1 ∷ 1 ∷ 0 ∷ 1 ∷ 1 ∷ 0 ∷ 1 ∷ 0 ∷ [])
+    ∷ example (readBeside noA withA withA (readFlag 1) ++ readBeside allYes (spoilt sBytes) sBytes (readField 31)) (refuses 6 1 ++ (refuses 6 1 ++ (refuses 4 0 ++ refuses 4 0)))
+    ∷ example (answer (asRead allYes sBytes (readFlag 1) (Answer.accepted [])) ++ answer (asRead allYes sBytes (readField 47) (Answer.accepted []))) (refuses 11 0 ++ refuses 8 0)
+    -- and nothing of a refusal
+    ∷ example (answer (asRead allYes sBytes (readField 31) (Answer.refused (record { number = 9; place = 31 })))) (refuses 9 31)
+    -- put, put text and drop give no former content
+    ∷ example
+    (answersOf wide (edits (put 9 (1 ∷ 2 ∷ [])) ∷ edits (put 9 (3 ∷ [])) ∷ putPlain (65 ∷ []) ∷ putPlain (49 ∷ []) ∷ edits (remove 4) ∷ edits (remove 9) ∷ []))
+    (1 ∷ 1 ∷ 1 ∷ 1 ∷ 0 ∷ 2 ∷ 1 ∷ 1 ∷ 0 ∷ 1 ∷ 1 ∷ 1 ∷ [])
+    ∷ []
+
+pub former-values-hold : T (every formerValues)
+unfolding besideRead flaggedBytes lowestCalls givenEach readBeside formerValues noA withA under without rows spoilt upFrom quantityNumber quantities flagless put1
+    reportWith reportOf highestCodes
+    signed optional given refusal answer joined answers yes refuses example freshBytes sBytes answersOf roomy wide same every first
+    table fieldAt required scaledOf codedOf inRange entryOf codeOf entries codes bits number bitsOf bitField total readFields writeFields nibbles bytes padded
+    attachmentNibbles tailNibbles attachmentsOf among weights weight totalWeight allMissing qualityCode allYes flagsFit flagBody withFlag flagsValid charCode short
+    pairByte codeNibbles byteOf originOf symbolOf symbolsIn admitted allAdmitted allMarks setOfSource setOfNumber deckSet setNumber plainly putPlain isSpace
+    symbolNibbles fulls rest spaceRun writeFrom writeText spaces textStep stateAfter symbolsOf readFrom endFrom atEnd textValid readText widths checksum cardNumbers
+    cardNibbles packing observationOf fieldChecks bodyValid attachmentChecks reportChecks judge stands contentOf putIn removeFrom made readGives gives outputsOf writes overfull
+    overEach allNibbles callChecks checks step layout effect course calls run claim
+former-values-hold = tt

@@ -6,7 +6,7 @@ use Rattle.format.specs.Order.{Refusal}
 use Rattle.format.specs.Flags.{FlagTable}
 use Rattle.format.specs.Observation.{Observation, packing, size}
 use Rattle.format.specs.Report.{Verdict, refused, accepted, judge}
-use Rattle.format.specs.Calls.{Call, Answer, outputsOf, step}
+use Rattle.format.specs.Calls.{Call, Reading, reads, Answer, outputsOf, step}
 use Rattle.format.specs.Machine.{Moved, Course, course}
 
 abbrev pub zeros : ℕ → List ℕ
@@ -39,6 +39,11 @@ effectOn marks (accepted s) b c =
 
 unfoldable pub effect : FlagTable → List ℕ → Call → After
 effect marks b c = effectOn marks (judge marks b) b c
+
+-- what an accepted answer of a set or clear has to be: that of the read r on the same buffer. Of a refusal it says nothing
+abbrev pub asRead : FlagTable → List ℕ → Reading → Answer → Answer
+asRead marks b r (Answer.refused x) = Answer.refused x
+asRead marks b r (Answer.accepted gs) = effect marks b (reads r) .answer
 
 -- ---- a list of calls
 

@@ -141,14 +141,26 @@ valueNumber (some v) = some (v .0)
 abbrev pub flagNumber : ℕ → Option ℤ
 flagNumber v = cond (eqb v 0) none (some (pos v))
 
--- what it gives
+-- what is given of a field's entry, and of a flag
+abbrev pub valueGiven : Option Scaled → Given
+valueGiven e = given value (valueNumber e)
+
+abbrev pub flagGiven : ℕ → Given
+flagGiven v = given flag (flagNumber v)
+
+-- what a read gives: what stands in the observation
+unfoldable pub readGives : Observation → Reading → Given
+readGives s (readField k) = valueGiven (valueAt s k)
+readGives s (readFlag j) = flagGiven (flagAt (content s 1) j)
+
+-- what a step gives. Set and clear give the former value: what stood in the observation before the step, as the read of that field
+-- or flag gives it
 unfoldable pub gives : Observation → Call → List Given
-gives s (reads (readField k)) = given value (valueNumber (valueAt s k)) ∷ []
-gives s (reads (readFlag j)) = given flag (flagNumber (flagAt (content s 1) j)) ∷ []
-gives s (edits (setField k v)) = []
-gives s (edits (clearField k)) = []
-gives s (edits (setFlag j v)) = []
-gives s (edits (clearFlag j)) = []
+gives s (reads r) = readGives s r ∷ []
+gives s (edits (setField k v)) = readGives s (readField k) ∷ []
+gives s (edits (clearField k)) = readGives s (readField k) ∷ []
+gives s (edits (setFlag j v)) = readGives s (readFlag j) ∷ []
+gives s (edits (clearFlag j)) = readGives s (readFlag j) ∷ []
 gives s (edits (put i ns)) = []
 gives s (edits (remove i)) = []
 gives s (edits (putText t os)) = counted nibbles (nibbleCount (symbolsIn t os)) ∷ []

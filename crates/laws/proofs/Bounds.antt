@@ -21,8 +21,8 @@ use Rattle.format.specs.Flags.{FlagTable, flagAt}
 use Rattle.format.specs.ShipText.{symbolsIn, nibbleCount, DeckSet, unknown, ebcdic, ascii, deckSet, setNumber}
 use Rattle.format.specs.Observation.{Observation, widths, size}
 use Rattle.format.specs.Report.{codesOf, countOf, tailOf, fieldChecks, attachmentChecks, reportChecks, observationOf, Verdict, verdict, judge}
-use Rattle.format.specs.Calls.{Call, reads, edits, fetches, readField, setField, clearField, readFlag, setFlag, clearFlag, put, fetch, remove, putText, fetchText}
-use Rattle.format.specs.Calls.{contentOf, content, shipText, valueNumber, Given, gives, roomCheck, callChecks, checks, Answer, refused, accepted, steppedBy, step}
+use Rattle.format.specs.Calls.{Call, Reading, reads, edits, fetches, readField, setField, clearField, readFlag, setFlag, clearFlag, put, fetch, remove, putText, fetchText}
+use Rattle.format.specs.Calls.{contentOf, content, shipText, valueNumber, Given, readGives, gives, roomCheck, callChecks, checks, Answer, refused, accepted, steppedBy, step}
 use Rattle.format.specs.Buffer.{Shown, Standing, standing, stepping, run, effectOn, effect, refusals, claimOn, claim}
 use Rattle.format.specs.declared.Scaled.{Scaled}
 use Rattle.laws.proofs.Sequences.{and-true, true-false, cond-case}
@@ -215,17 +215,22 @@ text-low marks s t os e =
     let passed = first-none _ _ (first-none _ _ (first-none _ _ e .1) .1) .0 in
     between-in 1 255 (nibbleCount (symbolsIn t os)) _ refl passed .1
 
-gives-fit : (marks : FlagTable) (s : Observation) (c : Call) → Good marks s → first (callChecks marks s c) ≡ none → GivenFit (gives s c)
-unfolding gives
-gives-fit marks s (reads (readField k)) g e = (value-fits (g .fair) table-narrow (k - 1), tt)
-gives-fit marks s (reads (readFlag j)) g e =
+-- what a read gives, and so set and clear
+read-fits : (marks : FlagTable) (s : Observation) (r : Reading) → Good marks s → NumberFits (readGives s r .number)
+unfolding readGives
+read-fits marks s (readField k) g = value-fits (g .fair) table-narrow (k - 1)
+read-fits marks s (readFlag j) g =
     let v = flagAt (content s 1) j in
     let h = content-low marks 1 (g .fine) .1 (j - 1) in
-    (cond-case NumberFits (eqb v 0) none (some (pos v)) (λ _. tt) (λ _. omega arith), tt)
-gives-fit marks s (edits (setField k v)) g e = tt
-gives-fit marks s (edits (clearField k)) g e = tt
-gives-fit marks s (edits (setFlag j v)) g e = tt
-gives-fit marks s (edits (clearFlag j)) g e = tt
+    cond-case NumberFits (eqb v 0) none (some (pos v)) (λ _. tt) (λ _. omega arith)
+
+gives-fit : (marks : FlagTable) (s : Observation) (c : Call) → Good marks s → first (callChecks marks s c) ≡ none → GivenFit (gives s c)
+unfolding gives
+gives-fit marks s (reads r) g e = (read-fits marks s r g, tt)
+gives-fit marks s (edits (setField k v)) g e = (read-fits marks s (readField k) g, tt)
+gives-fit marks s (edits (clearField k)) g e = (read-fits marks s (readField k) g, tt)
+gives-fit marks s (edits (setFlag j v)) g e = (read-fits marks s (readFlag j) g, tt)
+gives-fit marks s (edits (clearFlag j)) g e = (read-fits marks s (readFlag j) g, tt)
 gives-fit marks s (edits (put i ns)) g e = tt
 gives-fit marks s (edits (remove i)) g e = tt
 gives-fit marks s (edits (putText t os)) g e = (omega (arith, text-low marks s t os e), tt)

@@ -11,15 +11,15 @@ use borrow.Author.Tests.{le-ltb, lt-ltb}
 use Rattle.format.specs.Order.{Refusal, Check, check, first, between}
 use Rattle.format.specs.Flags.{FlagTable}
 use Rattle.format.specs.Observation.{Observation, size}
-use Rattle.format.specs.Report.{Verdict, judge}
+use Rattle.format.specs.Report.{observationOf, Verdict, judge}
 use Rattle.format.specs.Calls.{Call, Reading, Editing, Fetching, reads, edits, fetches, made, edited, afterEdit, next, shorter, gives, overfull, overEach, outputsOf}
 use Rattle.format.specs.Calls.{writes, roomCheck, callChecks, checks, Given, Answer, Stepped, steppedBy, step}
-use Rattle.format.specs.Buffer.{layout, bufferAfter, after, effect}
+use Rattle.format.specs.Buffer.{layout, bufferAfter, After, after, effectOn, effect}
 use Rattle.format.specs.Reply.{refusal}
-use Rattle.laws.proofs.Order.{first-fits, first-append-skip, no-check, no-checks, first-nil}
+use Rattle.laws.proofs.Order.{first-fits, first-append-skip, first-append-none, no-check, no-checks, first-nil}
 use Rattle.format.specs.Bits.{Bytes}
-use Rattle.laws.proofs.Report.{size-within}
-use Rattle.laws.proofs.WholeList.{layout-same}
+use Rattle.laws.proofs.Report.{Good, judged, passes, size-within}
+use Rattle.laws.proofs.WholeList.{layout-same, judge-layout, step-kept}
 
 -- an answer is not both
 pub refused-accepted : {A : Type 0} (r : Refusal) (gs : List Given) → Answer.refused r ≡ Answer.accepted gs → A
@@ -114,3 +114,41 @@ module _ (marks : FlagTable) (b : List ℕ) (s : Observation) (bs : Bytes b) (j 
 
     pub fetch-short : overfull (writes s (fetches f)) (outputsOf (fetches f)) ≡ true → after (refusal 13 0) b (outputsOf (fetches f)) ≡ effect marks b (fetches f)
     fetch-short short = effect-room marks b s (fetches f) bs j passed short
+
+-- ---- a call that is accepted
+
+-- the observation that it found, what it gives, and the observation that it leaves in the buffer
+pub record Accepts (marks : FlagTable) (b : List ℕ) (c : Call) (gs : List Given) (b′ : List ℕ) : Type 0 where
+  pub from : Observation
+  pub judges : judge marks b ≡ Verdict.accepted from
+  pub good : Good marks from
+  pub passed : first (callChecks marks from c) ≡ none
+  pub given : gs ≡ gives from c
+  pub left : observationOf b′ ≡ next from c
+
+module _ (marks : FlagTable) (b : List ℕ) (bytes : Bytes b) (c : Call) (gs : List Given) (b′ : List ℕ) (os : List (List ℕ)) where
+  pub accepts : after (Answer.accepted gs) b′ os ≡ effect marks b c → Accepts marks b c gs b′
+  unfolding effect step
+  accepts = go (judge marks b) refl
+    where
+      by : (s : Observation) → judge marks b ≡ Verdict.accepted s → (o : Option Refusal) → first (checks marks (length b) s c) ≡ o
+          → after (Answer.accepted gs) b′ os
+          ≡ after (steppedBy o s c .answer) (bufferAfter (steppedBy o s c .answer) b (size s) (steppedBy o s c .observation)) (steppedBy o s c .outs)
+          → Accepts marks b c gs b′
+      by s j (some r) q e = refused-accepted r gs (sym (ap (λ (a : After). a .answer) e))
+      by s j none q e =
+          let g = judged marks b s bytes j .good in
+          let kept : Good marks (next s c) = rw q at (step-kept marks (length b) s c (record { good = g; fits = size-within marks b s bytes j }) .good) in
+          let answer : Answer.accepted gs ≡ Answer.accepted (gives s c) = ap (λ (a : After). a .answer) e in
+          record {
+            from = s;
+            judges = j;
+            good = g;
+            passed = first-append-none (callChecks marks s c) (roomCheck (length b) s c ∷ []) (unfold checks in q) .0;
+            given = let i : gs ≡ gives s c = cc in i;
+            left = ap observationOf (ap (λ (a : After). a .buffer) e) ∙ passes marks _ (next s c) (judge-layout marks b (size s) (next s c) kept) .1;
+          }
+
+      go : (v : Verdict) → judge marks b ≡ v → after (Answer.accepted gs) b′ os ≡ effectOn marks v b c → Accepts marks b c gs b′
+      go (Verdict.refused r) q e = refused-accepted r gs (sym (ap (λ (a : After). a .answer) e))
+      go (Verdict.accepted s) q e = by s q (first (checks marks (length b) s c)) refl e

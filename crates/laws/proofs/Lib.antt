@@ -22,3 +22,4 @@ pub mod Whole
 pub mod Bounds
 pub mod Costliest
 pub mod TextCounts
+pub mod Former

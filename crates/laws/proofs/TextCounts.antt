@@ -2,7 +2,7 @@
 -- Assumes nothing.
 use Prim.{tt}
 use Prim.Native.Nat.{ℕ}
-use mathlib.Core.Path.{_≡_, refl, sym, ap, _∙_}
+use mathlib.Core.Path.{_≡_, refl, ap, _∙_}
 use mathlib.Core.Bool.{true}
 use mathlib.Core.List.{List, [], _∷_}
 use mathlib.Core.Option.{Option, none, some}
@@ -10,24 +10,22 @@ use lib.ListN.{length}
 use lib.Dec.{eqb}
 use lib.IntN.{ℤ, pos, negsuc}
 use borrow.Author.Tests.{eqb-true, eq-eqb}
-use Rattle.format.specs.Order.{Refusal, first}
 use Rattle.format.specs.Bits.{Bytes}
 use Rattle.format.specs.Nibbles.{Attachment, attachment}
 use Rattle.format.specs.Flags.{FlagTable}
 use Rattle.format.specs.ShipText.{symbolsIn, writeText, nibbleCount, endFrom, atEnd, textValid}
-use Rattle.format.specs.Observation.{Observation, size}
-use Rattle.format.specs.Report.{observationOf, bodyValid, Verdict, judge}
-use Rattle.format.specs.Calls.{Call, edits, fetches, putText, fetchText, contentOf, content, putIn, made, next, shipText, Given, gives, checks, Answer, steppedBy, step}
-use Rattle.format.specs.Buffer.{After, after, bufferAfter, effectOn, effect}
+use Rattle.format.specs.Observation.{Observation}
+use Rattle.format.specs.Report.{observationOf, bodyValid}
+use Rattle.format.specs.Calls.{Call, edits, fetches, putText, fetchText, contentOf, content, putIn, made, shipText, Given, gives}
+use Rattle.format.specs.Buffer.{after, effect}
 use Rattle.format.specs.Reply.{answerOf, CountsId4}
 use Rattle.format.specs.declared.Reply.{Reply}
 use Rattle.format.specs.declared.Reply.the-variants.{Refused, Done, Value, MissingValue, Flag, MissingFlag, Count, Nibbles, Text}
 use Rattle.laws.proofs.Sequences.{cond-case}
 use Rattle.laws.proofs.Attachments.{Fine, empty, one}
 use Rattle.laws.proofs.ShipText.{text-back}
-use Rattle.laws.proofs.Report.{Good, judged, passes, size-within}
-use Rattle.laws.proofs.WholeList.{judge-layout, step-kept}
-use Rattle.laws.proofs.Effects.{refused-accepted}
+use Rattle.laws.proofs.Report.{Good}
+use Rattle.laws.proofs.Effects.{Accepts, accepts}
 
 -- ---- the content of id 4
 
@@ -51,40 +49,6 @@ text-content marks (one {a = a} {more = more} at new f) =
 -- the text that is read of it takes as many nibbles
 pub read-count : (marks : FlagTable) (s : Observation) → Good marks s → nibbleCount (shipText s) ≡ length (content s 4)
 read-count marks s g = ap length (text-back (content s 4) (text-content marks (g .fine)))
-
--- ---- a call that is accepted
-
--- what it gives, and the observation that it leaves in the buffer
-record Accepts (marks : FlagTable) (b : List ℕ) (c : Call) (gs : List Given) (b′ : List ℕ) : Type 0 where
-  from : Observation
-  good : Good marks from
-  given : gs ≡ gives from c
-  left : observationOf b′ ≡ next from c
-
-module _ (marks : FlagTable) (b : List ℕ) (bytes : Bytes b) (c : Call) (gs : List Given) (b′ : List ℕ) (os : List (List ℕ)) where
-  accepts : after (Answer.accepted gs) b′ os ≡ effect marks b c → Accepts marks b c gs b′
-  unfolding effect step
-  accepts = go (judge marks b) refl
-    where
-      by : (s : Observation) → judge marks b ≡ Verdict.accepted s → (o : Option Refusal) → first (checks marks (length b) s c) ≡ o
-          → after (Answer.accepted gs) b′ os
-          ≡ after (steppedBy o s c .answer) (bufferAfter (steppedBy o s c .answer) b (size s) (steppedBy o s c .observation)) (steppedBy o s c .outs)
-          → Accepts marks b c gs b′
-      by s j (some r) q e = refused-accepted r gs (sym (ap (λ (a : After). a .answer) e))
-      by s j none q e =
-          let g = judged marks b s bytes j .good in
-          let kept : Good marks (next s c) = rw q at (step-kept marks (length b) s c (record { good = g; fits = size-within marks b s bytes j }) .good) in
-          let answer : Answer.accepted gs ≡ Answer.accepted (gives s c) = ap (λ (a : After). a .answer) e in
-          record {
-            from = s;
-            good = g;
-            given = let i : gs ≡ gives s c = cc in i;
-            left = ap observationOf (ap (λ (a : After). a .buffer) e) ∙ passes marks _ (next s c) (judge-layout marks b (size s) (next s c) kept) .1;
-          }
-
-      go : (v : Verdict) → judge marks b ≡ v → after (Answer.accepted gs) b′ os ≡ effectOn marks v b c → Accepts marks b c gs b′
-      go (Verdict.refused r) q e = refused-accepted r gs (sym (ap (λ (a : After). a .answer) e))
-      go (Verdict.accepted s) q e = by s q (first (checks marks (length b) s c)) refl e
 
 -- ---- the two calls
 

@@ -66,7 +66,7 @@ examples =
     ∷ example (again 412 (12 ∷ script)) []
     ∷ example (again 700 (script ++ (0 ∷ script))) script
     ∷ example (again 824 (script ++ script)) (script ++ script)
-    -- a log: what is refused, and what is given: nothing, a value, a negative one, a missing flag, three numbers
+    -- a log: what is refused, and what is given: nothing, a value, a negative one, a missing flag, a missing value, a flag, three numbers
     ∷ example (records (shown (refusal 13 258) ((9 ∷ []) ∷ (8 ∷ []) ∷ []) ∷ shown (accepted []) [] ∷ []))
     ((0 ∷ 13 ∷ 0 ∷ 0 ∷ 0 ∷ 0 ∷ 0 ∷ 0 ∷ 1 ∷ 2 ∷ zeros 27) ++ (9 ∷ 8 ∷ 1 ∷ zeros 36))
     ∷ example (recordOf (shown (accepted (given Quantity.value (some (pos 300)) ∷ [])) []))
@@ -75,6 +75,8 @@ examples =
     ((1 ∷ zeros 9) ++ ((1 ∷ 255 ∷ 255 ∷ 255 ∷ 255 ∷ 255 ∷ 255 ∷ 255 ∷ 254 ∷ zeros 18) ++ (1 ∷ [])))
     ∷ example (recordOf (shown (accepted (given Quantity.flag none ∷ [])) []))
     ((1 ∷ zeros 9) ++ (130 ∷ zeros 26))
+    ∷ example (recordOf (shown (accepted (given Quantity.value none ∷ [])) [])) ((1 ∷ zeros 9) ++ (129 ∷ zeros 26))
+    ∷ example (recordOf (shown (accepted (given Quantity.flag (some (pos 10)) ∷ [])) [])) ((1 ∷ zeros 9) ++ ((2 ∷ zeros 7) ++ (10 ∷ zeros 18)))
     ∷ example (recordOf (shown (accepted (given Quantity.count (some (pos 5)) ∷ given Quantity.nibbles none ∷ given Quantity.bytes (some (pos 38)) ∷ [])) []))
     ((1 ∷ zeros 9) ++ ((3 ∷ zeros 7) ++ ((5 ∷ 137 ∷ zeros 8) ++ ((8 ∷ zeros 7) ++ (38 ∷ [])))))
     -- what put text gives, and fetch text with its two outputs

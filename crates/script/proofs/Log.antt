@@ -197,8 +197,7 @@ answers-back (c ∷ cs) (a ∷ more) rest s f =
 
 gives-few : (s : Observation) (c : Call) → length (gives s c) ≤ 3
 unfolding gives
-gives-few s (reads (readField k)) = omega arith
-gives-few s (reads (readFlag j)) = omega arith
+gives-few s (reads r) = omega arith
 gives-few s (edits (setField k v)) = omega arith
 gives-few s (edits (clearField k)) = omega arith
 gives-few s (edits (setFlag j v)) = omega arith

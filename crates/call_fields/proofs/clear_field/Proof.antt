@@ -1,6 +1,8 @@
 -- `call_fields::clear_field` meets its contract.
 -- Assumes nothing.
 use Rattle.format.specs.Calls.{edits, clearField, outputsOf}
+use mathlib.Core.Path.{refl}
+use Rattle.laws.proofs.Former.{clears-field, former-read}
 use Rattle.report.proofs.Found.{inspect-refused, inspect-found}
 use borrow.Author.Needs.{needs}
 use Rattle.call_fields.proofs.clear_field.Statement.{statement}
@@ -26,7 +28,7 @@ unfolding outputsOf
 returns c =
     let args = c .before .before .before .before .before .before .before .args in
     let the-inspect = c .before .before .before .inspect in
-    inspect-refused _ _ _ _ (the-inspect .ensures) _ _ (edits (clearField (args .k))) (c .before .i .given .1)
+    (inspect-refused _ _ _ _ (the-inspect .ensures) _ _ (edits (clearField (args .k))) (c .before .i .given .1), refl)
 
 same-length-2 : tie.Need-same-length-2
 same-length-2 c = search needs
@@ -35,7 +37,8 @@ returns-2 : tie.Need-returns-2
 returns-2 c =
     let the-inspect = c .before .before .before .before .before .before .inspect in
     let enum-told = c .before .before .before .before .enum-told in
-    c .before .before .clear-field-of .ensures _ (inspect-found _ _ _ _ (the-inspect .ensures) _ (enum-told .given .1) .judged)
+    let e = c .before .before .clear-field-of .ensures _ (inspect-found _ _ _ _ (the-inspect .ensures) _ (enum-told .given .1) .judged) in
+    (e, former-read _ _ (λ i. c .before .before .before .before .before .before .before .before .before .slice-known .given i .fits) clears-field _ _ e)
 
 pub clear-field-spec : {M : Type 1} → statement M
 clear-field-spec =

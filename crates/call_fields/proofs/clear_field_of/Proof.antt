@@ -45,19 +45,23 @@ replace-requires c κs =
     let h = between-in 1 46 (args .k) _ (within .ensures) (if1 .left) in
     (pre, h .0, h .1, c .before .before .before .row .ensures, omega arith)
 
+told-requires : tie.Need-told-requires
+told-requires c κs = search needs
+
 same-length : tie.Need-same-length
 same-length c = search needs
 
 returns-3 : tie.Need-returns-3
 returns-3 c marks j =
-    let args = c .before .before .before .before .before .before .before .before .before .before .args in
-    let slice-known = c .before .before .before .before .before .before .before .before .before .slice-known in
-    let within = c .before .before .before .before .before .before .before .before .within in
-    let if1 = c .before .before .before .before .before .before .before .if1 in
-    let is-required = c .before .before .before .before .before .is-required in
-    let if2 = c .before .before .before .before .if2 in
-    field-cleared _ _ (λ i. slice-known .given i .fits) j (args .k) _ (within .ensures) (if1 .left) _ (λ i. c .slice-known2 .given i .fits) _ (is-required .ensures)
-    (if2 .left) _ refl (c .before .before .replace .ensures)
+    let args = c .before .before .before .before .before .before .before .before .before .before .before .args in
+    let slice-known = c .before .before .before .before .before .before .before .before .before .before .slice-known in
+    let within = c .before .before .before .before .before .before .before .before .before .within in
+    let if1 = c .before .before .before .before .before .before .before .before .if1 in
+    let is-required = c .before .before .before .before .before .before .is-required in
+    let if2 = c .before .before .before .before .before .if2 in
+    let the-replace = c .before .before .before .replace in
+    field-cleared _ _ (λ i. slice-known .given i .fits) j (args .k) _ (within .ensures) (if1 .left) _ (c .before .before .before .before .before .before .before .row .ensures) _ (the-replace .ensures .1) _ (c .told .ensures)
+    _ (λ i. c .before .slice-known2 .given i .fits) _ (is-required .ensures) (if2 .left) _ refl (the-replace .ensures .0)
 
 pub clear-field-of-spec : {M : Type 1} → statement M
 clear-field-of-spec =
@@ -69,5 +73,6 @@ clear-field-of-spec =
     is-required-requires
     returns-2
     replace-requires
+    told-requires
     same-length
     returns-3)

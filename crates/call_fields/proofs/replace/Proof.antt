@@ -70,9 +70,11 @@ returns c =
     let small : code-in .result .0 < 65536 = search needs in
     let sum = new-checksum b _ k (checksum .ensures .0 ∙ p .sum) (pre .1) (pre .2) (code-in .result) (args .c) old small in
     let stored = carded-row b (store-in .last .0) k _ x (pre .3) (λ j. slice-known .given j .fits) (λ j. slice-known2 .given j .fits) (p .long) (pre .1) (pre .2) (pre .4)
-    (store-in .ensures .0) (store-in .ensures .1) in
-    subst (λ (n : ℕ). Carded b (set-checksum .last .0) (set (set (numbersOf b) k x) 47 n)) sum
-    (carded-then b (store-in .last .0) (set-checksum .last .0) (set (numbersOf b) k x) 47 _ stored (set-checksum .ensures))
+    (store-in .ensures .0) (store-in .ensures .1) in (
+      subst (λ (n : ℕ). Carded b (set-checksum .last .0) (set (set (numbersOf b) k x) 47 n)) sum
+          (carded-then b (store-in .last .0) (set-checksum .last .0) (set (numbersOf b) k x) 47 _ stored (set-checksum .ensures)),
+      old,
+    )
 
 pub replace-spec : {M : Type 1} → statement M
 replace-spec =

@@ -1,6 +1,8 @@
 -- `call_fields::set_field` meets its contract.
 -- Assumes nothing.
 use Rattle.format.specs.Calls.{edits, setField, outputsOf}
+use mathlib.Core.Path.{refl}
+use Rattle.laws.proofs.Former.{sets-field, former-read}
 use Rattle.report.proofs.Found.{inspect-refused, inspect-found}
 use borrow.Author.Needs.{needs}
 use Rattle.call_fields.proofs.set_field.Statement.{statement}
@@ -25,7 +27,7 @@ returns : tie.Need-returns
 unfolding outputsOf
 returns c =
     let args = c .before .before .before .before .before .before .before .args in
-    inspect-refused _ _ _ _ (c .before .before .before .inspect .ensures) _ _ (edits (setField (args .k) (args .v))) (c .before .i .given .1)
+    (inspect-refused _ _ _ _ (c .before .before .before .inspect .ensures) _ _ (edits (setField (args .k) (args .v))) (c .before .i .given .1), refl)
 
 same-length-2 : tie.Need-same-length-2
 same-length-2 c = search needs
@@ -34,7 +36,8 @@ returns-2 : tie.Need-returns-2
 returns-2 c =
     let the-inspect = c .before .before .before .before .before .before .inspect in
     let enum-told = c .before .before .before .before .enum-told in
-    c .before .before .set-field-of .ensures _ (inspect-found _ _ _ _ (the-inspect .ensures) _ (enum-told .given .1) .judged)
+    let e = c .before .before .set-field-of .ensures _ (inspect-found _ _ _ _ (the-inspect .ensures) _ (enum-told .given .1) .judged) in
+    (e, former-read _ _ (λ i. c .before .before .before .before .before .before .before .before .before .slice-known .given i .fits) sets-field _ _ e)
 
 pub set-field-spec : {M : Type 1} → statement M
 set-field-spec =

@@ -65,22 +65,27 @@ returns-2 c marks j =
     (sym (c .enum-told .given .1) ∙ c .before .before .coded-in .ensures ∙ ap (λ (f : Field). codingOf f (args .v))
     (field-row (args .k) _ (c .before .before .before .row .ensures) (h .0) (h .1)))
 
+told-requires : tie.Need-told-requires
+told-requires c κs = search needs
+
 same-length : tie.Need-same-length
 same-length c = search needs
 
 returns-3 : tie.Need-returns-3
 returns-3 c marks j =
-    let args = c .before .before .before .before .before .before .before .before .before .before .before .before .args in
-    let slice-known = c .before .before .before .before .before .before .before .before .before .before .before .slice-known in
-    let within = c .before .before .before .before .before .before .before .before .before .before .within in
-    let if1 = c .before .before .before .before .before .before .before .before .before .if1 in
-    let row = c .before .before .before .before .before .before .before .before .row in
-    let coded-in = c .before .before .before .before .before .before .before .coded-in in
-    let the-g = c .before .before .before .before .before .g in
+    let args = c .before .before .before .before .before .before .before .before .before .before .before .before .before .args in
+    let slice-known = c .before .before .before .before .before .before .before .before .before .before .before .before .slice-known in
+    let within = c .before .before .before .before .before .before .before .before .before .before .before .within in
+    let if1 = c .before .before .before .before .before .before .before .before .before .before .if1 in
+    let row = c .before .before .before .before .before .before .before .before .before .row in
+    let coded-in = c .before .before .before .before .before .before .before .before .coded-in in
+    let the-g = c .before .before .before .before .before .before .g in
     let h = between-in 1 46 (args .k) _ (within .ensures) (if1 .left) in
-    field-set _ _ (λ i. slice-known .given i .fits) j (args .k) _ (within .ensures) (if1 .left) _ (λ i. c .slice-known2 .given i .fits) (args .v) _
+    let the-replace = c .before .before .before .replace in
+    field-set _ _ (λ i. slice-known .given i .fits) j (args .k) _ (within .ensures) (if1 .left) _ (row .ensures) _ (the-replace .ensures .1) _ (c .told .ensures)
+    _ (λ i. c .before .slice-known2 .given i .fits) (args .v) _
     (sym (the-g .given .1) ∙ coded-in .ensures ∙ ap (λ (f : Field). codingOf f (args .v)) (field-row (args .k) _ (row .ensures) (h .0) (h .1)))
-    (c .before .before .replace .ensures)
+    (the-replace .ensures .0)
 
 pub set-field-of-spec : {M : Type 1} → statement M
 set-field-of-spec =
@@ -93,6 +98,7 @@ set-field-of-spec =
     enum-told
     enum-known-g
     replace-requires
+    told-requires
     returns-2
     same-length
     returns-3)

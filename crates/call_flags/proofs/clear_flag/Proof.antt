@@ -1,6 +1,8 @@
 -- `call_flags::clear_flag` meets its contract.
 -- Assumes nothing.
 use Rattle.format.specs.Calls.{edits, clearFlag, outputsOf}
+use mathlib.Core.Path.{refl}
+use Rattle.laws.proofs.Former.{clears-flag, former-read}
 use Rattle.report.proofs.Found.{inspect-refused}
 use Rattle.call_flags.proofs.Flags.{flags-found}
 use borrow.Author.Needs.{needs}
@@ -24,7 +26,9 @@ same-length c = search needs
 
 returns : tie.Need-returns
 unfolding outputsOf
-returns c = inspect-refused _ _ _ _ (c .before .before .before .inspect .ensures) _ _ (edits (clearFlag (c .before .before .before .before .before .before .before .args .j))) (c .before .i .given .1)
+returns c =
+    let args = c .before .before .before .before .before .before .before .args in
+    (inspect-refused _ _ _ _ (c .before .before .before .inspect .ensures) _ _ (edits (clearFlag (args .j))) (c .before .i .given .1), refl)
 
 same-length-2 : tie.Need-same-length-2
 same-length-2 c = search needs
@@ -33,7 +37,8 @@ returns-2 : tie.Need-returns-2
 returns-2 c =
     let the-inspect = c .before .before .before .before .before .before .before .inspect in
     let i2 = c .before .before .before .before .before .i2 in
-    c .before .before .clear-flag-of .ensures _ (flags-found _ _ _ _ (the-inspect .ensures) (i2 .given .1) .found .judged)
+    let e = c .before .before .clear-flag-of .ensures _ (flags-found _ _ _ _ (the-inspect .ensures) (i2 .given .1) .found .judged) in
+    (e, former-read _ _ (λ i. c .before .before .before .before .before .before .before .before .before .before .slice-known .given i .fits) clears-flag _ _ e)
 
 pub clear-flag-spec : {M : Type 1} → statement M
 clear-flag-spec =

@@ -52,20 +52,23 @@ store-flag-requires c κs =
     let h = between-in 1 14 (args .j) _ (within .ensures) (c .before .before .if1 .left) in
     (omega arith, omega arith, h .0, h .1, omega arith)
 
+told-requires : tie.Need-told-requires
+told-requires c κs = search needs
+
 same-length : tie.Need-same-length
 same-length c = search needs
 
 returns-3 : tie.Need-returns-3
 returns-3 c marks a =
-    let args = c .before .before .before .before .before .before .before .before .args in
-    let f = flags-by (c .before .before .before .before .before .before .before .before .pre .1) a in
-    let slice-known = c .before .before .before .before .before .before .before .slice-known in
-    let within = c .before .before .before .before .before .before .within in
-    let if1 = c .before .before .before .before .before .if1 in
-    let if2 = c .before .before .before .before .if2 in
-    let store-flag = c .before .before .store-flag in
-    flag-cleared _ _ (λ i. slice-known .given i .fits) _ f (if2 .left) (args .j) _ (within .ensures) (if1 .left) _ (λ i. c .slice-known2 .given i .fits)
-    (store-flag .ensures .1) _ (store-flag .ensures .0) refl
+    let args = c .before .before .before .before .before .before .before .before .before .args in
+    let f = flags-by (c .before .before .before .before .before .before .before .before .before .pre .1) a in
+    let slice-known = c .before .before .before .before .before .before .before .before .slice-known in
+    let within = c .before .before .before .before .before .before .before .within in
+    let if1 = c .before .before .before .before .before .before .if1 in
+    let if2 = c .before .before .before .before .before .if2 in
+    let store-flag = c .before .before .before .store-flag in
+    flag-cleared _ _ (λ i. slice-known .given i .fits) _ f (if2 .left) (args .j) _ (within .ensures) (if1 .left) _ (store-flag .ensures .2) _ (c .told .ensures)
+    _ (λ i. c .before .slice-known2 .given i .fits) (store-flag .ensures .1) _ (store-flag .ensures .0) refl
 
 pub clear-flag-of-spec : {M : Type 1} → statement M
 clear-flag-of-spec =
@@ -76,5 +79,6 @@ clear-flag-of-spec =
     returns-2
     add-store-flag
     store-flag-requires
+    told-requires
     same-length
     returns-3)

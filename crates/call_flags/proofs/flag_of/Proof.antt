@@ -9,7 +9,7 @@ use Rattle.format.specs.Calls.{reads, readFlag, flagNumberCheck, callChecks, ou
 use Rattle.laws.proofs.Nibbles.{length-nibbles}
 use Rattle.laws.proofs.Effects.{number-refuses}
 use Rattle.report.proofs.Found.{missing}
-use Rattle.call_flags.proofs.Flags.{flags-by, body-within, flag-missing, flag-read}
+use Rattle.call_flags.proofs.Flags.{flags-by, body-within, flag-read}
 use native.Mathlib.Omega.{arith}
 use borrow.Author.Needs.{needs}
 use Rattle.call_flags.proofs.flag_of.Statement.{statement}
@@ -59,23 +59,14 @@ packed-at-requires c κs =
       between-in 1 14 (args .j) _ (c .before .before .within .ensures) (c .before .if1 .left),
     )
 
+told-requires : tie.Need-told-requires
+told-requires c κs = search needs
+
 returns-3 : tie.Need-returns-3
 returns-3 c marks a =
     let args = c .before .before .before .before .before .before .args in
     let f = flags-by (c .before .before .before .before .before .before .pre .1) a in
-    let shared-slice-known = c .before .before .before .before .before .shared-slice-known in
-    let within = c .before .before .before .before .within in
-    flag-missing _ _ (λ i. shared-slice-known .given i .fits) _ f (c .before .before .if2 .left) (args .j) _ (within .ensures) (c .before .before .before .if1 .left) _
-    (c .before .packed-at .ensures .0) (c .if3 .taken)
-
-returns-4 : tie.Need-returns-4
-returns-4 c marks a =
-    let args = c .before .before .before .before .before .before .args in
-    let f = flags-by (c .before .before .before .before .before .before .pre .1) a in
-    let shared-slice-known = c .before .before .before .before .before .shared-slice-known in
-    let within = c .before .before .before .before .within in
-    flag-read _ _ (λ i. shared-slice-known .given i .fits) _ f (c .before .before .if2 .left) (args .j) _ (within .ensures) (c .before .before .before .if1 .left) _
-    (c .before .packed-at .ensures .0) (c .if3 .left)
+    flag-read _ _ (λ i. c .before .before .before .before .before .shared-slice-known .given i .fits) _ f (c .before .before .if2 .left) (args .j) _ (c .before .before .before .before .within .ensures) (c .before .before .before .if1 .left) _ (c .before .packed-at .ensures .0) _ (c .told .ensures)
 
 pub flag-of-spec : {M : Type 1} → statement M
 flag-of-spec =
@@ -88,5 +79,5 @@ flag-of-spec =
     sub-packed-at
     add-packed-at-2
     packed-at-requires
-    returns-3
-    returns-4)
+    told-requires
+    returns-3)

@@ -1,6 +1,8 @@
 -- `call_flags::set_flag` meets its contract.
 -- Assumes nothing.
 use Rattle.format.specs.Calls.{edits, setFlag, outputsOf}
+use mathlib.Core.Path.{refl}
+use Rattle.laws.proofs.Former.{sets-flag, former-read}
 use Rattle.report.proofs.Found.{inspect-refused}
 use Rattle.call_flags.proofs.Flags.{flags-found}
 use borrow.Author.Needs.{needs}
@@ -26,13 +28,15 @@ returns : tie.Need-returns
 unfolding outputsOf
 returns c =
     let args = c .before .before .before .before .before .before .before .args in
-    inspect-refused _ _ _ _ (c .before .before .before .inspect .ensures) _ _ (edits (setFlag (args .j) (args .v))) (c .before .i .given .1)
+    (inspect-refused _ _ _ _ (c .before .before .before .inspect .ensures) _ _ (edits (setFlag (args .j) (args .v))) (c .before .i .given .1), refl)
 
 same-length-2 : tie.Need-same-length-2
 same-length-2 c = search needs
 
 returns-2 : tie.Need-returns-2
-returns-2 c = search needs
+returns-2 c =
+    let e = c .before .before .set-flag-of .ensures in
+    (e, former-read _ _ (λ i. c .before .before .before .before .before .before .before .before .before .before .slice-known .given i .fits) sets-flag _ _ e)
 
 pub set-flag-spec : {M : Type 1} → statement M
 set-flag-spec =

@@ -75,22 +75,25 @@ store-flag-requires c κs =
     let u = in-ten (now (args .marks)) (args .j) (args .v) _ (c .before .before .before .in-range .ensures) (c .before .before .if2 .left) in
     (omega arith, omega arith, h .0, h .1, omega arith)
 
+told-requires : tie.Need-told-requires
+told-requires c κs = search needs
+
 same-length : tie.Need-same-length
 same-length c = search needs
 
 returns-4 : tie.Need-returns-4
 returns-4 c =
-    let args = c .before .before .before .before .before .before .before .before .before .before .before .args in
-    let pre = c .before .before .before .before .before .before .before .before .before .before .before .pre in
-    let slice-known = c .before .before .before .before .before .before .before .before .before .before .slice-known in
-    let within = c .before .before .before .before .before .before .before .before .before .within in
-    let if1 = c .before .before .before .before .before .before .before .before .if1 in
-    let in-range = c .before .before .before .before .before .before .in-range in
-    let if2 = c .before .before .before .before .before .if2 in
-    let if3 = c .before .before .before .before .if3 in
-    let store-flag = c .before .before .store-flag in
-    flag-set _ _ (λ i. slice-known .given i .fits) _ pre (if3 .left) (args .j) _ (within .ensures) (if1 .left) _ (λ i. c .slice-known2 .given i .fits)
-    (store-flag .ensures .1) (args .v) (store-flag .ensures .0) _ (in-range .ensures) (if2 .left)
+    let args = c .before .before .before .before .before .before .before .before .before .before .before .before .args in
+    let pre = c .before .before .before .before .before .before .before .before .before .before .before .before .pre in
+    let slice-known = c .before .before .before .before .before .before .before .before .before .before .before .slice-known in
+    let within = c .before .before .before .before .before .before .before .before .before .before .within in
+    let if1 = c .before .before .before .before .before .before .before .before .before .if1 in
+    let in-range = c .before .before .before .before .before .before .before .in-range in
+    let if2 = c .before .before .before .before .before .before .if2 in
+    let if3 = c .before .before .before .before .before .if3 in
+    let store-flag = c .before .before .before .store-flag in
+    flag-set _ _ (λ i. slice-known .given i .fits) _ pre (if3 .left) (args .j) _ (within .ensures) (if1 .left) _ (store-flag .ensures .2) _ (c .told .ensures)
+    _ (λ i. c .before .slice-known2 .given i .fits) (store-flag .ensures .1) (args .v) (store-flag .ensures .0) _ (in-range .ensures) (if2 .left)
 
 pub set-flag-of-spec : {M : Type 1} → statement M
 set-flag-of-spec =
@@ -104,5 +107,6 @@ set-flag-of-spec =
     add-store-flag
     cast-store-flag
     store-flag-requires
+    told-requires
     same-length
     returns-4)

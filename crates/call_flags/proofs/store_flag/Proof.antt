@@ -14,8 +14,19 @@ use borrow.Author.Needs.{needs}
 use Rattle.call_flags.proofs.store_flag.Statement.{statement}
 use Rattle.call_flags.proofs.store_flag.Tie as tie
 
-sub-put : tie.Need-sub-put
-sub-put c = search needs
+sub-exchange : tie.Need-sub-exchange
+sub-exchange c = search needs
+
+add-exchange : tie.Need-add-exchange
+add-exchange c = search needs
+
+exchange-requires : tie.Need-exchange-requires
+exchange-requires c κs = search needs
+
+quality-requires : tie.Need-quality-requires
+quality-requires c κs =
+    let exchange = c .before .before .before .exchange in
+    (nibbles-lt (exchange .last .0) (λ i. c .before .slice-known2 .given i .fits), omega (arith, length-nibbles (exchange .last .0), exchange .ensures .1), omega arith)
 
 add-put : tie.Need-add-put
 add-put c = search needs
@@ -23,22 +34,11 @@ add-put c = search needs
 put-requires : tie.Need-put-requires
 put-requires c κs = search needs
 
-quality-requires : tie.Need-quality-requires
-quality-requires c κs =
-    let put = c .before .before .before .put in
-    (nibbles-lt (put .last .0) (λ i. c .before .slice-known2 .given i .fits), omega (arith, length-nibbles (put .last .0), put .ensures .1), omega arith)
-
 add-put-2 : tie.Need-add-put-2
 add-put-2 c = search needs
 
 put-requires-2 : tie.Need-put-requires-2
 put-requires-2 c κs = search needs
-
-add-put-3 : tie.Need-add-put-3
-add-put-3 c = search needs
-
-put-requires-3 : tie.Need-put-requires-3
-put-requires-3 c κs = search needs
 
 same-length : tie.Need-same-length
 same-length c = search needs
@@ -47,35 +47,36 @@ returns : tie.Need-returns
 returns c =
     let args = c .before .before .before .before .before .before .before .before .before .before .before .before .before .before .before .args in
     let pre = c .before .before .before .before .before .before .before .before .before .before .before .before .before .before .before .pre in
-    let put = c .before .before .before .before .before .before .before .before .before .before .before .before .put in
+    let exchange = c .before .before .before .before .before .before .before .before .before .before .before .before .exchange in
     let quality′ = c .before .before .before .before .before .before .before .before .quality in
-    let put2 = c .before .before .before .before .before .before .put2 in
-    let put3 = c .before .before .put3 in
+    let put = c .before .before .before .before .before .before .put in
+    let put2 = c .before .before .put2 in
     let ns : List ℕ = nibbles (now (args .s)) in
     let at : ℕ = args .at in
     let j : ℕ = args .j in
     let v : ℕ = args .v in
     let q : ℕ = quality′ .result in
-    let p1 : nibbles (put .last .0) ≡ set ns (at + (j - 1)) v = put .ensures .0 in
-    let p2 : nibbles (put2 .last .0) ≡ set (set ns (at + (j - 1)) v) (at + 14) (q / 16) = put2 .ensures .0 ∙ ap (λ (l : List ℕ). set l (at + 14) (q / 16)) p1 in
-    let p3 : nibbles (put3 .last .0) ≡ set (set (set ns (at + (j - 1)) v) (at + 14) (q / 16)) (at + 15) (q % 16) = put3 .ensures .0 ∙ ap
+    let p1 : nibbles (exchange .last .0) ≡ set ns (at + (j - 1)) v = exchange .ensures .0 in
+    let p2 : nibbles (put .last .0) ≡ set (set ns (at + (j - 1)) v) (at + 14) (q / 16) = put .ensures .0 ∙ ap (λ (l : List ℕ). set l (at + 14) (q / 16)) p1 in
+    let p3 : nibbles (put2 .last .0) ≡ set (set (set ns (at + (j - 1)) v) (at + 14) (q / 16)) (at + 15) (q % 16) = put2 .ensures .0 ∙ ap
     (λ (l : List ℕ). set l (at + 15) (q % 16)) p2 in
     let quality : q ≡ qualityCode (take 14 (drop at (set ns (at + (j - 1)) v))) = quality′ .ensures ∙ ap (λ (l : List ℕ). qualityCode (take 14 (drop at l))) p1 in (
       p3 ∙ flag-stored ns at j v (omega (arith, length-nibbles (now (args .s)), pre .0)) (pre .2) (pre .3) q quality,
-      put3 .ensures .1 ∙ put2 .ensures .1 ∙ put .ensures .1,
+      put2 .ensures .1 ∙ put .ensures .1 ∙ exchange .ensures .1,
+      exchange .ensures .2,
     )
 
 pub store-flag-spec : {M : Type 1} → statement M
 store-flag-spec =
     tie.close
     (tie.spec
-    sub-put
+    sub-exchange
+    add-exchange
+    exchange-requires
+    quality-requires
     add-put
     put-requires
-    quality-requires
     add-put-2
     put-requires-2
-    add-put-3
-    put-requires-3
     same-length
     returns)

@@ -16,7 +16,7 @@ set-field-requires : tie.Need-set-field-requires
 set-field-requires c κs = search needs
 
 answer-of-requires : tie.Need-answer-of-requires
-answer-of-requires c κs = call-fits _ _ _ _ _ _ (c .before .before .set-field .ensures) (λ i. c .before .before .before .before .slice-known .given i .fits)
+answer-of-requires c κs = call-fits _ _ _ _ _ _ (c .before .before .set-field .ensures .0) (λ i. c .before .before .before .before .slice-known .given i .fits)
 
 same-length : tie.Need-same-length
 same-length c = search needs
@@ -25,7 +25,7 @@ returns : tie.Need-returns
 returns c =
     let args = c .before .before .before .before .before .before .args in
     call-numbered _ _ _ _ _
-    (c .before .before .before .set-field .ensures
+    (c .before .before .before .set-field .ensures .0
     ∙ ap (λ (v : ℤ). effect (args .table .now) (args .report .now) (edits (setField (args .field) (scaled v)))) (toZ-ofZ w64 (args .value) (search needs)))
     (c .answer-of .ensures)
 

@@ -126,7 +126,7 @@ returns-5 c =
     let number-at = c .before .before .before .before .before .before .before .before .before .before .number-at in
     ap (leaves _ _) (c .before .before .answered2 .ensures .1)
     ∙ turn-plain _ _ (args .s .now) _ 3 _ _ _ _ _ _ _ (c .before .before .before .before .before .before .before .before .match .keys3) refl refl
-    (c .before .before .before .before .before .before .clear-field .ensures) (c .before .before .answered2 .ensures .0)
+    (c .before .before .before .before .before .before .clear-field .ensures .0) (c .before .before .answered2 .ensures .0)
     (ap (λ (x : ℕ). call.edits (call.clearField x)) (number-at .ensures)) (refl) (if1 .left) (if2 .left)
 
 same-length-7 : tie.Need-same-length-7
@@ -170,7 +170,7 @@ returns-8 c =
     let number-at = c .before .before .before .before .before .before .before .before .before .before .number-at in
     ap (leaves _ _) (c .before .before .answered4 .ensures .1)
     ∙ turn-plain _ _ (args .s .now) _ 6 _ _ _ _ _ _ _ (c .before .before .before .before .before .before .before .before .match .keys6) refl refl
-    (c .before .before .before .before .before .before .clear-flag .ensures) (c .before .before .answered4 .ensures .0)
+    (c .before .before .before .before .before .before .clear-flag .ensures .0) (c .before .before .answered4 .ensures .0)
     (ap (λ (x : ℕ). call.edits (call.clearFlag x)) (number-at .ensures)) (refl) (if1 .left) (if2 .left)
 
 same-length-13 : tie.Need-same-length-13

@@ -50,7 +50,7 @@ returns-2 c =
     let if1 = c .before .before .before .before .before .before .before .before .before .before .if1 in
     let signed-of = c .before .before .before .before .before .before .before .before .signed-of in
     ap (leaves _ _) (c .before .before .answered .ensures .1)
-    ∙ turn-plain _ _ (args .s .now) _ 2 _ _ _ _ _ _ _ (pre .of-kind) refl refl (c .before .before .before .before .before .before .set-field .ensures)
+    ∙ turn-plain _ _ (args .s .now) _ 2 _ _ _ _ _ _ _ (pre .of-kind) refl refl (c .before .before .before .before .before .before .set-field .ensures .0)
     (c .before .before .answered .ensures .0)
     (ap₂ (λ (x : ℕ) (z : ℤ). call.edits (call.setField x (record { 0 = z }))) (pre .number)
     (toZ-ofZ w64 (signed-of .result) (search needs) ∙ signed-of .ensures

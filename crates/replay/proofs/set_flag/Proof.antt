@@ -41,7 +41,7 @@ returns-2 c =
     let args = c .before .before .before .before .before .before .before .before .before .before .before .before .before .args in
     let pre = c .before .before .before .before .before .before .before .before .before .before .before .before .before .pre in
     ap (leaves _ _) (c .before .before .answered .ensures .1)
-    ∙ turn-plain _ _ (args .s .now) _ 5 _ _ _ _ _ _ _ (pre .of-kind) refl refl (c .before .before .before .before .before .before .set-flag .ensures)
+    ∙ turn-plain _ _ (args .s .now) _ 5 _ _ _ _ _ _ _ (pre .of-kind) refl refl (c .before .before .before .before .before .before .set-flag .ensures .0)
     (c .before .before .answered .ensures .0)
     (ap₂ (λ (x y : ℕ). call.edits (call.setFlag x y)) (pre .number) (c .before .before .before .before .before .before .before .before .number-at .ensures)) (refl)
     (c .before .before .before .before .before .before .before .before .before .if1 .left) (pre .room)
