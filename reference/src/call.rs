@@ -42,20 +42,20 @@ impl Call {
     /// Runs the call on a buffer under a table of flags.
     pub fn run(&self, buffer: &mut [u8], table: &FlagTable) -> Answer {
         let nothing = |()| Vec::new();
+        let field_value = |value: Option<Scaled>| vec![Number::value(value.map(|value| value.0))];
+        let flag_value = |value: Option<u8>| vec![Number::flag(value.map(i64::from))];
         let mut outputs = self.outputs();
         let result = match self {
-            Call::ReadField { field } => edit::read_field(buffer, *field, table)
-                .map(|value| vec![Number::value(value.map(|value| value.0))]),
+            Call::ReadField { field } => edit::read_field(buffer, *field, table).map(field_value),
             Call::SetField { field, value } => {
-                edit::set_field(buffer, *field, Scaled(*value), table).map(nothing)
+                edit::set_field(buffer, *field, Scaled(*value), table).map(field_value)
             }
-            Call::ClearField { field } => edit::clear_field(buffer, *field, table).map(nothing),
-            Call::ReadFlag { flag } => edit::read_flag(buffer, *flag, table)
-                .map(|value| vec![Number::flag(value.map(i64::from))]),
+            Call::ClearField { field } => edit::clear_field(buffer, *field, table).map(field_value),
+            Call::ReadFlag { flag } => edit::read_flag(buffer, *flag, table).map(flag_value),
             Call::SetFlag { flag, value } => {
-                edit::set_flag(buffer, *flag, *value, table).map(nothing)
+                edit::set_flag(buffer, *flag, *value, table).map(flag_value)
             }
-            Call::ClearFlag { flag } => edit::clear_flag(buffer, *flag, table).map(nothing),
+            Call::ClearFlag { flag } => edit::clear_flag(buffer, *flag, table).map(flag_value),
             Call::Put { id, content } => edit::put(buffer, *id, content, table).map(nothing),
             Call::Fetch { id, .. } => edit::fetch(buffer, *id, &mut outputs[0], table)
                 .map(|count| vec![Number::count(count)]),

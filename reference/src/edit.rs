@@ -26,43 +26,49 @@ pub fn read_field(
     Ok(field.scaled(card.codes[field.number - 1]))
 }
 
+/// Gives the former value.
 pub fn set_field(
     buffer: &mut [u8],
     number: u64,
     value: Scaled,
     table: &FlagTable,
-) -> Result<(), Refusal> {
+) -> Result<Option<Scaled>, Refusal> {
     judge(buffer, table)?;
     let field = known_field(number)?;
     let code = field.coded(value).ok_or(refusal(9, field.number))?;
-    store_code(buffer, field, code);
-    Ok(())
+    let former = store_code(buffer, field, code);
+    Ok(field.scaled(former))
 }
 
-pub fn clear_field(buffer: &mut [u8], number: u64, table: &FlagTable) -> Result<(), Refusal> {
+/// Gives the former value.
+pub fn clear_field(
+    buffer: &mut [u8],
+    number: u64,
+    table: &FlagTable,
+) -> Result<Option<Scaled>, Refusal> {
     judge(buffer, table)?;
     let field = known_field(number)?;
     if field.is_required() {
         return Err(refusal(10, field.number));
     }
-    store_code(buffer, field, Coded(0));
-    Ok(())
+    let former = store_code(buffer, field, Coded(0));
+    Ok(field.scaled(former))
 }
 
 pub fn read_flag(buffer: &[u8], number: u64, table: &FlagTable) -> Result<Option<u8>, Refusal> {
     let report = judge(buffer, table)?;
     let flag = known_flag(number)?;
     let data = standing(&report, u64::from(flags::ID))?;
-    let value = nibbles_of(buffer)[data.start + flag - 1];
-    Ok((value != 0).then_some(value))
+    Ok(shown(nibbles_of(buffer)[data.start + flag - 1]))
 }
 
+/// Gives the former value.
 pub fn set_flag(
     buffer: &mut [u8],
     number: u64,
     value: i64,
     table: &FlagTable,
-) -> Result<(), Refusal> {
+) -> Result<Option<u8>, Refusal> {
     let report = judge(buffer, table)?;
     let flag = known_flag(number)?;
     let in_range = (1..=i64::from(HIGHEST_FLAG)).contains(&value);
@@ -70,16 +76,21 @@ pub fn set_flag(
         return Err(refusal(9, flag));
     }
     let data = standing(&report, u64::from(flags::ID))?;
-    store_flag(buffer, data.start, flag, value as u8);
-    Ok(())
+    let former = store_flag(buffer, data.start, flag, value as u8);
+    Ok(shown(former))
 }
 
-pub fn clear_flag(buffer: &mut [u8], number: u64, table: &FlagTable) -> Result<(), Refusal> {
+/// Gives the former value.
+pub fn clear_flag(
+    buffer: &mut [u8],
+    number: u64,
+    table: &FlagTable,
+) -> Result<Option<u8>, Refusal> {
     let report = judge(buffer, table)?;
     let flag = known_flag(number)?;
     let data = standing(&report, u64::from(flags::ID))?;
-    store_flag(buffer, data.start, flag, 0);
-    Ok(())
+    let former = store_flag(buffer, data.start, flag, 0);
+    Ok(shown(former))
 }
 
 /// Puts an attachment, content one nibble a byte.
@@ -212,22 +223,32 @@ pub fn standing(report: &Report, id: u64) -> Result<Range<usize>, Refusal> {
     Err(refusal(11, 0))
 }
 
-/// Stores a field's code on the card and works CK out again.
-fn store_code(buffer: &mut [u8], field: Field, code: Coded) {
+/// A flag's nibble as it is read: 0 is missing.
+fn shown(flag: u8) -> Option<u8> {
+    (flag != 0).then_some(flag)
+}
+
+/// Stores a field's code on the card, works CK out again, and gives the former code.
+fn store_code(buffer: &mut [u8], field: Field, code: Coded) -> Coded {
     let mut bits = bits_of(&buffer[..CARD_BYTES]);
+    let former = Card::read(&bits).codes[field.number - 1];
     store_number(&mut bits[place_on_card(field.number)], code.0);
     let ck = checksum(&Card::read(&bits).codes);
     store_number(&mut bits[place_on_card(CK)], ck);
     buffer[..CARD_BYTES].copy_from_slice(&bytes_of(&bits));
+    former
 }
 
-/// Stores a flag in id 1's data and works the quality code out again.
-fn store_flag(buffer: &mut [u8], start: usize, flag: usize, value: u8) {
+/// Stores a flag in id 1's data, works the quality code out again, and gives the former
+/// flag.
+fn store_flag(buffer: &mut [u8], start: usize, flag: usize, value: u8) -> u8 {
+    let former = nibbles_of(buffer)[start + flag - 1];
     store_nibble(buffer, start + flag - 1, value);
     let flags = nibbles_of(buffer)[start..start + FLAGS].to_vec();
     let code = quality_code(&flags);
     store_nibble(buffer, start + FLAGS, code >> 4);
     store_nibble(buffer, start + FLAGS + 1, code & 15);
+    former
 }
 
 fn store_nibble(buffer: &mut [u8], place: usize, nibble: u8) {

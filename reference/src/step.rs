@@ -228,15 +228,16 @@ fn place_content(observation: &mut Observation, new: Attachment) {
     }
 }
 
-/// The numbers that an accepted call gives, and what it writes to each output.
+/// The numbers that an accepted call gives on the observation before it, and what it
+/// writes to each output. A set or a clear gives what stood there.
 fn gives(observation: &Observation, call: &Call) -> (Vec<Number>, Vec<Vec<u8>>) {
     match call {
-        Call::ReadField { field } => {
+        Call::ReadField { field } | Call::SetField { field, .. } | Call::ClearField { field } => {
             let value = observation.values[*field as usize - 1];
             let value = value.map(|value| value.0);
             (vec![Number::value(value)], Vec::new())
         }
-        Call::ReadFlag { flag } => {
+        Call::ReadFlag { flag } | Call::SetFlag { flag, .. } | Call::ClearFlag { flag } => {
             let content = observation.content(FLAGS_ID).expect("id 1 stands");
             let value = i64::from(content[*flag as usize - 1]);
             let value = (value != 0).then_some(value);
@@ -260,6 +261,6 @@ fn gives(observation: &Observation, call: &Call) -> (Vec<Number>, Vec<Vec<u8>>) 
             let (_, nibbles) = content_of(call).expect("a put has content");
             (vec![Number::nibbles(nibbles.len())], Vec::new())
         }
-        _ => (Vec::new(), Vec::new()),
+        Call::Put { .. } | Call::Drop { .. } => (Vec::new(), Vec::new()),
     }
 }

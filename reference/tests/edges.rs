@@ -35,7 +35,7 @@ fn lister_of_the_fresh_report() {
 #[test]
 fn s_set_to_286_then_text_a1() {
     let mut buffer = fresh_buffer(60);
-    assert_eq!(set_field(&mut buffer, 31, Scaled(286)), Ok(()));
+    assert_eq!(set_field(&mut buffer, 31, Scaled(286)), Ok(None));
     assert_eq!(buffer[25..27], [0x14, 0x18]);
     assert_eq!(judge(&buffer).unwrap().ck, 251);
     assert_eq!(buffer[36..38], [0xFB, 0]);
@@ -74,7 +74,7 @@ fn s_below_its_range() {
     let mut buffer = fresh_buffer(38);
     assert_eq!(set_field(&mut buffer, 31, Scaled(-1000)), refused(9, 31));
     assert_eq!(buffer, fresh_buffer(38));
-    assert_eq!(set_field(&mut buffer, 31, Scaled(-999)), Ok(()));
+    assert_eq!(set_field(&mut buffer, 31, Scaled(-999)), Ok(None));
     // Code 1 at bits 203 to 213; CK 241.
     let mut expected = fresh_buffer(38);
     expected[26] = 0x04;
@@ -124,8 +124,8 @@ fn eighty_five_escapes_fit_and_eighty_six_do_not() {
 fn flags_r_and_l() {
     let mut buffer = fresh_buffer(60);
     assert_eq!(put(&mut buffer, 1, &[0; 16]), Ok(()));
-    assert_eq!(set_flag(&mut buffer, 1, 1), Ok(()));
-    assert_eq!(set_flag(&mut buffer, 6, 6), Ok(()));
+    assert_eq!(set_flag(&mut buffer, 1, 1), Ok(None));
+    assert_eq!(set_flag(&mut buffer, 6, 6), Ok(None));
     let mut body = [0xEE; 16];
     assert_eq!(fetch(&buffer, 1, &mut body), Ok(16));
     assert_eq!(body, [1, 0, 0, 0, 0, 6, 0, 0, 0, 0, 0, 0, 0, 0, 0, 3]);
@@ -134,7 +134,7 @@ fn flags_r_and_l() {
 #[test]
 fn clearing_day_and_month() {
     let mut buffer = fresh_buffer(38);
-    assert_eq!(clear_field(&mut buffer, 4), Ok(()));
+    assert_eq!(clear_field(&mut buffer, 4), Ok(None));
     assert_eq!(clear_field(&mut buffer, 3), refused(10, 3));
     assert_eq!(buffer, fresh_buffer(38));
 }
@@ -142,7 +142,7 @@ fn clearing_day_and_month() {
 #[test]
 fn a_temperature_of_0_is_not_missing() {
     let mut buffer = fresh_buffer(38);
-    assert_eq!(set_field(&mut buffer, 28, Scaled(0)), Ok(()));
+    assert_eq!(set_field(&mut buffer, 28, Scaled(0)), Ok(None));
     assert_eq!(read_field(&buffer, 28), Ok(Some(Scaled(0))));
     // Code 1000 is 01111101000 at bits 170 to 180; 2005 modulo 255 is 220.
     let mut expected = fresh_buffer(38);

@@ -3,7 +3,7 @@
 mod common;
 
 use common::all_flags::*;
-use common::{fresh_buffer, fresh_with_tail, refused};
+use common::{fresh_buffer, fresh_value, fresh_with_tail, refused};
 use reference::table::{Scaled, fields};
 
 const WRONG_NUMBERS: [u64; 8] = [0, 256, 257, 270, 1 << 16, (1 << 32) + 1, 1 << 63, u64::MAX];
@@ -36,9 +36,11 @@ fn fields_read_set_and_cleared() {
     for field in fields() {
         let number = field.number as u64;
         let mut buffer = fresh_buffer(39);
+        let mut former = fresh_value(field.number);
         for value in [field.lowest_value(), field.highest_value()] {
-            assert_eq!(set_field(&mut buffer, number, value), Ok(()));
-            assert_eq!(read_field(&buffer, number), Ok(Some(value)));
+            assert_eq!(set_field(&mut buffer, number, value), Ok(former));
+            former = Some(value);
+            assert_eq!(read_field(&buffer, number), Ok(former));
             let report = judge(&buffer).unwrap();
             assert_eq!(report.observation.values[field.number - 1], Some(value));
         }
@@ -56,7 +58,7 @@ fn fields_read_set_and_cleared() {
         if [1, 2, 3, 6, 7].contains(&field.number) {
             refuses(&before, 10, field.number, |b| clear_field(b, number));
         } else {
-            assert_eq!(clear_field(&mut buffer, number), Ok(()));
+            assert_eq!(clear_field(&mut buffer, number), Ok(former));
             assert_eq!(read_field(&buffer, number), Ok(None));
             assert_eq!(buffer, fresh_buffer(39));
         }
@@ -66,7 +68,7 @@ fn fields_read_set_and_cleared() {
 #[test]
 fn clearing_a_missing_field_is_accepted() {
     let mut buffer = fresh_buffer(38);
-    assert_eq!(clear_field(&mut buffer, 46), Ok(()));
+    assert_eq!(clear_field(&mut buffer, 46), Ok(None));
     assert_eq!(buffer, fresh_buffer(38));
 }
 
@@ -137,16 +139,17 @@ fn flags_read_set_and_cleared() {
     // 1 + the weights of R A B J K L M N Q S.
     let codes = [1, 2, 2, 3, 3, 3, 4, 4, 4, 4];
     for (value, code) in (1..=10).zip(codes) {
-        assert_eq!(set_flag(&mut buffer, 5, value), Ok(()));
+        let former = (value > 1).then_some(value as u8 - 1);
+        assert_eq!(set_flag(&mut buffer, 5, value), Ok(former));
         assert_eq!(read_flag(&buffer, 5), Ok(Some(value as u8)));
         assert_eq!(quality(&buffer), code);
     }
-    assert_eq!(set_flag(&mut buffer, 14, 2), Ok(()));
+    assert_eq!(set_flag(&mut buffer, 14, 2), Ok(None));
     assert_eq!(quality(&buffer), 5);
-    assert_eq!(clear_flag(&mut buffer, 5), Ok(()));
+    assert_eq!(clear_flag(&mut buffer, 5), Ok(Some(10)));
     assert_eq!(quality(&buffer), 2);
-    assert_eq!(clear_flag(&mut buffer, 5), Ok(()));
-    assert_eq!(clear_flag(&mut buffer, 14), Ok(()));
+    assert_eq!(clear_flag(&mut buffer, 5), Ok(None));
+    assert_eq!(clear_flag(&mut buffer, 14), Ok(Some(2)));
     assert_eq!(quality(&buffer), 0);
     assert_eq!(buffer, buffer_with_flags());
 }

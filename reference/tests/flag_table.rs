@@ -15,6 +15,7 @@ use reference::gate::script::{run, script};
 use reference::gate::{self, SEED, flag_cases, list_cases, record, whole_cases};
 use reference::judge::judge;
 use reference::lister::lines;
+use reference::number::Number;
 use reference::observation::Observation;
 use reference::outside::{pack, same, unpack};
 use reference::refusal::{Refusal, refusal};
@@ -75,8 +76,8 @@ fn refuses<T: std::fmt::Debug + PartialEq>(
 }
 
 #[track_caller]
-fn accepts(buffer: &[u8], call: impl Fn(&mut [u8]) -> Result<(), Refusal>) {
-    assert_eq!(call(&mut buffer.to_vec()), Ok(()));
+fn accepts<T>(buffer: &[u8], call: impl Fn(&mut [u8]) -> Result<T, Refusal>) {
+    assert!(call(&mut buffer.to_vec()).is_ok());
 }
 
 #[test]
@@ -186,9 +187,9 @@ fn a_missing_flag_is_always_permitted() {
     }
     refuses(&empty, 9, 5, |b| set_flag(b, 5, 4, &nothing));
     let mut report = empty.clone();
-    assert_eq!(set_flag(&mut report, 5, 4, &only_j), Ok(()));
+    assert_eq!(set_flag(&mut report, 5, 4, &only_j), Ok(None));
     assert_eq!(read_flag(&report, 5, &only_j), Ok(Some(4)));
-    assert_eq!(clear_flag(&mut report, 5, &only_j), Ok(()));
+    assert_eq!(clear_flag(&mut report, 5, &only_j), Ok(Some(4)));
     assert_eq!(report, empty);
     // All fourteen are J: 1 + 14 times 2 is 29.
     let mut all_j = [4; 16];
@@ -285,13 +286,13 @@ fn setting_a_forbidden_value_is_9_before_11_and_after_8() {
 fn flags_set_and_read_under_a_table() {
     let mut buffer = report_with(&R);
     let table = without_a();
-    assert_eq!(set_flag(&mut buffer, 1, 10, &table), Ok(()));
+    assert_eq!(set_flag(&mut buffer, 1, 10, &table), Ok(Some(1)));
     assert_eq!(buffer, report_with(&S));
     assert_eq!(read_flag(&buffer, 1, &table), Ok(Some(10)));
-    assert_eq!(clear_flag(&mut buffer, 1, &table), Ok(()));
+    assert_eq!(clear_flag(&mut buffer, 1, &table), Ok(Some(10)));
     assert_eq!(buffer, report_with(&[0; 16]));
-    assert_eq!(set_flag(&mut buffer, 1, 1, &table), Ok(()));
-    assert_eq!(set_flag(&mut buffer, 1, 1, &table), Ok(()));
+    assert_eq!(set_flag(&mut buffer, 1, 1, &table), Ok(None));
+    assert_eq!(set_flag(&mut buffer, 1, 1, &table), Ok(Some(1)));
     assert_eq!(buffer, report_with(&R));
 }
 
@@ -522,11 +523,16 @@ fn held(body: &[u8; 16]) -> Observation {
 
 /// The machine's answer and its observation after the step.
 #[track_caller]
-fn steps(from: &Observation, n: usize, call: Call, due: Result<&Observation, Refusal>) {
+fn steps(
+    from: &Observation,
+    n: usize,
+    call: Call,
+    due: Result<(&Observation, &[Number]), Refusal>,
+) {
     let (after, answer) = step(from, n, &call, &without_a());
     match due {
-        Ok(observation) => {
-            assert_eq!(answer.result, Ok(Vec::new()));
+        Ok((observation, given)) => {
+            assert_eq!(answer.result, Ok(given.to_vec()));
             assert_eq!(&after, observation);
         }
         Err(refusal) => {
@@ -540,15 +546,22 @@ fn steps(from: &Observation, n: usize, call: Call, due: Result<&Observation, Ref
 fn the_machine_reads_the_table() {
     let nine = Err(refusal(9, 1));
     steps(&held(&R), 60, set(1, 2), nine);
-    steps(&held(&R), 60, set(1, 10), Ok(&held(&S)));
-    steps(&held(&[0; 16]), 60, set(2, 2), Ok(&held(&SECOND_A)));
+    let former = |value| [Number::flag(value)];
+    steps(&held(&R), 60, set(1, 10), Ok((&held(&S), &former(Some(1)))));
+    let second_a = held(&SECOND_A);
+    steps(
+        &held(&[0; 16]),
+        60,
+        set(2, 2),
+        Ok((&second_a, &former(None))),
+    );
     steps(&held(&R), 60, put_body(&A), Err(refusal(14, 0)));
-    steps(&held(&R), 60, put_body(&S), Ok(&held(&S)));
+    steps(&held(&R), 60, put_body(&S), Ok((&held(&S), &[])));
     steps(
         &held(&S),
         60,
         Call::ClearFlag { flag: 1 },
-        Ok(&held(&[0; 16])),
+        Ok((&held(&[0; 16]), &former(Some(10)))),
     );
     // The order: 8, 9, 11, and 14 before 13.
     let bare = fresh_observation();
@@ -561,7 +574,7 @@ fn the_machine_reads_the_table() {
     steps(&bare, 38, put_body(&R), Err(refusal(13, 0)));
     let mut with_flags = bare.clone();
     with_flags.attachments.push(Attachment::new(1, R.to_vec()));
-    steps(&bare, 48, put_body(&R), Ok(&with_flags));
+    steps(&bare, 48, put_body(&R), Ok((&with_flags, &[])));
 }
 
 /// A sound table other than all yes: each row permits R and A.
@@ -708,7 +721,8 @@ fn a_file_of_lists_by_hand() {
     ];
     assert_eq!(files.stdin, stdin.concat());
     let counts = [0, 0, 0, 1, 0, 0, 0, 17, 0, 0, 0, 37];
-    let set = [&[1, 0][..], &[0; 35]].concat();
+    // Flag 1 was R.
+    let set = [&[1, 0][..], &[0; 8], &[2, 0, 0, 0, 0, 0, 0, 0, 1], &[0; 18]].concat();
     let refused = [&[0, 9, 0, 0, 0, 0, 0, 0, 0, 1][..], &[0; 27]].concat();
     let stdout = [
         &counts[..],
@@ -749,7 +763,7 @@ fn loads_come_last() {
     assert!(whole.stdin.starts_with(&front.stdin));
     assert!(whole.stdout.starts_with(&front.stdout));
     let more = whole.stdin.len() + whole.stdout.len() - front.stdin.len() - front.stdout.len();
-    assert!(more < 600_000, "{more}");
+    assert!(more < 700_000, "{more}");
 }
 
 /// The number of the refusal, 0 where accepted.

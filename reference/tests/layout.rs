@@ -93,7 +93,7 @@ fn flags_behind_the_card() {
     );
     assert!(buffer[47..].iter().all(|&byte| byte == 0xA5));
     // Flag 14 S: weight 3 more. Flags 13 and 14 share byte 45.
-    assert_eq!(set_flag(&mut buffer, 14, 10), Ok(()));
+    assert_eq!(set_flag(&mut buffer, 14, 10), Ok(None));
     assert_eq!(buffer[44..48], [0x00, 0x0A, 0x06, 0xA5]);
 }
 
@@ -102,7 +102,7 @@ fn largest_quality_code_takes_both_nibbles() {
     let mut buffer = fresh_buffer(47);
     assert_eq!(put(&mut buffer, 1, &[0; 16]), Ok(()));
     for flag in 1..=14 {
-        assert_eq!(set_flag(&mut buffer, flag, 7), Ok(()));
+        assert_eq!(set_flag(&mut buffer, flag, 7), Ok(None));
     }
     // 1 + 14 times 3 is 43, hex 2B.
     assert_eq!(
@@ -171,6 +171,6 @@ fn a_set_keeps_rptin_tail_and_bytes_after() {
     expected[4] |= 0x03;
     expected[5] |= 0xE0;
     common::set_ck(&mut expected, 16);
-    assert_eq!(set_field(&mut buffer, 4, Scaled(31)), Ok(()));
+    assert_eq!(set_field(&mut buffer, 4, Scaled(31)), Ok(None));
     assert_eq!(buffer, expected);
 }

@@ -68,11 +68,11 @@ pub fn read_field(buffer: &[u8], field: u64) -> Answer<Option<Scaled>> {
     edit::read_field(buffer, field, &FlagTable::all())
 }
 
-pub fn set_field(buffer: &mut [u8], field: u64, value: Scaled) -> Answer<()> {
+pub fn set_field(buffer: &mut [u8], field: u64, value: Scaled) -> Answer<Option<Scaled>> {
     edit::set_field(buffer, field, value, &FlagTable::all())
 }
 
-pub fn clear_field(buffer: &mut [u8], field: u64) -> Answer<()> {
+pub fn clear_field(buffer: &mut [u8], field: u64) -> Answer<Option<Scaled>> {
     edit::clear_field(buffer, field, &FlagTable::all())
 }
 
@@ -80,11 +80,11 @@ pub fn read_flag(buffer: &[u8], flag: u64) -> Answer<Option<u8>> {
     edit::read_flag(buffer, flag, &FlagTable::all())
 }
 
-pub fn set_flag(buffer: &mut [u8], flag: u64, value: i64) -> Answer<()> {
+pub fn set_flag(buffer: &mut [u8], flag: u64, value: i64) -> Answer<Option<u8>> {
     edit::set_flag(buffer, flag, value, &FlagTable::all())
 }
 
-pub fn clear_flag(buffer: &mut [u8], flag: u64) -> Answer<()> {
+pub fn clear_flag(buffer: &mut [u8], flag: u64) -> Answer<Option<u8>> {
     edit::clear_flag(buffer, flag, &FlagTable::all())
 }
 

@@ -4,6 +4,7 @@
 pub mod all_flags;
 
 use reference::refusal::{Refusal, refusal};
+use reference::table::Scaled;
 use reference::text::{Symbol, Table};
 
 /// Fresh, values 1, 1900, 1, 0, 0, in a buffer of a length filled with A5.
@@ -13,6 +14,16 @@ pub fn fresh_buffer(length: usize) -> Vec<u8> {
     buffer[..9].copy_from_slice(&[0, 0, 0, 0x59, 0x44, 0, 0, 0x17, 0x0A]);
     buffer[36] = 0xF0;
     buffer
+}
+
+/// A field of that report: 1, 1900, 1, 0, 0 in the required ones, and the others missing.
+pub fn fresh_value(field: usize) -> Option<Scaled> {
+    match field {
+        1 | 3 => Some(Scaled(1)),
+        2 => Some(Scaled(1900)),
+        6 | 7 => Some(Scaled(0)),
+        _ => None,
+    }
 }
 
 /// Writes a number over some bits, the highest bit of byte 0 being bit 0.
