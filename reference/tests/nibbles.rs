@@ -14,7 +14,7 @@ use reference::cases::material::{
 use reference::cases::{Case, Chosen, Outcome, fixed};
 use reference::flag_table::FlagTable;
 use reference::gate::list::Item;
-use reference::gate::{SEED, list_cases, nibble_cases, record, whole_cases};
+use reference::gate::{SEED, former_cases, list_cases, nibble_cases, record, whole_cases};
 use reference::number::{Number, Quantity};
 use reference::outside::costliest;
 use reference::prng::Prng;
@@ -572,6 +572,7 @@ fn lists_give_every_number_of_nibbles() {
     assert_eq!(given, (1..=255).collect::<Vec<_>>());
     assert!(dropped > 150 && fetched > 50, "{dropped} {fetched}");
     let items = list_cases::items(SEED);
-    let lists: Vec<Item> = nibble_cases::lists().into_iter().map(Item::List).collect();
-    assert!(items.ends_with(&lists));
+    let mut last: Vec<Item> = nibble_cases::lists().into_iter().map(Item::List).collect();
+    last.extend(former_cases::items(SEED));
+    assert!(items.ends_with(&last));
 }

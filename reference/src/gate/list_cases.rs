@@ -1,5 +1,5 @@
 //! Lists of calls in script form, those of a library's own table of flags, those of
-//! symbols and those of every number of nibbles last.
+//! symbols, those of every number of nibbles and those of former values last.
 
 use std::collections::BTreeSet;
 
@@ -16,7 +16,7 @@ use crate::gate::list::{Item, List, MOST_LOG};
 use crate::gate::log::{FRONT, HEAD, MARKED, record_size};
 use crate::gate::script::{entry, run, script};
 use crate::gate::sizes::{LONGEST_TAIL, observation_of_tail};
-use crate::gate::{flag_cases, nibble_cases, sum_cases, symbol_cases, text_cases};
+use crate::gate::{flag_cases, former_cases, nibble_cases, sum_cases, symbol_cases, text_cases};
 use crate::judge::judge;
 use crate::observation::Observation;
 use crate::prng::Prng;
@@ -35,6 +35,7 @@ pub fn items(seed: u64) -> Vec<Item> {
     items.extend(flag_cases::items(seed));
     items.extend(symbol_cases::items());
     items.extend(nibble_cases::lists().into_iter().map(Item::List));
+    items.extend(former_cases::items(seed));
     items
 }
 

@@ -3,6 +3,7 @@
 
 pub mod costliest_cases;
 pub mod flag_cases;
+pub mod former_cases;
 pub mod head;
 pub mod list;
 pub mod list_cases;
