@@ -53,7 +53,7 @@ unsafe fn output<'a, T>(at: *mut T, n: usize) -> &'a mut [T] {
 }
 
 /// The table of flags that a call is lent.
-unsafe fn table(flags: *const Flags) -> FlagTable {
+pub unsafe fn table(flags: *const Flags) -> FlagTable {
     let marks = unsafe { (*flags).marks };
     let marks = marks.as_flattened().try_into();
     FlagTable::of(marks.expect("a table has 140 marks"))

@@ -1,7 +1,7 @@
 //! How often each call came to each refusal, to one because of the table of flags and
 //! to a CK at an edge, how often put text was refused for each reason and fetch text gave
-//! each set, how often each symbol was put, and how often a costliest text had no symbol,
-//! the most, or a number between.
+//! each set, how often each symbol was put, how often a costliest text had no symbol, the
+//! most, or a number between, and how often a set or a clear gave which former value.
 
 use std::collections::BTreeMap;
 use std::fmt;
@@ -20,12 +20,17 @@ use crate::fence::MARKED;
 
 /// A run of so many calls has to see every refusal that a call can meet, every one
 /// that the table of flags can decide, every reason of put text, every set, every
-/// symbol put, and costliest texts of no symbol, of the most and of a number between.
+/// symbol put, costliest texts of no symbol, of the most and of a number between, and
+/// every kind of former value.
 pub const DEFAULT_CALLS: u64 = 2_000_000;
 
 const REFUSALS: [usize; 15] = [1, 2, 3, 4, 5, 6, 7, 8, 9, 10, 11, 12, 13, 14, 16];
 const HIGHEST: usize = 16;
 
+const SET_FIELD: usize = 5;
+const CLEAR_FIELD: usize = 6;
+const SET_FLAG: usize = 8;
+const CLEAR_FLAG: usize = 9;
 const REPLAY: usize = 15;
 const ALL_FLAGS: usize = 18;
 const FORGED: usize = 20;
@@ -45,8 +50,24 @@ const SETS: [&str; 4] = ["EBCDIC", "ASCII", "unknown", "missing"];
 /// How many symbols an accepted costliest text has.
 const LENGTHS: [&str; 3] = ["0", "1 to 84", "85"];
 
+/// What a set or a clear gives: a value other than 0, the value 0, or missing.
+const FORMERS: [&str; 3] = ["value", "0", "missing"];
+
+/// The calls that give a former value. That of a flag is never 0.
+const FORMER_GIVERS: [(usize, &[usize]); 4] = [
+    (SET_FIELD, &[0, 1, 2]),
+    (CLEAR_FIELD, &[0, 1, 2]),
+    (SET_FLAG, &[0, 2]),
+    (CLEAR_FLAG, &[0, 2]),
+];
+
 /// Fresh, pack, set field and clear field work CK out; where the report is then.
-const WRITERS: [(usize, &str); 4] = [(1, "output"), (3, "output"), (5, "report"), (6, "report")];
+const WRITERS: [(usize, &str); 4] = [
+    (1, "output"),
+    (3, "output"),
+    (SET_FIELD, "report"),
+    (CLEAR_FIELD, "report"),
+];
 
 /// The refusals that the table of flags can decide.
 const BY_FLAGS: [usize; 3] = [6, 9, 14];
@@ -104,6 +125,8 @@ pub struct Tally {
     reasons: [u64; REASONS.len()],
     sets: [u64; SETS.len()],
     lengths: [u64; LENGTHS.len()],
+    /// By giver and what it gave.
+    formers: [[u64; FORMERS.len()]; FORMER_GIVERS.len()],
     /// Symbols that an accepted put text has written; trailing plain spaces are not.
     put: BTreeMap<Symbol, u64>,
     performed: u64,
@@ -153,11 +176,11 @@ impl Tally {
     pub fn add_call(&mut self, call: &Call, outcome: &Outcome, by_flags: bool) {
         let row = match call {
             Call::ReadField { .. } => 4,
-            Call::SetField { .. } => 5,
-            Call::ClearField { .. } => 6,
+            Call::SetField { .. } => SET_FIELD,
+            Call::ClearField { .. } => CLEAR_FIELD,
             Call::ReadFlag { .. } => 7,
-            Call::SetFlag { .. } => 8,
-            Call::ClearFlag { .. } => 9,
+            Call::SetFlag { .. } => SET_FLAG,
+            Call::ClearFlag { .. } => CLEAR_FLAG,
             Call::Put { .. } => 10,
             Call::Fetch { .. } => 11,
             Call::Drop { .. } => 12,
@@ -165,6 +188,7 @@ impl Tally {
             Call::FetchText { .. } => 14,
         };
         self.add(row, outcome, by_flags);
+        self.add_former(row, outcome);
         match (call, outcome.refusal()) {
             (Call::PutText { text, origins }, 0) => self.add_symbols(text, origins),
             (Call::PutText { text, origins }, refusal) => {
@@ -175,6 +199,20 @@ impl Tally {
             (Call::FetchText { .. }, 0) => self.add_set(outcome),
             _ => {}
         }
+    }
+
+    fn add_former(&mut self, row: usize, outcome: &Outcome) {
+        let giver = FORMER_GIVERS.iter().position(|&(giver, _)| giver == row);
+        let (Some(giver), Said::Answer(answer)) = (giver, outcome.said) else {
+            return;
+        };
+        let former = match (answer.given, answer.first) {
+            (1, 0) => 1,
+            (1 | 2, _) => 0,
+            (129 | 130, _) => 2,
+            _ => return,
+        };
+        self.formers[giver][former] += 1;
     }
 
     fn add_symbols(&mut self, text: &[u8], origins: &[u8]) {
@@ -229,8 +267,9 @@ impl Tally {
     }
 
     /// The calls that were never accepted or never came to a refusal that they can
-    /// meet, the refusals that the table of flags never decided, the reasons, the sets and
-    /// the lengths that were never met, and the symbols that were never put.
+    /// meet, the refusals that the table of flags never decided, the reasons, the sets,
+    /// the lengths and the former values that were never met, and the symbols that were
+    /// never put.
     pub fn unseen(&self) -> Vec<String> {
         let mut unseen = Vec::new();
         for ((name, refusals), counts) in CALLS.iter().zip(&self.counts) {
@@ -256,6 +295,12 @@ impl Tally {
         }
         for length in unmet(&LENGTHS, &self.lengths) {
             unseen.push(format!("costliest, accepted for {length} symbols"));
+        }
+        for ((row, formers), counts) in FORMER_GIVERS.iter().zip(&self.formers) {
+            for &former in formers.iter().filter(|&&former| counts[former] == 0) {
+                let (name, former) = (CALLS[*row].0, FORMERS[former]);
+                unseen.push(format!("{name}, former {former}"));
+            }
         }
         for symbol in all_symbols() {
             if !self.put.contains_key(&symbol) {
@@ -304,9 +349,9 @@ fn name_of(symbol: Symbol) -> String {
     format!("{origin} byte {}", symbol.byte())
 }
 
-/// A count, or a dash where a call cannot meet a refusal.
-fn shown(count: u64, refusal: usize, refusals: &[usize]) -> String {
-    if count == 0 && !refusals.contains(&refusal) {
+/// A count, or a dash where a call cannot meet a refusal or a former value.
+fn shown(count: u64, what: usize, can_be: &[usize]) -> String {
+    if count == 0 && !can_be.contains(&what) {
         "-".into()
     } else {
         count.to_string()
@@ -344,6 +389,7 @@ impl fmt::Display for Tally {
         fmt_row(f, "put text by", &reasons, &self.reasons)?;
         fmt_row(f, "sets given", &SETS, &self.sets)?;
         fmt_row(f, "costliest of", &LENGTHS, &self.lengths)?;
+        self.fmt_formers(f)?;
         let least = self.put.values().min().unwrap_or(&0);
         let (put, all) = (self.put.len(), all_symbols().len());
         writeln!(f, "symbols put: {put} of {all}, each {least} times or more")?;
@@ -369,6 +415,17 @@ fn fmt_row(f: &mut fmt::Formatter, title: &str, names: &[&str], counts: &[u64]) 
 }
 
 impl Tally {
+    /// The former values given.
+    fn fmt_formers(&self, f: &mut fmt::Formatter) -> fmt::Result {
+        let [value, zero, missing] = FORMERS;
+        writeln!(f, "{:<12}{value:>9}{zero:>9}{missing:>9}", "former given")?;
+        for (&(row, formers), counts) in FORMER_GIVERS.iter().zip(&self.formers) {
+            let [value, zero, missing] = [0, 1, 2].map(|what| shown(counts[what], what, formers));
+            writeln!(f, "{:<12}{value:>9}{zero:>9}{missing:>9}", CALLS[row].0)?;
+        }
+        Ok(())
+    }
+
     /// The refusals that the table of flags decided.
     fn fmt_by_flags(&self, f: &mut fmt::Formatter) -> fmt::Result {
         let [report, set, put] = BY_FLAGS;

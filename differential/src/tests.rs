@@ -3,6 +3,7 @@
 mod altered;
 mod costliest;
 mod flag_tables;
+mod former;
 mod texts;
 
 use std::process::{Command, Output};
@@ -179,6 +180,7 @@ fn answers_have_the_header_s_form() {
         assert_eq!(harness.whole(&case, &all).said, Said::Answer(answer));
     }
     let output = || vec![0; 16];
+    let set_field = |field, value| Call::SetField { field, value };
     for (call, answer) in [
         (Call::ReadField { field: 2 }, answer(1, 1900)),
         (Call::ReadField { field: 4 }, answer(129, 0)),
@@ -212,7 +214,16 @@ fn answers_have_the_header_s_form() {
             },
             answer(0, 0),
         ),
-        (Call::SetFlag { flag: 3, value: 1 }, answer(0, 0)),
+        (Call::SetFlag { flag: 2, value: 1 }, answer(2, 10)),
+        (Call::SetFlag { flag: 3, value: 1 }, answer(130, 0)),
+        (Call::SetFlag { flag: 2, value: 11 }, refused(9, 2)),
+        (Call::ClearFlag { flag: 2 }, answer(2, 10)),
+        (Call::ClearFlag { flag: 3 }, answer(130, 0)),
+        (set_field(2, 1901), answer(1, 1900)),
+        (set_field(4, 31), answer(129, 0)),
+        (set_field(6, 3599), answer(1, 0)),
+        (set_field(2, 1799), refused(9, 2)),
+        (Call::ClearField { field: 4 }, answer(129, 0)),
         (Call::Drop { id: 4 }, answer(0, 0)),
         (Call::ReadField { field: 47 }, refused(8, 0)),
         (Call::ClearField { field: 3 }, refused(10, 3)),
