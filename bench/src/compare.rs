@@ -5,6 +5,7 @@ use reference::call::Call;
 use reference::cases::material::fresh_observation;
 use reference::cases::{Case, Outcome};
 use reference::edit::put_text;
+use reference::gate::log::record_size;
 use reference::gate::script;
 use reference::number::Number;
 use reference::outside::Unpacked;
@@ -445,7 +446,8 @@ fn list_agrees(side: Side, start: &[u8], calls: &[Call], table: &FlagTable) -> b
         }
     }
     let entries = script::script(calls);
-    let rooms = [4096, 100, 73, 40, 36, 19];
+    let whole: usize = calls.iter().map(record_size).sum();
+    let rooms = [whole + 60, 100, 73, 40, 36, 19];
     rooms
         .iter()
         .all(|&room| script_agrees(side, start, &entries, room, table))

@@ -11,6 +11,9 @@ use reference::cases::random::random_call;
 use reference::cases::{Case, fixed, random};
 use reference::flag_table::FlagTable as Permitted;
 use reference::flags::{self, FLAGS};
+use reference::gate::former_cases;
+use reference::gate::list::Item;
+use reference::gate::script::first_call;
 use reference::observation::Observation;
 use reference::prng::Prng;
 use reference::step::step;
@@ -134,6 +137,37 @@ fn fixed_trials() -> Vec<Trial> {
     fixed().into_iter().map(trial).collect()
 }
 
+fn calls_of(mut script: &[u8]) -> Vec<Call> {
+    let mut calls = Vec::new();
+    while let Some((call, rest)) = first_call(script) {
+        calls.push(call);
+        script = rest;
+    }
+    calls
+}
+
+/// Sets and clears over what stood before: a value, the value 0, or nothing. A load among them
+/// is in force for those behind it.
+fn former_trials(seed: u64) -> Vec<Trial> {
+    let mut permitted = Permitted::all();
+    let mut trials = Vec::new();
+    for item in former_cases::items(seed) {
+        match item {
+            Item::Load(marks) => {
+                permitted.load(&marks).ok();
+            }
+            Item::List(list) => {
+                let calls = calls_of(&list.script);
+                let buffer = list.buffer;
+                let case = Case::Calls { buffer, calls };
+                let table = rows_of(&permitted);
+                trials.push(Trial { table, case });
+            }
+        }
+    }
+    trials
+}
+
 /// A text read out to outputs that mostly have room for it.
 fn read_out_of(report: Vec<u8>, prng: &mut Prng) -> Case {
     let mut output = || vec![prng.next_u64() as u8; prng.pick(&[2295, 2295, 300, 40, 0])];
@@ -190,10 +224,12 @@ fn load_trial(prng: &mut Prng) -> Trial {
     Trial { table, case }
 }
 
-/// Fixed trials, random ones, some of them under random tables, and those on these observations.
+/// Fixed trials, those of former values, random ones, some of them under random tables, and those
+/// on these observations.
 pub fn trials(seed: u64, count: usize, observations: &[Observation]) -> Vec<Trial> {
     let mut prng = Prng::new(seed);
     let mut all = fixed_trials();
+    all.extend(former_trials(seed));
     all.extend(random::cases(seed, count).map(|case| Trial { table: ALL, case }));
     for _ in 0..count / 10 {
         let table = random_table(&mut prng);

@@ -7,11 +7,11 @@ use bench::fast::{Answer, Fetched, Given, Label, Refusal, Set, calls, flags, who
 use bench::reports::{SIZES, observation, small_observation};
 use bench::trials::{ALL, Trial, permitted_of, random_table, trials};
 use reference::call::Call;
-use reference::cases::Case;
 use reference::cases::flag_tables::refused_tables;
 use reference::cases::material::{
     Draft, fetch_text, fresh_observation, observation_with, put_text, symbols_of,
 };
+use reference::cases::{Case, Outcome};
 use reference::prng::Prng;
 use reference::text;
 
@@ -101,6 +101,137 @@ fn a_report_of_another_table_is_refused_by_every_call() {
             };
             assert!(agrees(side, &trial), "{side:?}: {trial:?}");
         }
+    }
+}
+
+/// Each of the four calls over a value, over the value 0, which no flag has, over nothing, and
+/// refused. A set to the value that stood there is not counted.
+#[test]
+fn trials_have_what_stood_before() {
+    let trials = trials(11, 4000, &SIZES.map(observation));
+    let mut counts = [[0; 4]; 4];
+    for Trial { table, case } in trials {
+        let Outcome::Calls(ran) = case.run(&mut permitted_of(&table)) else {
+            continue;
+        };
+        let Case::Calls { calls, .. } = case else {
+            panic!("another outcome");
+        };
+        for (call, (answer, _)) in calls.iter().zip(ran) {
+            let (row, new) = match *call {
+                Call::SetField { value, .. } => (0, Some(value)),
+                Call::ClearField { .. } => (1, None),
+                Call::SetFlag { value, .. } => (2, Some(value)),
+                Call::ClearFlag { .. } => (3, None),
+                _ => continue,
+            };
+            let column = match answer.result.map(|numbers| numbers[0].value) {
+                Ok(Some(former)) if new == Some(former) => continue,
+                Ok(Some(0)) => 1,
+                Ok(Some(_)) => 0,
+                Ok(None) => 2,
+                Err(_) => 3,
+            };
+            counts[row][column] += 1;
+        }
+    }
+    for (row, counts) in counts.into_iter().enumerate() {
+        for (column, count) in counts.into_iter().enumerate() {
+            let due = row < 2 || column != 1;
+            assert_eq!(count >= 100, due, "{row}, {column}: {count}");
+        }
+    }
+}
+
+const MISSING_VALUE: Answer = Ok(Given {
+    label: Label::MissingValue,
+    number: 0,
+});
+const MISSING_FLAG: Answer = Ok(Given {
+    label: Label::MissingFlag,
+    number: 0,
+});
+
+/// A refused call changes nothing of what the next one gives.
+#[test]
+fn sets_and_clears_of_a_field_give_what_stood_before() {
+    let value = |number| {
+        let label = Label::Value;
+        Ok(Given { label, number })
+    };
+    let refused = |number, place| Err(Refusal { number, place });
+    let steps = [
+        (31, None, MISSING_VALUE),
+        (31, Some(0), MISSING_VALUE),
+        (31, Some(0), value(0)),
+        (31, Some(286), value(0)),
+        (31, Some(1000), refused(9, 31)),
+        (31, Some(-999), value(286)),
+        (31, Some(-1000), refused(9, 31)),
+        (31, Some(999), value(-999)),
+        (31, None, value(999)),
+        (31, None, MISSING_VALUE),
+        (5, Some(0), MISSING_VALUE),
+        (5, None, value(0)),
+        (26, Some(8700), MISSING_VALUE),
+        (26, Some(10746), value(8700)),
+        (26, None, value(10746)),
+        (6, Some(3599), value(0)),
+        (6, None, refused(10, 6)),
+        (6, Some(1), value(3599)),
+        (0, Some(1), refused(8, 0)),
+        (47, None, refused(8, 0)),
+    ];
+    let mut buffer = fresh_observation().packing();
+    for (index, (field, new, due)) in steps.into_iter().enumerate() {
+        let read = calls::read_field(&buffer, field, &ALL);
+        let answer = match new {
+            Some(value) => calls::set_field(&mut buffer, field, value, &ALL),
+            None => calls::clear_field(&mut buffer, field, &ALL),
+        };
+        assert_eq!(answer, due, "step {index}");
+        assert!(due.is_err() || read == due, "step {index}");
+    }
+}
+
+/// The flags begin in the high half of a byte and in the low one.
+#[test]
+fn sets_and_clears_of_a_flag_give_what_stood_before() {
+    let flag = |number| {
+        let label = Label::Flag;
+        Ok(Given { label, number })
+    };
+    let refused = |number, place| Err(Refusal { number, place });
+    let steps = [
+        (6, None, MISSING_FLAG),
+        (6, Some(1), MISSING_FLAG),
+        (6, Some(10), flag(1)),
+        (6, Some(11), refused(9, 6)),
+        (6, Some(0), refused(9, 6)),
+        (6, Some(10), flag(10)),
+        (1, Some(4), MISSING_FLAG),
+        (14, Some(7), MISSING_FLAG),
+        (14, None, flag(7)),
+        (6, None, flag(10)),
+        (6, None, MISSING_FLAG),
+        (1, None, flag(4)),
+        (0, Some(1), refused(8, 0)),
+        (15, None, refused(8, 0)),
+    ];
+    for before in [&[1][..], &[1, 1]] {
+        let mut buffer = observation_with(&[(9, before), (1, &[0; 16])]).packing();
+        for (index, (j, new, due)) in steps.into_iter().enumerate() {
+            let read = calls::read_flag(&buffer, j, &ALL);
+            let answer = match new {
+                Some(value) => calls::set_flag(&mut buffer, j, value, &ALL),
+                None => calls::clear_flag(&mut buffer, j, &ALL),
+            };
+            assert_eq!(answer, due, "step {index}");
+            assert!(due.is_err() || read == due, "step {index}");
+        }
+        assert_eq!(calls::remove(&mut buffer, 1, &ALL), Ok(Given::NOTHING));
+        assert_eq!(calls::set_flag(&mut buffer, 6, 1, &ALL), refused(11, 0));
+        assert_eq!(calls::clear_flag(&mut buffer, 6, &ALL), refused(11, 0));
     }
 }
 
@@ -386,8 +517,7 @@ fn examples_of_the_specification() {
     due[36] = 0xF0;
     assert_eq!(buffer[..38], due);
     assert_eq!(buffer[38..], [0xA5; 7]);
-    let done = calls::set_field(&mut buffer, 31, 286, &ALL);
-    assert_eq!(done, Ok(Given::NOTHING));
+    assert_eq!(calls::set_field(&mut buffer, 31, 286, &ALL), MISSING_VALUE);
     assert_eq!(buffer[25..27], [0x14, 0x18]);
     assert_eq!(buffer[36], 251);
     let put = calls::put_text(&mut buffer, b"A1", &[0, 0], &ALL);

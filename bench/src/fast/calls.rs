@@ -16,17 +16,25 @@ pub fn judge(s: &[u8], table: &FlagTable) -> Answer {
     Ok(given(Label::Bytes, r.size() as i64))
 }
 
+/// The value that a field's code shows. Without a branch, since it is hard to predict which
+/// fields are missing.
+#[inline(always)]
+fn value_of(k: usize, c: u32) -> Given {
+    let label = match c {
+        0 => Label::MissingValue,
+        _ => Label::Value,
+    };
+    let present = -i64::from(c != 0);
+    given(label, i64::from(c as i32 + ROWS[k].base) & present)
+}
+
 #[inline(never)]
 pub fn read_field(s: &[u8], k: usize, table: &FlagTable) -> Answer {
     inspect(s, 0, table)?;
     if k.wrapping_sub(1) >= 46 {
         return refused(8, 0);
     }
-    let c = code(card_of(s), k);
-    if c == 0 {
-        return Ok(given(Label::MissingValue, 0));
-    }
-    Ok(given(Label::Value, i64::from(c as i32 + ROWS[k].base)))
+    Ok(value_of(k, code(card_of(s), k)))
 }
 
 #[inline(never)]
@@ -40,8 +48,7 @@ pub fn set_field(s: &mut [u8], k: usize, v: i64, table: &FlagTable) -> Answer {
     if c.wrapping_sub(1) >= u64::from(row.highest) {
         return refused(9, k);
     }
-    replace(card_mut(s), k, c as u32, r.ck);
-    Ok(Given::NOTHING)
+    Ok(value_of(k, replace(card_mut(s), k, c as u32, r.ck)))
 }
 
 #[inline(never)]
@@ -53,8 +60,17 @@ pub fn clear_field(s: &mut [u8], k: usize, table: &FlagTable) -> Answer {
     if REQUIRED >> k & 1 == 1 {
         return refused(10, k);
     }
-    replace(card_mut(s), k, 0, r.ck);
-    Ok(Given::NOTHING)
+    Ok(value_of(k, replace(card_mut(s), k, 0, r.ck)))
+}
+
+/// The flag that a nibble shows.
+#[inline(always)]
+fn flag_of(v: u8) -> Given {
+    let label = match v {
+        0 => Label::MissingFlag,
+        _ => Label::Flag,
+    };
+    given(label, i64::from(v))
 }
 
 #[inline(never)]
@@ -66,22 +82,21 @@ pub fn read_flag(s: &[u8], j: usize, table: &FlagTable) -> Answer {
     if r.place == 0 {
         return refused(11, 0);
     }
-    let v = nibbles::nibble(s, r.place + 2 + j);
-    if v == 0 {
-        return Ok(given(Label::MissingFlag, 0));
-    }
-    Ok(given(Label::Flag, i64::from(v)))
+    Ok(flag_of(nibbles::nibble(s, r.place + 2 + j)))
 }
 
-/// Stores a flag of the body at a place, and the quality code.
+/// Stores a flag of the body at a place, and the quality code; gives the former flag.
 #[inline(always)]
-fn store_flag(s: &mut [u8], at: usize, j: usize, v: u8) {
+fn store_flag(s: &mut [u8], at: usize, j: usize, v: u8) -> u8 {
     let z = 64 - 4 * j as u32;
-    let body = sixteen(s, at) & !(15 << z) | u64::from(v) << z;
+    let body = sixteen(s, at);
+    let old = body >> z & 15;
+    let body = body & !(15 << z) | u64::from(v) << z;
     let q = flags::quality(body).unwrap_or(0) as u8;
     nibbles::put(s, at + j - 1, v);
     nibbles::put(s, at + 14, q >> 4);
     nibbles::put(s, at + 15, q & 15);
+    old as u8
 }
 
 #[inline(never)]
@@ -96,8 +111,7 @@ pub fn set_flag(s: &mut [u8], j: usize, v: usize, table: &FlagTable) -> Answer {
     if r.place == 0 {
         return refused(11, 0);
     }
-    store_flag(s, r.place + 3, j, v as u8);
-    Ok(Given::NOTHING)
+    Ok(flag_of(store_flag(s, r.place + 3, j, v as u8)))
 }
 
 #[inline(never)]
@@ -109,8 +123,7 @@ pub fn clear_flag(s: &mut [u8], j: usize, table: &FlagTable) -> Answer {
     if r.place == 0 {
         return refused(11, 0);
     }
-    store_flag(s, r.place + 3, j, 0);
-    Ok(Given::NOTHING)
+    Ok(flag_of(store_flag(s, r.place + 3, j, 0)))
 }
 
 /// Makes room for new nibbles in place of old ones, and clears behind the end.

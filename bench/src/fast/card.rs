@@ -369,9 +369,9 @@ pub fn code(card: &[u8; CARD], k: usize) -> u32 {
     v >> (16 - r.at % 8 - r.width) & ((1 << r.width) - 1)
 }
 
-/// Stores a field's code and the checksum, which was ck.
+/// Stores a field's code and the checksum, which was ck; gives the former code.
 #[inline(always)]
-pub fn replace(card: &mut [u8; CARD], k: usize, c: u32, ck: u32) {
+pub fn replace(card: &mut [u8; CARD], k: usize, c: u32, ck: u32) -> u32 {
     let r = &ROWS[k];
     let i = r.at as usize / 8;
     let z = 16 - r.at % 8 - r.width;
@@ -383,4 +383,5 @@ pub fn replace(card: &mut [u8; CARD], k: usize, c: u32, ck: u32) {
     let ck = (ck + 255 * 16 + c - old) % 255;
     card[35] &= 0xc0;
     card[36] = ck as u8;
+    old
 }
