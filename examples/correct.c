@@ -1,5 +1,6 @@
 /*
- * Corrects the sea surface temperature of a report, and flags it.
+ * Corrects the sea surface temperature of a report, and flags it. Prints what stood before and what stands after, as the
+ * answers to both calls tell it: no value is read for it.
  *
  *     correct REPORT CORRECTED TEMPERATURE FLAG
  *
@@ -12,11 +13,6 @@
 #include <string.h>
 
 #include "lmr5.h"
-
-static const char *const field_names[] = {
-    "",   "BOX10", "YEAR", "MONTH", "DAY", "HOUR", "X",  "Y", "XYI", "CD", "SID", "ST", "QI", "DS", "DC", "TC",
-    "PB", "DI",    "D",    "WI",    "W",   "VI",   "VB", "PW", "W1", "W2", "P",   "TI", "A",  "WB", "DPT", "S",
-    "BI", "C",     "NH",   "CL",    "HI",  "H",    "CM", "CH", "WD", "WP", "WH",  "SD", "SP", "SH", "A6"};
 
 static const char *const refusals[] = {
     "accepted",
@@ -53,30 +49,37 @@ static int is_refused(const char *what, lmr5_answer a)
 /* Every flag is permitted. */
 static lmr5_flag_table table;
 
-/* Prints each present field, and the flag of the sea surface temperature. */
-static void print_report(const uint8_t *report, size_t length)
+/* Sets the sea surface temperature. The answer gives what stood before. */
+static int set_temperature(uint8_t *report, size_t length, long tenths)
 {
-    size_t k;
-    lmr5_answer flag = lmr5_read_flag(report, length, LMR5_FLAG_SEA_SURFACE_TEMPERATURE, &table);
-    for (k = LMR5_BOX10; k <= LMR5_A6; k++) {
-        lmr5_answer a = lmr5_read_field(report, length, k, &table);
-        if (a.given == LMR5_GIVEN_VALUE)
-            printf("  %s %ld", field_names[k], (long)a.first);
-    }
-    if (flag.given == LMR5_GIVEN_FLAG)
-        printf("; flag of S %c\n", letters[flag.first - 1]);
+    lmr5_answer a = lmr5_set_field(report, length, LMR5_S, tenths, &table);
+    if (is_refused("sea surface temperature", a))
+        return 0;
+    if (a.given == LMR5_GIVEN_VALUE)
+        printf("S: before %ld, after %ld\n", (long)a.first, tenths);
     else
-        printf("; flag of S missing\n");
+        printf("S: before missing, after %ld\n", tenths);
+    return 1;
 }
 
-/* Puts attachment 1 with all flags missing, where the report has none. */
-static int has_flags(uint8_t *report, size_t length)
+/* Sets the flag of the sea surface temperature. Where the report has no flags, they are put first, all missing. */
+static int set_flag(uint8_t *report, size_t length, size_t value)
 {
     static const uint8_t none[16] = {0};
-    lmr5_answer a = lmr5_read_flag(report, length, LMR5_FLAG_SEA_SURFACE_TEMPERATURE, &table);
-    if (a.refusal == LMR5_REFUSED_NO_SUCH)
+    const size_t flag = LMR5_FLAG_SEA_SURFACE_TEMPERATURE;
+    lmr5_answer a = lmr5_set_flag(report, length, flag, value, &table);
+    if (a.refusal == LMR5_REFUSED_NO_SUCH) {
         a = lmr5_put(report, length, 1, none, sizeof none, &table);
-    return !is_refused("flags", a);
+        if (a.refusal == 0)
+            a = lmr5_set_flag(report, length, flag, value, &table);
+    }
+    if (is_refused("flag", a))
+        return 0;
+    if (a.given == LMR5_GIVEN_FLAG)
+        printf("flag of S: before %c, after %c\n", letters[a.first - 1], letters[value - 1]);
+    else
+        printf("flag of S: before missing, after %c\n", letters[value - 1]);
+    return 1;
 }
 
 /* Reads as much of a file as a report may have. */
@@ -131,17 +134,10 @@ int main(int argc, char **argv)
     lmr5_all_flags(&table);
     if (!read_report(argv[1], buffer, &length) || is_refused("report", lmr5_judge(buffer, length, &table)))
         return 1;
-    printf("before:");
-    print_report(buffer, length);
-    if (is_refused("sea surface temperature", lmr5_set_field(buffer, sizeof buffer, LMR5_S, temperature, &table)))
+    if (!set_temperature(buffer, sizeof buffer, temperature))
         return 1;
-    if (!has_flags(buffer, sizeof buffer))
+    if (!set_flag(buffer, sizeof buffer, (size_t)(letter - letters) + 1))
         return 1;
-    a = lmr5_set_flag(buffer, sizeof buffer, LMR5_FLAG_SEA_SURFACE_TEMPERATURE, (size_t)(letter - letters) + 1, &table);
-    if (is_refused("flag", a))
-        return 1;
-    printf("after: ");
-    print_report(buffer, sizeof buffer);
     a = lmr5_judge(buffer, sizeof buffer, &table);
     if (is_refused("report", a) || !write_report(argv[2], buffer, (size_t)a.first))
         return 1;

@@ -1,6 +1,7 @@
 /*
  * Tries the header's numbers of refusals, flags and flag values on the library: for each refusal a call that has to be
- * refused so, and the ends of the flags and of their values. Tries the table of permitted flags in every call that takes it;
+ * refused so, and the ends of the flags and of their values. Tries the former values that set and clear give, beside what a read
+ * gives just before; the table of permitted flags in every call that takes it;
  * ship texts there and back, how many nibbles they take, each refusal of their calls, the deck's set for each source ID, and
  * the reader; the costliest text of each number of symbols; and some entries of the table of the characters. Tries that
  * nothing beside a table, a reader or a costliest text is written. Says each difference, and fails if there is one.
@@ -637,6 +638,71 @@ static void replayed_texts(void) {
     see_that("their records", memcmp(log, due, sizeof due) == 0);
 }
 
+/* An accepted set or clear gives what the read gave just before. */
+static void see_as_read(const char *what, lmr5_answer answer, lmr5_answer read) {
+    see(what, answer, 0, 0);
+    see_given(what, answer, read.given, read.first, read.second, read.third);
+}
+
+static lmr5_answer read_field(size_t field) {
+    return lmr5_read_field(report, ROOM, field, &all);
+}
+
+static lmr5_answer read_flag(size_t flag) {
+    return lmr5_read_flag(report, ROOM, flag, &all);
+}
+
+static const uint32_t no_value = LMR5_GIVEN_VALUE + LMR5_GIVEN_MISSING;
+static const uint32_t no_flag = LMR5_GIVEN_FLAG + LMR5_GIVEN_MISSING;
+
+/* Every field with 1, which all but YEAR, VB and P may have; these three with 1900, 90 and 10000. */
+static int64_t some_value(size_t field) {
+    return field == LMR5_YEAR ? 1900 : field == LMR5_VB ? 90 : field == LMR5_P ? 10000 : 1;
+}
+
+static void former_values(void) {
+    lmr5_answer read;
+    start();
+    see_given("S set over missing", lmr5_set_field(report, ROOM, LMR5_S, 286, &all), no_value, 0, 0, 0);
+    see_given("S set over 286", lmr5_set_field(report, ROOM, LMR5_S, -999, &all), LMR5_GIVEN_VALUE, 286, 0, 0);
+    see_given("S refused", lmr5_set_field(report, ROOM, LMR5_S, -1000, &all), LMR5_GIVEN_NOTHING, 0, 0, 0);
+    see_given("S cleared", lmr5_clear_field(report, ROOM, LMR5_S, &all), LMR5_GIVEN_VALUE, -999, 0, 0);
+    see_given("S cleared again", lmr5_clear_field(report, ROOM, LMR5_S, &all), no_value, 0, 0, 0);
+    see_given("X set over 0", lmr5_set_field(report, ROOM, LMR5_X, 5, &all), LMR5_GIVEN_VALUE, 0, 0, 0);
+    see_given("MONTH refused", lmr5_clear_field(report, ROOM, LMR5_MONTH, &all), LMR5_GIVEN_NOTHING, 0, 0, 0);
+    for (size_t field = LMR5_BOX10; field <= LMR5_A6; field++) {
+        read = read_field(field);
+        see_as_read("a field set", lmr5_set_field(report, ROOM, field, some_value(field), &all), read);
+        see_given("a field set again", lmr5_set_field(report, ROOM, field, some_value(field), &all), LMR5_GIVEN_VALUE,
+                  some_value(field), 0, 0);
+    }
+    for (size_t field = LMR5_XYI; field <= LMR5_A6; field++) {
+        see_given("a field cleared", lmr5_clear_field(report, ROOM, field, &all), LMR5_GIVEN_VALUE, some_value(field), 0, 0);
+        read = read_field(field);
+        see_as_read("a field cleared again", lmr5_clear_field(report, ROOM, field, &all), read);
+    }
+}
+
+static void former_flags(void) {
+    const size_t last = LMR5_FLAG_PRESSURE_TENDENCY;
+    start();
+    see_given("no flags", lmr5_set_flag(report, ROOM, last, LMR5_VALUE_R, &all), LMR5_GIVEN_NOTHING, 0, 0, 0);
+    see_given("put", lmr5_put(report, ROOM, 1, zeros, 16, &all), LMR5_GIVEN_NOTHING, 0, 0, 0);
+    for (size_t flag = LMR5_FLAG_SHIP_POSITION; flag <= last; flag++) {
+        see_given("a flag set over missing", lmr5_set_flag(report, ROOM, flag, LMR5_VALUE_S, &all), no_flag, 0, 0, 0);
+        for (size_t value = LMR5_VALUE_R; value <= LMR5_VALUE_S; value++) {
+            const lmr5_answer read = read_flag(flag);
+            see_as_read("a flag set", lmr5_set_flag(report, ROOM, flag, value, &all), read);
+        }
+    }
+    see_given("a flag refused", lmr5_set_flag(report, ROOM, last, 11, &all), LMR5_GIVEN_NOTHING, 0, 0, 0);
+    for (size_t flag = LMR5_FLAG_SHIP_POSITION; flag <= last; flag++) {
+        see_given("a flag cleared", lmr5_clear_flag(report, ROOM, flag, &all), LMR5_GIVEN_FLAG, LMR5_VALUE_S, 0, 0);
+        see_given("a flag cleared again", lmr5_clear_flag(report, ROOM, flag, &all), no_flag, 0, 0, 0);
+    }
+    see_given("dropped", lmr5_drop(report, ROOM, 1, &all), LMR5_GIVEN_NOTHING, 0, 0, 0);
+}
+
 static void see_entry(const char *what, uint16_t entry, uint16_t due) {
     if (entry == due)
         return;
@@ -664,6 +730,8 @@ int main(void) {
     by_the_report();
     by_an_argument();
     flags();
+    former_values();
+    former_flags();
     tables();
     own_flags();
     texts_refused();
@@ -676,7 +744,7 @@ int main(void) {
     replayed_texts();
     characters();
     if (differences == 0)
-        puts("include/lmr5.h: the numbers of refusals and flags as in the library, its tables of flags, its texts and their "
-             "reader, the costliest texts, and entries of the table of the characters");
+        puts("include/lmr5.h: the numbers of refusals and flags as in the library, its former values, its tables of flags, its "
+             "texts and their reader, the costliest texts, and entries of the table of the characters");
     return differences != 0;
 }

@@ -71,8 +71,8 @@ typedef struct lmr5_answer {
  */
 enum lmr5_given {
     LMR5_GIVEN_NOTHING = 0,     /* no number */
-    LMR5_GIVEN_VALUE = 1,       /* a field's value */
-    LMR5_GIVEN_FLAG = 2,        /* a flag's value */
+    LMR5_GIVEN_VALUE = 1,       /* a field's value; of set and clear the former one */
+    LMR5_GIVEN_FLAG = 2,        /* a flag's value; of set and clear the former one */
     LMR5_GIVEN_COUNT = 3,       /* how many bytes a fetch wrote to an output */
     LMR5_GIVEN_WORD = 4,        /* a presence word */
     LMR5_GIVEN_PRESENT = 5,     /* how many fields are present */
@@ -266,27 +266,36 @@ lmr5_answer lmr5_pack(const int64_t *values, size_t values_length, uint64_t word
  *
  * After an accepted call the report is packed anew in place, its checksum worked out. Where it has become shorter, the bytes
  * up to its old end are 0. Bytes behind both ends stay, as does RPTIN.
+ *
+ * Set and clear give the former value: what stood in the field or flag before the call, or that it was missing. An accepted one
+ * has the answer, number and label, that lmr5_read_field or lmr5_read_flag would have had on the same buffer just before it.
  */
 
 /* Gives the value of a field, or that it is missing. Refusals: the report's refusals; 8. */
 lmr5_answer lmr5_read_field(const uint8_t *report, size_t report_length, size_t field, const lmr5_flag_table *table);
 
-/* Sets a field. Gives nothing. Refusals: the report's refusals; 8; 9. */
+/* Sets a field. Gives its former value, or that it was missing. Refusals: the report's refusals; 8; 9. */
 lmr5_answer lmr5_set_field(uint8_t *report, size_t report_length, size_t field, int64_t value, const lmr5_flag_table *table);
 
-/* Makes a field missing; one that is missing already stays so. Gives nothing. Refusals: the report's refusals; 8; 10. */
+/*
+ * Makes a field missing; one that is missing already stays so. Gives its former value, or that it was missing.
+ * Refusals: the report's refusals; 8; 10.
+ */
 lmr5_answer lmr5_clear_field(uint8_t *report, size_t report_length, size_t field, const lmr5_flag_table *table);
 
 /* Gives the value of a flag, 1 to 10, or that it is missing. Refusals: the report's refusals; 8; 11 without id 1. */
 lmr5_answer lmr5_read_flag(const uint8_t *report, size_t report_length, size_t flag, const lmr5_flag_table *table);
 
 /*
- * Sets a flag to 1 to 10, and the quality code. Gives nothing.
+ * Sets a flag to 1 to 10, and the quality code. Gives the flag's former value, or that it was missing.
  * Refusals: the report's refusals; 8; 9, place the flag, also for a value that the table does not permit; 11 without id 1.
  */
 lmr5_answer lmr5_set_flag(uint8_t *report, size_t report_length, size_t flag, size_t value, const lmr5_flag_table *table);
 
-/* Makes a flag missing, and sets the quality code. Gives nothing. Refusals: the report's refusals; 8; 11. */
+/*
+ * Makes a flag missing, and sets the quality code. Gives the flag's former value, or that it was missing.
+ * Refusals: the report's refusals; 8; 11.
+ */
 lmr5_answer lmr5_clear_flag(uint8_t *report, size_t report_length, size_t flag, const lmr5_flag_table *table);
 
 /*
