@@ -17,7 +17,7 @@ use Rattle.format.specs.Order.{Refusal, first}
 use Rattle.format.specs.Flags.{FlagTable}
 use Rattle.format.specs.Observation.{Observation, size}
 use Rattle.format.specs.Report.{Verdict, judge}
-use Rattle.format.specs.Calls.{Call, reads, edits, fetches, readField, setField, clearField, readFlag, setFlag, clearFlag, put, remove, putText, fetch, fetchText}
+use Rattle.format.specs.Calls.{Call, reads, edits, fetches, setField, clearField, setFlag, clearFlag, put, remove, putText, fetch, fetchText}
 use Rattle.format.specs.Calls.{edited, shorter, overfull, overEach, outputsOf, writes, roomCheck, callChecks, checks}
 use Rattle.format.specs.Calls.{Quantity, value, flag, count, word, present, rptin, attachments, bytes, nibbles, deck, Given, given, gives, Answer, refused, accepted, steppedBy, step, over}
 use Rattle.format.specs.Buffer.{Shown, Standing, standing, stepping, run, effectOn, effect, refusals, claimOn, claim}
