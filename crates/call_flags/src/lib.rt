@@ -60,13 +60,14 @@ fn exchange(s: &mut [u8], at: usize, v: u8) -> u8
     old
 }
 
-// Stores flag j of the body at a place, and the quality code of the fourteen. Gives what stood in the flag.
-fn store_flag(s: &mut [u8], at: usize, j: usize, v: u8) -> u8
-    requires { ⌜ (at + 16 ≤ 2 * length (now s)) × (at + 16 ≤ 2 ^ 32) × (1 ≤ j) × (j ≤ 14) × (v < 16) ⌝ }
-    ensures { λ r. ⌜ (nibbles (now (s .exit)) ≡ flagged (nibbles (now (s .entry))) at j v) × (length (now (s .exit)) ≡ length (now (s .entry)))
-        × (r ≡ getD (nibbles (now (s .entry))) (at + (j - 1)) 0) ⌝ }
+// Stores flag j of id 1 at a place, and the quality code of the fourteen. Gives what stood in the flag.
+fn store_flag(s: &mut [u8], place: usize, j: usize, v: usize) -> u8
+    requires { ⌜ (place + 19 ≤ 2 * length (now s)) × (place + 19 ≤ 2 ^ 32) × (1 ≤ j) × (j ≤ 14) × (v < 16) ⌝ }
+    ensures { λ r. ⌜ (nibbles (now (s .exit)) ≡ flagged (nibbles (now (s .entry))) (place + 3) j v) × (length (now (s .exit)) ≡ length (now (s .entry)))
+        × (r ≡ getD (nibbles (now (s .entry))) (place + 3 + (j - 1)) 0) ⌝ }
 {
-    let old = exchange(s, at + (j - 1), v);
+    let at = place + 3;
+    let old = exchange(s, at + (j - 1), v as u8);
     let q = flags::quality(s, Cursor { at, packed: true });
     nibble_edit::put(s, at + 14, q / 16);
     nibble_edit::put(s, at + 15, q % 16);
@@ -87,7 +88,7 @@ fn set_flag_of(s: &mut [u8], j: usize, v: usize, place: usize, marks: &FlagTable
     if place == 0 {
         return Reply::Refused(11, 0);
     }
-    told(store_flag(s, place + 3, j, v as u8))
+    told(store_flag(s, place, j, v))
 }
 
 // Sets flag j to v, and the quality code, and tells what stood in the flag.
@@ -113,7 +114,7 @@ fn clear_flag_of(s: &mut [u8], j: usize, place: usize) -> Reply
     if place == 0 {
         return Reply::Refused(11, 0);
     }
-    told(store_flag(s, place + 3, j, 0))
+    told(store_flag(s, place, j, 0))
 }
 
 // Makes flag j missing, and sets the quality code, and tells what stood in the flag.

@@ -34,13 +34,6 @@ returns-2 c marks a =
     (no-check (flagNumberCheck (args .j)) [] (number-passes 1 14 (args .j) _ (c .before .before .within .ensures) (c .before .if1 .left)) first-nil)
     (sym (f .is) ∙ c .if2 .taken)
 
-add-store-flag : tie.Need-add-store-flag
-add-store-flag c =
-    let pre = c .before .before .before .before .before .pre .1 in
-    let slice-known = c .before .before .before .before .slice-known in
-    let l = body-within _ _ (λ i. slice-known .given i .fits) _ pre (c .before .if2 .left) .1 in
-    search needs
-
 store-flag-requires : tie.Need-store-flag-requires
 store-flag-requires c κs =
     let pre = c .before .before .before .before .before .pre in
@@ -77,7 +70,6 @@ clear-flag-of-spec =
     within-requires
     returns
     returns-2
-    add-store-flag
     store-flag-requires
     told-requires
     same-length

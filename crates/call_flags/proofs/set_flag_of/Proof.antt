@@ -50,18 +50,6 @@ returns-3 c =
     (no-check (flagValueCheck marks (args .j) (args .v)) [] (value-passes marks (args .j) (args .v) _ (c .before .before .in-range .ensures) (c .before .if2 .left)) first-nil))
     (sym (pre .is) ∙ c .if3 .taken)
 
-add-store-flag : tie.Need-add-store-flag
-add-store-flag c =
-    let pre = c .before .before .before .before .before .before .before .before .pre in
-    let slice-known = c .before .before .before .before .before .before .before .slice-known in
-    let l = body-within _ _ (λ i. slice-known .given i .fits) _ pre (c .before .if3 .left) .1 in
-    search needs
-
-cast-store-flag : tie.Need-cast-store-flag
-cast-store-flag c =
-    let args = c .before .before .before .before .before .before .before .before .args in
-    let h = in-ten (now (args .marks)) (args .j) (args .v) _ (c .before .before .before .in-range .ensures) (c .before .before .if2 .left) in search needs
-
 store-flag-requires : tie.Need-store-flag-requires
 store-flag-requires c κs =
     let args = c .before .before .before .before .before .before .before .before .args in
@@ -104,8 +92,6 @@ set-flag-of-spec =
     in-range-requires
     returns-2
     returns-3
-    add-store-flag
-    cast-store-flag
     store-flag-requires
     told-requires
     same-length

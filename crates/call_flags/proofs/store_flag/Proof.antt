@@ -14,11 +14,17 @@ use borrow.Author.Needs.{needs}
 use Rattle.call_flags.proofs.store_flag.Statement.{statement}
 use Rattle.call_flags.proofs.store_flag.Tie as tie
 
+add-at : tie.Need-add-at
+add-at c = search needs
+
 sub-exchange : tie.Need-sub-exchange
 sub-exchange c = search needs
 
 add-exchange : tie.Need-add-exchange
 add-exchange c = search needs
+
+cast-exchange : tie.Need-cast-exchange
+cast-exchange c = search needs
 
 exchange-requires : tie.Need-exchange-requires
 exchange-requires c κs = search needs
@@ -52,7 +58,7 @@ returns c =
     let put = c .before .before .before .before .before .before .put in
     let put2 = c .before .before .put2 in
     let ns : List ℕ = nibbles (now (args .s)) in
-    let at : ℕ = args .at in
+    let at : ℕ = args .place + 3 in
     let j : ℕ = args .j in
     let v : ℕ = args .v in
     let q : ℕ = quality′ .result in
@@ -70,8 +76,10 @@ pub store-flag-spec : {M : Type 1} → statement M
 store-flag-spec =
     tie.close
     (tie.spec
+    add-at
     sub-exchange
     add-exchange
+    cast-exchange
     exchange-requires
     quality-requires
     add-put
