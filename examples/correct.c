@@ -1,6 +1,6 @@
 /*
- * Corrects the sea surface temperature of a report, and flags it. Prints what stood before and what stands after, as the
- * answers to both calls tell it: no value is read for it.
+ * Corrects the sea surface temperature of a report, and flags it. Prints what stood before, which each answer gives, and what
+ * the call has set. Nothing is read for it.
  *
  *     correct REPORT CORRECTED TEMPERATURE FLAG
  *

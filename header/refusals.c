@@ -1,10 +1,10 @@
 /*
  * Tries the header's numbers of refusals, flags and flag values on the library: for each refusal a call that has to be
- * refused so, and the ends of the flags and of their values. Tries the former values that set and clear give, beside what a read
- * gives just before; the table of permitted flags in every call that takes it;
- * ship texts there and back, how many nibbles they take, each refusal of their calls, the deck's set for each source ID, and
- * the reader; the costliest text of each number of symbols; and some entries of the table of the characters. Tries that
- * nothing beside a table, a reader or a costliest text is written. Says each difference, and fails if there is one.
+ * refused so, and the ends of the flags and of their values. Tries the former values that set and clear give, beside what a
+ * read gives just before; the table of permitted flags in every call that takes it; ship texts there and back, how many
+ * nibbles they take, each refusal of their calls, the deck's set for each source ID, and the reader; the costliest text of
+ * each number of symbols; and some entries of the table of the characters. Tries that nothing beside a table, a reader or a
+ * costliest text is written. Says each difference, and fails if there is one.
  */
 #include "lmr5.h"
 

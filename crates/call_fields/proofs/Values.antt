@@ -104,7 +104,7 @@ module _ (marks : FlagTable) (b : List ℕ) (bs : Bytes b) (j : Accepted marks b
         ap (λ (x : Answer). after x b []) stands
         ∙ read-done marks b (observationOf b) bs j (readField k) (no-check (fieldNumberCheck k) [] known-passes first-nil)
 
-    -- set and clear: another code stored, and the checks before 13 passed
+    -- set and clear: a code stored, and the checks before 13 passed
     module _ (d : List ℕ) (bd : Bytes d) where
       pub field-set : (v : Scaled) (c : Coded) → Code c ≡ codingOf (fieldAt k) v → Carded b d (replaced b k (c .0)) → after a d [] ≡ effect marks b (edits (setField k v))
       unfolding callChecks made gives codeOf

@@ -19,7 +19,7 @@ use format::Reply;
 use format::Scaled;
 use report::Inspected;
 
-// What a coded number of the field that a row is of stands for: a value, or that it is missing.
+// What a coded number stands for in the field that a row is of: a value, or that it is missing.
 fn told(row: u64, c: Coded) -> Reply
     ensures { λ r. ⌜ answerOf r ≡ accepted (valueGiven (entryOf (fieldIn row) c) ∷ []) ⌝ }
 {

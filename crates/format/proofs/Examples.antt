@@ -778,7 +778,9 @@ formerValues =
     (1 ∷ 1 ∷ 0 ∷ 0 ∷ 1 ∷ 1 ∷ 1 ∷ 0 ∷ 1 ∷ 1 ∷ 1 ∷ 899 ∷ [])
     ∷ example (answersOf (reportOf highestCodes 0 []) (lowestCalls ++ lowestCalls)) (givenEach (λ (f : Field). f .highest) ++ givenEach (λ (f : Field). 1))
     -- the field that is named, and no other; the last field
-    ∷ example (answersOf sBytes (edits (setField 30 (scaled (pos 1))) ∷ edits (setField 32 (scaled (pos 1))) ∷ edits (clearField 31) ∷ edits (setField 46 (scaled (pos 1))) ∷ edits (clearField 46) ∷ []))
+    ∷ example
+    (answersOf sBytes
+    (edits (setField 30 (scaled (pos 1))) ∷ edits (setField 32 (scaled (pos 1))) ∷ edits (clearField 31) ∷ edits (setField 46 (scaled (pos 1))) ∷ edits (clearField 46) ∷ []))
     (1 ∷ 0 ∷ 1 ∷ 0 ∷ 1 ∷ 1 ∷ 0 ∷ 286 ∷ 1 ∷ 0 ∷ 1 ∷ 1 ∷ 0 ∷ 1 ∷ [])
     -- required fields; a refused call gives its refusal alone, and what stood is given later
     ∷ example
@@ -797,7 +799,9 @@ formerValues =
     (edits (put 9 (7 ∷ 3 ∷ [])) ∷ put1 ∷ edits (setFlag 1 2) ∷ edits (setFlag 7 3) ∷ edits (setFlag 1 4) ∷ edits (clearFlag 7) ∷ edits (remove 9) ∷ edits (clearFlag 1) ∷ []))
     (1 ∷ 1 ∷ 1 ∷ 0 ∷ 1 ∷ 0 ∷ 1 ∷ 1 ∷ 0 ∷ 2 ∷ 1 ∷ 1 ∷ 0 ∷ 3 ∷ 1 ∷ 1 ∷ 1 ∷ 0 ∷ 4 ∷ [])
     -- the flag that is named; refused calls
-    ∷ example (answersOf flaggedBytes (edits (setFlag 2 7) ∷ edits (setFlag 13 7) ∷ edits (setFlag 14 7) ∷ edits (setFlag 1 11) ∷ edits (setFlag 15 1) ∷ edits (clearFlag 0) ∷ edits (clearFlag 1) ∷ []))
+    ∷ example
+    (answersOf flaggedBytes
+    (edits (setFlag 2 7) ∷ edits (setFlag 13 7) ∷ edits (setFlag 14 7) ∷ edits (setFlag 1 11) ∷ edits (setFlag 15 1) ∷ edits (clearFlag 0) ∷ edits (clearFlag 1) ∷ []))
     (1 ∷ 0 ∷ 1 ∷ 0 ∷ 1 ∷ 1 ∷ 0 ∷ 10 ∷ (refuses 9 1 ++ (refuses 8 0 ++ (refuses 8 0 ++ (1 ∷ 1 ∷ 0 ∷ 1 ∷ [])))))
     ∷ example (answersOf freshBytes (edits (setFlag 1 1) ∷ edits (clearFlag 1) ∷ [])) (refuses 11 0 ++ refuses 11 0)
     ∷ example (under noA flaggedBytes (edits (setFlag 1 2) ∷ edits (setFlag 1 3) ∷ edits (clearFlag 1) ∷ [])) (refuses 9 1 ++ (1 ∷ 1 ∷ 0 ∷ 1 ∷ 1 ∷ 1 ∷ 0 ∷ 3 ∷ []))

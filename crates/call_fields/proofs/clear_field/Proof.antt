@@ -1,7 +1,7 @@
 -- `call_fields::clear_field` meets its contract.
 -- Assumes nothing.
-use Rattle.format.specs.Calls.{edits, clearField, outputsOf}
 use mathlib.Core.Path.{refl}
+use Rattle.format.specs.Calls.{edits, clearField, outputsOf}
 use Rattle.laws.proofs.Former.{clears-field, former-read}
 use Rattle.report.proofs.Found.{inspect-refused, inspect-found}
 use borrow.Author.Needs.{needs}

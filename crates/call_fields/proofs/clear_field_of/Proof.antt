@@ -60,7 +60,8 @@ returns-3 c marks j =
     let is-required = c .before .before .before .before .before .before .is-required in
     let if2 = c .before .before .before .before .before .if2 in
     let the-replace = c .before .before .before .replace in
-    field-cleared _ _ (λ i. slice-known .given i .fits) j (args .k) _ (within .ensures) (if1 .left) _ (c .before .before .before .before .before .before .before .row .ensures) _ (the-replace .ensures .1) _ (c .told .ensures)
+    let row = c .before .before .before .before .before .before .before .row in
+    field-cleared _ _ (λ i. slice-known .given i .fits) j (args .k) _ (within .ensures) (if1 .left) _ (row .ensures) _ (the-replace .ensures .1) _ (c .told .ensures)
     _ (λ i. c .before .slice-known2 .given i .fits) _ (is-required .ensures) (if2 .left) _ refl (the-replace .ensures .0)
 
 pub clear-field-of-spec : {M : Type 1} → statement M

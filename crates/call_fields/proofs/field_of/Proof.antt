@@ -38,9 +38,12 @@ returns-2 : tie.Need-returns-2
 returns-2 c marks j =
     let args = c .before .before .before .before .before .before .args in
     let within = c .before .before .before .before .within in
-    let h = between-in 1 46 (args .k) _ (within .ensures) (c .before .before .before .if1 .left) in
-    let at = c .before .code-in .ensures ∙ row-at (now (args .s)) (args .k) _ (c .before .before .row .ensures) (h .0) (h .1) in
-    field-read _ _ (λ i. c .before .before .before .before .before .shared-slice-known .given i .fits) j (args .k) _ (within .ensures) (c .before .before .before .if1 .left) _ (c .before .before .row .ensures) _ at _ (c .told .ensures)
+    let shared-slice-known = c .before .before .before .before .before .shared-slice-known in
+    let if1 = c .before .before .before .if1 in
+    let row = c .before .before .row in
+    let h = between-in 1 46 (args .k) _ (within .ensures) (if1 .left) in
+    let at = c .before .code-in .ensures ∙ row-at (now (args .s)) (args .k) _ (row .ensures) (h .0) (h .1) in
+    field-read _ _ (λ i. shared-slice-known .given i .fits) j (args .k) _ (within .ensures) (if1 .left) _ (row .ensures) _ at _ (c .told .ensures)
 
 pub field-of-spec : {M : Type 1} → statement M
 field-of-spec =

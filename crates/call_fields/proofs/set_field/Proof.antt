@@ -1,7 +1,7 @@
 -- `call_fields::set_field` meets its contract.
 -- Assumes nothing.
-use Rattle.format.specs.Calls.{edits, setField, outputsOf}
 use mathlib.Core.Path.{refl}
+use Rattle.format.specs.Calls.{edits, setField, outputsOf}
 use Rattle.laws.proofs.Former.{sets-field, former-read}
 use Rattle.report.proofs.Found.{inspect-refused, inspect-found}
 use borrow.Author.Needs.{needs}

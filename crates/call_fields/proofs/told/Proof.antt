@@ -16,7 +16,9 @@ scaled-in-requires : tie.Need-scaled-in-requires
 scaled-in-requires c κs = search needs
 
 returns-2 : tie.Need-returns-2
-returns-2 c = told-value (fieldIn (c .before .before .before .args .row)) (c .before .before .before .args .c) _ (c .before .before .is-missing .ensures) (c .before .if1 .left) _ (c .scaled-in .ensures)
+returns-2 c =
+    let args = c .before .before .before .args in
+    told-value (fieldIn (args .row)) (args .c) _ (c .before .before .is-missing .ensures) (c .before .if1 .left) _ (c .scaled-in .ensures)
 
 pub told-spec : {M : Type 1} → statement M
 told-spec = tie.close (tie.spec is-missing-requires returns scaled-in-requires returns-2)

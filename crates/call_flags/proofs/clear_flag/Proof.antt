@@ -1,7 +1,7 @@
 -- `call_flags::clear_flag` meets its contract.
 -- Assumes nothing.
-use Rattle.format.specs.Calls.{edits, clearFlag, outputsOf}
 use mathlib.Core.Path.{refl}
+use Rattle.format.specs.Calls.{edits, clearFlag, outputsOf}
 use Rattle.laws.proofs.Former.{clears-flag, former-read}
 use Rattle.report.proofs.Found.{inspect-refused}
 use Rattle.call_flags.proofs.Flags.{flags-found}
@@ -35,10 +35,11 @@ same-length-2 c = search needs
 
 returns-2 : tie.Need-returns-2
 returns-2 c =
+    let slice-known = c .before .before .before .before .before .before .before .before .before .before .slice-known in
     let the-inspect = c .before .before .before .before .before .before .before .inspect in
     let i2 = c .before .before .before .before .before .i2 in
     let e = c .before .before .clear-flag-of .ensures _ (flags-found _ _ _ _ (the-inspect .ensures) (i2 .given .1) .found .judged) in
-    (e, former-read _ _ (λ i. c .before .before .before .before .before .before .before .before .before .before .slice-known .given i .fits) clears-flag _ _ e)
+    (e, former-read _ _ (λ i. slice-known .given i .fits) clears-flag _ _ e)
 
 pub clear-flag-spec : {M : Type 1} → statement M
 clear-flag-spec =

@@ -66,7 +66,10 @@ returns-3 : tie.Need-returns-3
 returns-3 c marks a =
     let args = c .before .before .before .before .before .before .args in
     let f = flags-by (c .before .before .before .before .before .before .pre .1) a in
-    flag-read _ _ (λ i. c .before .before .before .before .before .shared-slice-known .given i .fits) _ f (c .before .before .if2 .left) (args .j) _ (c .before .before .before .before .within .ensures) (c .before .before .before .if1 .left) _ (c .before .packed-at .ensures .0) _ (c .told .ensures)
+    let shared-slice-known = c .before .before .before .before .before .shared-slice-known in
+    let within = c .before .before .before .before .within in
+    flag-read _ _ (λ i. shared-slice-known .given i .fits) _ f (c .before .before .if2 .left) (args .j) _ (within .ensures) (c .before .before .before .if1 .left) _
+    (c .before .packed-at .ensures .0) _ (c .told .ensures)
 
 pub flag-of-spec : {M : Type 1} → statement M
 flag-of-spec =

@@ -1,7 +1,7 @@
 -- `call_flags::set_flag` meets its contract.
 -- Assumes nothing.
-use Rattle.format.specs.Calls.{edits, setFlag, outputsOf}
 use mathlib.Core.Path.{refl}
+use Rattle.format.specs.Calls.{edits, setFlag, outputsOf}
 use Rattle.laws.proofs.Former.{sets-flag, former-read}
 use Rattle.report.proofs.Found.{inspect-refused}
 use Rattle.call_flags.proofs.Flags.{flags-found}
@@ -35,8 +35,9 @@ same-length-2 c = search needs
 
 returns-2 : tie.Need-returns-2
 returns-2 c =
+    let slice-known = c .before .before .before .before .before .before .before .before .before .before .slice-known in
     let e = c .before .before .set-flag-of .ensures in
-    (e, former-read _ _ (λ i. c .before .before .before .before .before .before .before .before .before .before .slice-known .given i .fits) sets-flag _ _ e)
+    (e, former-read _ _ (λ i. slice-known .given i .fits) sets-flag _ _ e)
 
 pub set-flag-spec : {M : Type 1} → statement M
 set-flag-spec =
