@@ -12,9 +12,11 @@ use lib.ListN.{length, getD, set}
 use Rattle.format.specs.Bits.{total, Bytes}
 use Rattle.format.specs.Field.{Field, table, fieldAt, isField, required, inRange, coded, scaledOf, codedOf, entryOf, codeOf, entries, codes}
 use Rattle.format.specs.Flags.{FlagTable}
+use Rattle.format.specs.Order.{first}
+use Rattle.format.specs.Nibbles.{Attachment, tailNibbles}
 use Rattle.format.specs.Observation.{checksum, cardNumbers, size}
 use Rattle.format.specs.Report.{codesOf, observationOf}
-use Rattle.format.specs.Calls.{reads, edits, made, readField, setField, clearField, valueAt, withValue, valueGiven, fieldNumberCheck, valueCheck, requiredCheck}
+use Rattle.format.specs.Calls.{Editing, reads, edits, made, readField, setField, clearField, valueAt, withValue, valueGiven, fieldNumberCheck, valueCheck, requiredCheck, clearChecks}
 use Rattle.format.specs.Calls.{callChecks, readGives, gives, outputsOf, Answer}
 use Rattle.format.specs.Reply.{refusal, answerOf}
 use Rattle.format.specs.declared.Reply.the-variants.{Value, MissingValue}
@@ -37,7 +39,7 @@ use Rattle.report.specs.Found.{Accepted}
 use Rattle.call_fields.specs.Replaced.{replaced}
 
 -- the value of field k is the entry of its code
-value-is : (b : List ℕ) (k : ℕ) (c : Coded) → 1 ≤ k → k ≤ 46 → c .0 ≡ getD (codesOf b) (k - 1) 0 → valueAt (observationOf b) k ≡ entryOf (fieldAt k) c
+pub value-is : (b : List ℕ) (k : ℕ) (c : Coded) → 1 ≤ k → k ≤ 46 → c .0 ≡ getD (codesOf b) (k - 1) 0 → valueAt (observationOf b) k ≡ entryOf (fieldAt k) c
 unfolding observationOf
 value-is b k c l h e =
     let at : k - 1 + 1 ≡ k = omega arith in
@@ -69,17 +71,19 @@ coding-in f v c = go (inRange f v)
 -- ---- a code stored
 
 module _ (marks : FlagTable) (b : List ℕ) (bs : Bytes b) (k : ℕ) (low : 1 ≤ k) (high : k ≤ 46) where
-  -- it is that of the entry e: the buffer is the layout of the observation with e
-  value-laid : (d : List ℕ) (e : Option Scaled) (c : Coded) → Accepted marks b → Bytes d → c ≡ codeOf (fieldAt k) e
-      → Carded b d (replaced b k (c .0)) → d ≡ layout b (size (observationOf b)) (withValue (observationOf b) k e)
+  -- it is that of the entry e: the card is that of the observation with e
+  value-card : (e : Option Scaled) (c : Coded) → Accepted marks b → c ≡ codeOf (fieldAt k) e → cardNumbers (withValue (observationOf b) k e) ≡ replaced b k (c .0)
   unfolding observationOf
-  value-laid d e c j bd is r =
+  value-card e c j is =
       let long : length (entries table (codesOf b)) ≡ 46 = entries-length b in
       let code : c .0 ≡ codeOf (fieldAt k) e .0 = ap (λ (x : Coded). x .0) is in
-      let card : replaced b k (c .0) ≡ cardNumbers (withValue (observationOf b) k e) =
-      sym (value-numbers (observationOf b) k e long low high
-      ∙ rw (← code, codes-back b, numbers-taken marks b (observationOf b) bs j) refl) in
-      field-laid marks b d (observationOf b) (withValue (observationOf b) k e) bs j refl bd (r .long) (r .card ∙ card) (r .behind)
+      value-numbers (observationOf b) k e long low high ∙ rw (← code, codes-back b, numbers-taken marks b (observationOf b) bs j) refl
+
+  -- and the buffer is its layout
+  value-laid : (d : List ℕ) (e : Option Scaled) (c : Coded) → Accepted marks b → Bytes d → c ≡ codeOf (fieldAt k) e
+      → Carded b d (replaced b k (c .0)) → d ≡ layout b (size (observationOf b)) (withValue (observationOf b) k e)
+  value-laid d e c j bd is r =
+      field-laid marks b d (observationOf b) (withValue (observationOf b) k e) bs j refl bd (r .long) (r .card ∙ sym (value-card e c j is)) (r .behind)
 
 -- ---- the returns of the calls on fields, where k is a field
 
@@ -116,14 +120,23 @@ module _ (marks : FlagTable) (b : List ℕ) (bs : Bytes b) (j : Accepted marks b
           (same-within marks b (observationOf b) bs j (withValue (observationOf b) k (some v)) refl)
           (value-laid marks b bs k (known .0) (known .1) d (some v) c j bd (q .0) r)
 
+      -- clear, with or without indicators
+      pub card-cleared : (e : Editing) → callChecks marks (observationOf b) (edits e) ≡ clearChecks k
+          → gives (observationOf b) (edits e) ≡ readGives (observationOf b) (readField k) ∷ []
+          → made (observationOf b) e .attachments ≡ observationOf b .attachments → (q : Bool) → q ≡ required k → q ≡ false → Carded b d (cardNumbers (made (observationOf b) e))
+          → after a d [] ≡ effect marks b (edits e)
+      card-cleared e checks former same q eq free r =
+          ap (λ (x : Answer). after x d []) (stands ∙ ap Answer.accepted (sym former))
+          ∙ edit-done marks b (observationOf b) bs j e d
+          (ap first checks ∙ no-check (fieldNumberCheck k) (requiredCheck k ∷ []) known-passes (no-check (requiredCheck k) [] (sym eq ∙ free) first-nil))
+          (same-within marks b (observationOf b) bs j (made (observationOf b) e) (ap (λ (l : List Attachment). length (tailNibbles l)) same))
+          (field-laid marks b d (observationOf b) (made (observationOf b) e) bs j same bd (r .long) (r .card) (r .behind))
+
       pub field-cleared : (q : Bool) → q ≡ required k → q ≡ false → (c : Coded) → c ≡ coded 0 → Carded b d (replaced b k (c .0)) → after a d [] ≡ effect marks b (edits (clearField k))
       unfolding callChecks made gives codeOf
       field-cleared q eq free c e r =
-          ap (λ (x : Answer). after x d []) stands
-          ∙ edit-done marks b (observationOf b) bs j (clearField k) d
-          (no-check (fieldNumberCheck k) (requiredCheck k ∷ []) known-passes (no-check (requiredCheck k) [] (sym eq ∙ free) first-nil))
-          (same-within marks b (observationOf b) bs j (withValue (observationOf b) k none) refl)
-          (value-laid marks b bs k (known .0) (known .1) d none c j bd e r)
+          card-cleared (clearField k) refl refl refl q eq free
+          (record { card = r .card ∙ sym (value-card marks b bs k (known .0) (known .1) none c j e); behind = r .behind; long = r .long })
 
   pub field-outside : (v : Scaled) → Outside ≡ codingOf (fieldAt k) v → after (refusal 9 k) b [] ≡ effect marks b (edits (setField k v))
   unfolding callChecks outputsOf
@@ -131,10 +144,11 @@ module _ (marks : FlagTable) (b : List ℕ) (bs : Bytes b) (j : Accepted marks b
       call-refuses marks b (observationOf b) (edits (setField k v)) bs j (fieldNumberCheck k ∷ []) (valueCheck k v) [] refl
       (no-check (fieldNumberCheck k) [] known-passes first-nil) (ap not (coding-outside (fieldAt k) v e))
 
-  pub field-required : (q : Bool) → q ≡ required k → q ≡ true → after (refusal 10 k) b [] ≡ effect marks b (edits (clearField k))
-  unfolding callChecks outputsOf
-  field-required q eq must =
-      call-refuses marks b (observationOf b) (edits (clearField k)) bs j (fieldNumberCheck k ∷ []) (requiredCheck k) [] refl
+  pub field-required : (e : Editing) → callChecks marks (observationOf b) (edits e) ≡ clearChecks k → (q : Bool) → q ≡ required k → q ≡ true
+      → after (refusal 10 k) b [] ≡ effect marks b (edits e)
+  unfolding outputsOf
+  field-required e checks q eq must =
+      call-refuses marks b (observationOf b) (edits e) bs j (fieldNumberCheck k ∷ []) (requiredCheck k) [] checks
       (no-check (fieldNumberCheck k) [] known-passes first-nil) (sym eq ∙ must)
 
 -- ---- the new checksum

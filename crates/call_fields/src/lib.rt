@@ -2,9 +2,9 @@
 ghost use mathlib.Core.Path.{_≡_};
 ghost use mathlib.Core.List.{[], _∷_};
 ghost use Prim.Native.Nat.{_-_, _≤_};
-ghost use lib.ListN.{getD};
+ghost use lib.ListN.{length, getD, set};
 ghost use Rattle.format.specs.Field.{fieldAt, entryOf};
-ghost use Rattle.format.specs.Report.{codesOf};
+ghost use Rattle.format.specs.Report.{numbersOf, codesOf};
 ghost use Rattle.format.specs.Calls.{reads, edits, readField, setField, clearField, valueGiven, accepted};
 ghost use Rattle.format.specs.Buffer.{after, effect, asRead};
 ghost use Rattle.format.specs.Reply.{answerOf};
@@ -20,7 +20,7 @@ use format::Scaled;
 use report::Inspected;
 
 // What a coded number stands for in the field that a row is of: a value, or that it is missing.
-fn told(row: u64, c: Coded) -> Reply
+pub fn told(row: u64, c: Coded) -> Reply
     ensures { λ r. ⌜ answerOf r ≡ accepted (valueGiven (entryOf (fieldIn row) c) ∷ []) ⌝ }
 {
     if card::is_missing(c) {
@@ -53,16 +53,25 @@ pub fn read_field(s: &[u8], k: usize, marks: &FlagTable) -> Reply
     }
 }
 
+// Stores a code in field k, whose row is given, and leaves the checksum. Gives the code that stood there.
+pub fn exchange(s: &mut [u8], k: usize, row: u64, c: Coded) -> Coded
+    requires { ⌜ (38 ≤ length (now s)) × (1 ≤ k) × (k ≤ 46) × Row k row × (c .0 ≤ fieldAt k .highest) ⌝ }
+    ensures { λ r. ⌜ Carded (now (s .entry)) (now (s .exit)) (set (numbersOf (now (s .entry))) k (c .0)) × (r .0 ≡ getD (codesOf (now (s .entry))) (k - 1) 0) ⌝ }
+{
+    let old = card::code_in(s, row);
+    card::store_in(s, row, c);
+    old
+}
+
 // Stores a code in field k, whose row is given, of an accepted report, and sets the checksum. Gives the code that stood there.
 fn replace(s: &mut [u8], k: usize, row: u64, c: Coded) -> Coded
     requires { ⌜ AcceptedBySome (now s) × (1 ≤ k) × (k ≤ 46) × Row k row × (c .0 ≤ fieldAt k .highest) ⌝ }
     ensures { λ r. ⌜ Carded (now (s .entry)) (now (s .exit)) (replaced (now (s .entry)) k (c .0)) × (r .0 ≡ getD (codesOf (now (s .entry))) (k - 1) 0) ⌝ }
 {
     let n = card::checksum(s);
-    let old = card::code_in(s, row);
+    let old = exchange(s, k, row, c);
     let x = c.0;
     let y = old.0;
-    card::store_in(s, row, c);
     // 65535 is a multiple of 255, and no code is above it
     card::set_checksum(s, n + 65535 - y as u64 + x as u64);
     old

@@ -3,11 +3,13 @@
 use Prim.Native.Nat.{ℕ, _+_, _-_, _<_}
 use native.Mathlib.Omega.{arith}
 use mathlib.Core.Path.{_≡_, sym, ap, _∙_}
+use mathlib.Core.Bool.{Bool, true, false, not}
 use mathlib.Core.List.{List}
 use mathlib.Core.Option.{none, some}
 use lib.ListN.{length, getD}
+use lib.Dec.{eqb}
 use borrow.Author.Tests.{eq-eqb, ne-eqb}
-use Rattle.format.specs.Field.{Field, table, fieldAt, coded, scaledOf, entryOf}
+use Rattle.format.specs.Field.{Field, table, fieldAt, coded, scaledOf, entryOf, isPresent}
 use Rattle.format.specs.Report.{codesOf}
 use Rattle.format.specs.declared.Coded.{Coded}
 use Rattle.laws.proofs.Fields.{noField, field-at, table-length, length-entries, entries-at}
@@ -24,6 +26,12 @@ entry-missing f c e = rw (eq-eqb (c .0) 0 e)
 pub entry-there : (f : Field) (c : Coded) → (c .0 ≡ 0 → ⊥) → entryOf f c ≡ some (scaledOf f c)
 unfolding entryOf
 entry-there f c n = rw (ne-eqb (c .0) 0 n)
+
+-- whether a field is there
+pub present-is : (f : Field) (c : Coded) (t : Bool) → eqb (c .0) 0 ≡ t → isPresent (entryOf f c) ≡ not t
+unfolding entryOf
+present-is f c true e = rw e
+present-is f c false e = rw e
 
 -- the card's entries
 pub entries-length : (b : List ℕ) → length (entriesOf b) ≡ 46

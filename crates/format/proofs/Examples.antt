@@ -1,7 +1,7 @@
--- Seven lists of examples, each checked by one computed fact. The first has the figures of FORMAT 12. The second has cases in
+-- Eight lists of examples, each checked by one computed fact. The first has the figures of FORMAT 12. The second has cases in
 -- which two refusals fit at once, for the orders of FORMAT 5 to 7, zeroed bytes, unpack and pack, and edges of FORMAT 2 to 9.
 -- The third has the table of the characters, the fourth tables of permitted flags, the fifth plain and original symbols, the sixth
--- what texts take, the seventh former values.
+-- what texts take, the seventh former values, the eighth indicators that have lost their data.
 -- Assumes nothing.
 use Prim.Native.Nat.{ℕ, zero, suc, _+_, _-_, _/_, _%_, _^_}
 use mathlib.Core.Bool.{cond}
@@ -11,7 +11,7 @@ use lib.ListN.{length, getD, take, drop, set, replicate}
 use lib.Dec.{T}
 use lib.IntN.{ℤ, pos, negsuc}
 use Rattle.format.specs.Order.{Refusal, Check, first, allMarks}
-use Rattle.format.specs.Field.{Field, minus, table, fieldAt, required, scaled, coded, scaledOf, codedOf, inRange, entryOf, codeOf, entries, codes}
+use Rattle.format.specs.Field.{Field, minus, table, fieldAt, required, scaled, coded, scaledOf, codedOf, inRange, entryOf, isPresent, codeOf, entries, codes}
 use Rattle.format.specs.Bits.{bits, number, bitsOf, bitField, total, offset, readFields, writeFields}
 use Rattle.format.specs.Nibbles.{attachment, nibbles, bytes, padded, attachmentNibbles, tailNibbles, attachmentsOf, among}
 use Rattle.format.specs.Flags.{FlagTable, markOf, weights, weight, totalWeight, allMissing, qualityCode, allYes, flagsFit, flagBody, withFlag, flagsValid}
@@ -19,9 +19,10 @@ use Rattle.format.specs.ShipText.{charCode, short, pairByte, codeNibbles
 use Rattle.format.specs.ShipText.{isSpace, symbolNibbles, fulls, rest, spaceRun, writeFrom, writeText}
 use Rattle.format.specs.ShipText.{nibbleCount, endsInSpace, spaces, textStep, stateAfter, symbolsOf, readFrom, endFrom, atEnd, textValid, readText}
 use Rattle.format.specs.ShipText.{setOfSource, setOfNumber, deckSet, setNumber}
-use Rattle.format.specs.Observation.{Observation, widths, checksum, cardNumbers, cardNibbles, packing}
+use Rattle.format.specs.Observation.{Observation, observation, widths, checksum, cardNumbers, cardNibbles, packing}
 use Rattle.format.specs.Report.{observationOf, codesOf, checksumOf, fieldChecks, bodyValid, attachmentChecks, reportChecks, Verdict, refused, accepted, judge}
-use Rattle.format.specs.Calls.{Call, Reading, Editing, reads, edits, fetches, readField, setField, clearField, readFlag, setFlag, clearFlag, put, fetch, remove, putText, fetchText}
+use Rattle.format.specs.Calls.{Call, Reading, Editing, reads, edits, fetches, readField, readFlag, fetch, fetchText}
+use Rattle.format.specs.Calls.{setField, clearField, clearWithIndicators, setFlag, clearFlag, put, remove, putText, withValue, dataMissing, lostOn, clearsOf, clearEach}
 use Rattle.format.specs.Calls.{stands, contentOf, putIn, removeFrom, withAttachments, made, Quantity, Given, readGives, gives, outputsOf, writes, overfull, overEach}
 use Rattle.format.specs.Calls.{allNibbles, symbolsCheck, callChecks, checks, Answer, step}
 use Rattle.format.specs.Machine.{course}
@@ -31,6 +32,8 @@ use Rattle.format.specs.Whole.{countFrom, packObservation, packOrder, pa
 use Rattle.format.specs.Loading.{rows, tableOf, someYes, everyRow, loadChecks, loadAnswer, inForce}
 use Rattle.format.specs.Display.{openingRefusal, displayed, handed}
 use Rattle.format.specs.Costliest.{costliestChecks, costliestRefusal}
+use Rattle.format.specs.Indicators.{indicators, fieldsWhere, restingOn}
+use Rattle.format.specs.Finding.{lostIndicators, found, findChecks, find, ascendingFrom, clearCalls}
 use Rattle.format.specs.Lister.{digitsFrom, fieldLines, listing}
 use Rattle.format.specs.declared.Scaled.{Scaled}
 use Rattle.format.proofs.Test.{Example, same, every}
@@ -847,3 +850,181 @@ unfolding besideRead flaggedBytes lowestCalls givenEach readBeside formerValues 
     cardNibbles packing observationOf fieldChecks bodyValid attachmentChecks reportChecks judge stands contentOf putIn removeFrom made readGives gives outputsOf writes overfull
     overEach allNibbles callChecks checks step layout effect course calls run claim
 former-values-hold = tt
+
+-- ---- indicators that have lost their data
+
+-- a field's lowest value
+lowest : ℕ → Scaled
+lowest k = scaledOf (fieldAt k) (coded 1)
+
+-- an observation with these fields at their lowest values, and a nibble under each of these ids
+withLowest : List ℕ → Observation → Observation
+withLowest [] s = s
+withLowest (k ∷ ks) s = withLowest ks (withValue s k (some (lowest k)))
+
+sheet : List ℕ → List ℕ → Observation
+sheet ids ks = withLowest ks (observation 0 (replicate 46 none) (map (λ (i : ℕ). attachment i (one 1)) ids))
+
+-- the fields that are present
+presentFrom : ℕ → List (Option Scaled) → List ℕ
+presentFrom k [] = []
+presentFrom k (e ∷ es) = cond (isPresent e) (one k) [] ++ presentFrom (suc k) es
+
+presentIn : Observation → List ℕ
+presentIn s = presentFrom 1 (s .values)
+
+-- those that are present after clear k with its indicators, where these were before
+presentAfter : ℕ → List ℕ → List ℕ
+presentAfter k ks = presentIn (made (sheet [] ks) (clearWithIndicators k))
+
+-- the fresh report with these fields at their lowest values as well, in a buffer with room
+stated : List ℕ → List ℕ
+stated ks = claim allYes roomy (map (λ (k : ℕ). edits (setField k (lowest k))) ks) .state
+
+wrote : Wrote → List ℕ
+wrote w = answer (w .answer) ++ w .out
+
+-- what is found in a report, to an output of seven bytes
+finds : List ℕ → List ℕ
+finds b = wrote (find allYes b (replicate 7 9))
+
+-- the answer that gives so many, and the output of seven bytes behind it
+tells : List ℕ → List ℕ
+tells is = 1 ∷ 1 ∷ 0 ∷ length is ∷ (is ++ replicate (7 - length is) 9)
+
+allSix : List ℕ
+allSix = 17 ∷ 19 ∷ 21 ∷ 27 ∷ 32 ∷ 36 ∷ []
+
+clearing : ℕ → Call
+clearing k = edits (clearWithIndicators k)
+
+put5 : Call
+put5 = edits (put 5 (one 1))
+
+-- the field that a call clears, without its indicators
+clearName : Call → ℕ
+clearName (reads r) = 0
+clearName (edits (setField k v)) = 0
+clearName (edits (clearField k)) = k
+clearName (edits (clearWithIndicators k)) = 0
+clearName (edits (setFlag j v)) = 0
+clearName (edits (clearFlag j)) = 0
+clearName (edits (put i ns)) = 0
+clearName (edits (remove i)) = 0
+clearName (edits (putText t os)) = 0
+clearName (fetches f) = 0
+
+-- the buffer after it, and the one after the clears for which it stands
+besideClears : List ℕ → ℕ → Example
+besideClears b k = example (effect allYes b (clearing k) .buffer) (calls allYes b (clearCalls b k) .state)
+
+pub lostData : List Example
+lostData =
+    -- which indicators rest on each field from 0 to 47
+    example (joined (map (λ (k : ℕ). length (restingOn k) ∷ restingOn k) (upFrom 0 48)))
+    (replicate 18 0 ++ (1 ∷ 17 ∷ 0 ∷ 1 ∷ 19 ∷ 0 ∷ 1 ∷ 21 ∷ (replicate 5 0 ++ (1 ∷ 27 ∷ 1 ∷ 27 ∷ 1 ∷ 27 ∷ 2 ∷ 27 ∷ 32 ∷ (replicate 5 0 ++ (1 ∷ 36 ∷ replicate 10 0))))))
+    -- found: none present, all six, each alone, each beside its data
+    ∷ example (found (sheet [] []) ++ found (sheet [] allSix)) allSix
+    ∷ example (joined (map (λ (i : ℕ). found (sheet [] (one i))) allSix)) allSix
+    ∷ example
+    (found (sheet [] (17 ∷ 18 ∷ [])) ++ (found (sheet [] (19 ∷ 20 ∷ [])) ++ (found (sheet [] (21 ∷ 22 ∷ [])) ++ (found (sheet [] (32 ∷ 31 ∷ [])) ++ found (sheet [] (36 ∷ 37 ∷ []))))))
+    []
+    -- TI beside any one of its four; BI beside the other three; data that stand without an indicator
+    ∷ example (joined (map (λ (k : ℕ). found (sheet [] (27 ∷ k ∷ []))) (upFrom 28 4))) []
+    ∷ example (found (sheet [] (28 ∷ 29 ∷ 30 ∷ 32 ∷ []))) (one 32)
+    ∷ example (found (sheet [] (18 ∷ 20 ∷ 22 ∷ 28 ∷ 29 ∷ 30 ∷ 31 ∷ 37 ∷ []))) []
+    -- neighbours that are no data: DI beside WI and W, HI beside CL and CM
+    ∷ example (found (sheet [] (17 ∷ 19 ∷ 20 ∷ 35 ∷ 36 ∷ 38 ∷ []))) (17 ∷ 36 ∷ [])
+    -- attachment 5 hides them wherever it stands, and no other id does
+    ∷ example (found (sheet (one 5) allSix) ++ (found (sheet (9 ∷ 5 ∷ []) allSix) ++ (found (sheet (5 ∷ 9 ∷ []) allSix) ++ found (sheet (2 ∷ 9 ∷ 5 ∷ 6 ∷ []) allSix)))) []
+    ∷ example (joined (map (λ (i : ℕ). found (sheet (one i) (one 27))) (upFrom 1 4 ++ upFrom 6 10))) (replicate 14 27)
+    -- the call: its number, its bytes and the rest of the output; with attachment 5 an empty output will do
+    ∷ example (finds freshBytes ++ (finds (stated allSix) ++ finds (stated (17 ∷ 18 ∷ 36 ∷ [])))) (tells [] ++ (tells allSix ++ tells (one 36)))
+    ∷ example (wrote (find allYes (claim allYes (stated allSix) (put5 ∷ []) .state) [])) (1 ∷ 1 ∷ 0 ∷ 0 ∷ [])
+    ∷ example (quantities (find allYes (stated allSix) (replicate 6 9) .answer)) (one 3)
+    -- 13: one byte short, just enough, none needed; the report's refusals come first, and no byte is written
+    ∷ example (wrote (find allYes (stated allSix) (replicate 5 9)) ++ wrote (find allYes (stated allSix) (replicate 6 9))) (refuses 13 0 ++ (replicate 5 9 ++ (1 ∷ 1 ∷ 0 ∷ 6 ∷ allSix)))
+    ∷ example (wrote (find allYes (stated (17 ∷ 36 ∷ [])) (9 ∷ 9 ∷ [])) ++ wrote (find allYes (stated (17 ∷ 36 ∷ [])) (one 9)))
+    (1 ∷ 1 ∷ 0 ∷ 2 ∷ 17 ∷ 36 ∷ (refuses 13 0 ++ one 9))
+    ∷ example (wrote (find allYes (stated (one 36)) []) ++ wrote (find allYes freshBytes [])) (refuses 13 0 ++ (1 ∷ 1 ∷ 0 ∷ 0 ∷ []))
+    ∷ example (wrote (find allYes (spoilt (stated allSix)) (one 9)) ++ wrote (find allYes [] (one 9))) (refuses 4 0 ++ (9 ∷ (refuses 1 0 ++ one 9)))
+    ∷ example (wrote (find noA withA (one 9))) (refuses 6 1 ++ one 9)
+    -- rows that ascend, and rows that do not
+    ∷ example
+    (map (λ (xs : List ℕ). cond (ascendingFrom 0 xs) 1 0) ([] ∷ one 1 ∷ one 0 ∷ (1 ∷ 2 ∷ 9 ∷ []) ∷ (1 ∷ 1 ∷ []) ∷ (1 ∷ 3 ∷ 2 ∷ []) ∷ (2 ∷ 1 ∷ []) ∷ (9 ∷ 5 ∷ []) ∷ []))
+    (1 ∷ 1 ∷ 0 ∷ 1 ∷ 0 ∷ 0 ∷ 0 ∷ 0 ∷ [])
+    -- clearing a field takes its indicator along; D that is missing already takes DI; WI, lost before, stays
+    ∷ example (presentAfter 18 (17 ∷ 18 ∷ 19 ∷ 20 ∷ []) ++ presentAfter 18 (17 ∷ 19 ∷ [])) (19 ∷ 20 ∷ 19 ∷ [])
+    ∷ example
+    (presentAfter 20 (17 ∷ 18 ∷ 19 ∷ 20 ∷ []) ++ (presentAfter 22 (21 ∷ 22 ∷ 23 ∷ []) ++ presentAfter 37 (35 ∷ 36 ∷ 37 ∷ 38 ∷ [])))
+    (17 ∷ 18 ∷ 23 ∷ 35 ∷ 38 ∷ [])
+    -- S takes BI, and TI only where A, WB and DPT are missing too
+    ∷ example (presentAfter 31 (27 ∷ 31 ∷ 32 ∷ [])) []
+    ∷ example (joined (map (λ (k : ℕ). presentAfter 31 (27 ∷ k ∷ 31 ∷ 32 ∷ [])) (upFrom 28 3))) (27 ∷ 28 ∷ 27 ∷ 29 ∷ 27 ∷ 30 ∷ [])
+    -- A, WB and DPT take TI as the last of the four, and never BI
+    ∷ example (joined (map (λ (k : ℕ). presentAfter k (27 ∷ k ∷ 32 ∷ [])) (upFrom 28 3))) (32 ∷ 32 ∷ 32 ∷ [])
+    ∷ example (joined (map (λ (k : ℕ). presentAfter k (27 ∷ k ∷ 31 ∷ 32 ∷ [])) (upFrom 28 3))) (joined (replicate 3 (27 ∷ 31 ∷ 32 ∷ [])))
+    -- an indicator is cleared alone, and so is a field on which nothing rests
+    ∷ example (joined (map (λ (k : ℕ). presentAfter k (17 ∷ 18 ∷ 27 ∷ 32 ∷ [])) (17 ∷ 27 ∷ 32 ∷ 23 ∷ [])))
+    (18 ∷ 27 ∷ 32 ∷ 17 ∷ 18 ∷ 32 ∷ 17 ∷ 18 ∷ 27 ∷ 17 ∷ 18 ∷ 27 ∷ 32 ∷ [])
+    -- also where attachment 5 stands: S takes TI and BI, and TI stays beside A; the attachment stays
+    ∷ example (presentIn (made (sheet (one 5) (27 ∷ 31 ∷ 32 ∷ [])) (clearWithIndicators 31))) []
+    ∷ example (presentIn (made (sheet (one 5) (27 ∷ 28 ∷ 31 ∷ 32 ∷ [])) (clearWithIndicators 31))) (27 ∷ 28 ∷ [])
+    ∷ example (tailNibbles (made (sheet (9 ∷ 5 ∷ []) (one 31)) (clearWithIndicators 31) .attachments)) (0 ∷ 1 ∷ 9 ∷ 1 ∷ 0 ∷ 1 ∷ 5 ∷ 1 ∷ [])
+    -- found afterwards: what was lost before, and nothing that rests on the field
+    ∷ example
+    (found (made (sheet [] (17 ∷ 18 ∷ 19 ∷ [])) (clearWithIndicators 18)) ++ (found (made (sheet [] (27 ∷ 28 ∷ 32 ∷ [])) (clearWithIndicators 28))
+    ++ found (made (sheet [] allSix) (clearWithIndicators 31))))
+    (19 ∷ 32 ∷ 17 ∷ 19 ∷ 21 ∷ 36 ∷ [])
+    -- the buffer: RPTIN stays, and so does the room; in a list, where attachment 5 has stood meanwhile
+    ∷ example (effect allYes (2 ∷ 1 ∷ drop 2 (stated (17 ∷ 18 ∷ []))) (clearing 18) .buffer) (2 ∷ 1 ∷ drop 2 roomy)
+    ∷ example (claim allYes (stated (17 ∷ 18 ∷ [])) (put5 ∷ clearing 18 ∷ edits (remove 5) ∷ []) .state) (freshBytes ++ (0 ∷ 0 ∷ replicate 20 5))
+    -- the former value of the field that is named, and not that of an indicator
+    ∷ example
+    (answersOf freshBytes
+    (edits (setField 17 (scaled (pos 3))) ∷ edits (setField 18 (scaled (pos 240))) ∷ clearing 18 ∷ reads (readField 17) ∷ edits (setField 17 (scaled (pos 3))) ∷ clearing 18
+    ∷ reads (readField 17) ∷ []))
+    (1 ∷ 0 ∷ 1 ∷ 0 ∷ 1 ∷ 1 ∷ 0 ∷ 240 ∷ 1 ∷ 0 ∷ 1 ∷ 0 ∷ 1 ∷ 0 ∷ 1 ∷ 0 ∷ [])
+    -- the bytes on the way: DI 3 and D 240 set; D cleared without its indicator
+    ∷ example (claim allYes freshBytes (edits (setField 17 (scaled (pos 3))) ∷ edits (setField 18 (scaled (pos 240))) ∷ []) .state)
+    (take 13 freshBytes ++ (0x08 ∷ 0xF0 ∷ (replicate 21 0 ++ (0xE5 ∷ 0x00 ∷ []))))
+    ∷ example (claim allYes freshBytes (edits (setField 17 (scaled (pos 3))) ∷ edits (setField 18 (scaled (pos 240))) ∷ edits (clearField 18) ∷ []) .state)
+    (take 13 freshBytes ++ (0x08 ∷ (replicate 22 0 ++ (0xF4 ∷ 0x00 ∷ []))))
+    -- TI 1, A 198, S 286, BI 2: S takes BI, and A then TI
+    ∷ example
+    (answersOf freshBytes
+    (edits (setField 27 (scaled (pos 1))) ∷ edits (setField 28 (scaled (pos 198))) ∷ edits (setField 31 (scaled (pos 286))) ∷ edits (setField 32 (scaled (pos 2)))
+    ∷ clearing 31 ∷ reads (readField 32) ∷ reads (readField 27) ∷ clearing 28 ∷ reads (readField 27) ∷ []))
+    (1 ∷ 0 ∷ 1 ∷ 0 ∷ 1 ∷ 0 ∷ 1 ∷ 0 ∷ 1 ∷ 1 ∷ 0 ∷ 286 ∷ 1 ∷ 0 ∷ 1 ∷ 1 ∷ 0 ∷ 1 ∷ 1 ∷ 1 ∷ 0 ∷ 198 ∷ 1 ∷ 0 ∷ [])
+    ∷ example (answersOf freshBytes (edits (setField 32 (scaled (pos 2))) ∷ clearing 32 ∷ clearing 32 ∷ edits (setField 31 (scaled (pos 0))) ∷ clearing 31 ∷ []))
+    (1 ∷ 0 ∷ 1 ∷ 1 ∷ 0 ∷ 2 ∷ 1 ∷ 0 ∷ 1 ∷ 0 ∷ 1 ∷ 1 ∷ 0 ∷ 0 ∷ [])
+    ∷ example (quantities (effect allYes sBytes (clearing 31) .answer) ++ quantities (effect allYes freshBytes (clearing 31) .answer)) (1 ∷ 1 ∷ [])
+    -- DAY, and the last field
+    ∷ example (answersOf (stated (4 ∷ 46 ∷ [])) (clearing 4 ∷ clearing 46 ∷ [])) (1 ∷ 1 ∷ 0 ∷ 1 ∷ 1 ∷ 1 ∷ 0 ∷ 0 ∷ [])
+    -- the refusals of clear field: 8, 10; the report first
+    ∷ example (answersOf freshBytes (map clearing (0 ∷ 47 ∷ 260 ∷ 1 ∷ 2 ∷ 3 ∷ 6 ∷ 7 ∷ [])))
+    (joined (replicate 3 (refuses 8 0)) ++ (refuses 10 1 ++ (refuses 10 2 ++ (refuses 10 3 ++ (refuses 10 6 ++ refuses 10 7)))))
+    ∷ example (answersOf (spoilt sBytes) (clearing 18 ∷ clearing 0 ∷ clearing 3 ∷ [])) (joined (replicate 3 (refuses 4 0)))
+    ∷ example (under noA withA (clearing 18 ∷ [])) (refuses 6 1)
+    -- the clears for which it stands, and what they leave
+    ∷ example (clearsOf (sheet [] (27 ∷ 31 ∷ [])) 31 ++ (clearsOf (sheet [] (28 ∷ 31 ∷ [])) 31 ++ clearsOf (sheet [] []) 30)) (31 ∷ 27 ∷ 32 ∷ 31 ∷ 32 ∷ 30 ∷ 27 ∷ [])
+    ∷ example (joined (map (clearsOf (sheet [] [])) allSix)) allSix
+    ∷ example (map clearName (clearCalls sBytes 31) ++ map clearName (clearCalls (stated (28 ∷ 31 ∷ [])) 31)) (31 ∷ 27 ∷ 32 ∷ 31 ∷ 32 ∷ [])
+    ∷ besideClears (stated (27 ∷ 28 ∷ 31 ∷ 32 ∷ [])) 31
+    ∷ besideClears (stated (17 ∷ 19 ∷ 36 ∷ 37 ∷ [])) 37
+    ∷ besideClears sBytes 3
+    ∷ besideClears (spoilt sBytes) 18
+    ∷ []
+
+pub indicators-hold : T (every lostData)
+unfolding lowest withLowest sheet presentFrom presentIn presentAfter stated wrote finds tells allSix clearing put5 clearName besideClears lostData
+    indicators fieldsWhere restingOn dataMissing lostOn clearsOf clearEach lostIndicators found
+    findChecks find ascendingFrom noA withA under without rows spoilt upFrom one quantityNumber quantities flagless put1 reportWith reportOf highestCodes
+    signed optional given refusal answer joined answers yes refuses example freshBytes sBytes answersOf roomy wide same every first
+    table fieldAt required scaledOf codedOf inRange entryOf codeOf entries codes bits number bitsOf bitField total readFields writeFields nibbles bytes padded
+    attachmentNibbles tailNibbles attachmentsOf among weights weight totalWeight allMissing qualityCode allYes flagsFit flagBody withFlag flagsValid charCode short
+    pairByte codeNibbles byteOf originOf symbolOf symbolsIn admitted allAdmitted allMarks setOfSource setOfNumber deckSet setNumber plainly putPlain isSpace
+    symbolNibbles fulls rest spaceRun writeFrom writeText spaces textStep stateAfter symbolsOf readFrom endFrom atEnd textValid readText widths checksum cardNumbers
+    cardNibbles packing observationOf fieldChecks bodyValid attachmentChecks reportChecks judge stands contentOf putIn removeFrom made readGives gives outputsOf writes overfull
+    overEach allNibbles callChecks checks step layout effect course calls run claim
+indicators-hold = tt

@@ -7,12 +7,13 @@ use lib.ListN.{length, getD, drop, set}
 use lib.Dec.{ltb, leb, eqb}
 use lib.IntN.{ℤ, pos}
 use Rattle.format.specs.Order.{Refusal, Check, check, first, between, allMarks}
-use Rattle.format.specs.Field.{fieldAt, isField, required, inRange}
+use Rattle.format.specs.Field.{fieldAt, isField, required, inRange, isPresent}
 use Rattle.format.specs.Nibbles.{Attachment, attachment}
 use Rattle.format.specs.Flags.{isFlag, FlagTable, flagInRange, flagAt, withFlag}
 use Rattle.format.specs.ShipText.{Symbol, byteOf, originOf, symbolsIn, allAdmitted, writeText, nibbleCount, readText, deckSet, setNumber}
 use Rattle.format.specs.Observation.{Observation, observation, size}
 use Rattle.format.specs.Report.{bodyValid}
+use Rattle.format.specs.Indicators.{Indicator, indicators, fieldsWhere, restsOn}
 use Rattle.format.specs.declared.Scaled.{Scaled}
 
 -- the calls, each with all that it is lent, in three groups
@@ -22,10 +23,12 @@ pub data Reading : Type 0 where
   readField : ℕ → Reading
   readFlag : ℕ → Reading
 
--- those that edit: set k to v; clear k; set, clear flag j; put id, content; drop id; put text with a mark of origin for each symbol
+-- those that edit: set k to v; clear k; clear k with its indicators; set, clear flag j; put id, content; drop id; put text with a mark of
+-- origin for each symbol
 pub data Editing : Type 0 where
   setField : ℕ → Scaled → Editing
   clearField : ℕ → Editing
+  clearWithIndicators : ℕ → Editing
   setFlag : ℕ → ℕ → Editing
   clearFlag : ℕ → Editing
   put : ℕ → List ℕ → Editing
@@ -84,10 +87,34 @@ shipText s = readText (content s 4)
 
 -- ---- a step that is not refused
 
+-- field k cleared
+abbrev pub cleared : Observation → ℕ → Observation
+cleared s k = withValue s k none
+
+-- these fields cleared, one after the other
+unfoldable pub clearEach : Observation → List ℕ → Observation
+clearEach s [] = s
+clearEach s (k ∷ ks) = clearEach (cleared s k) ks
+
+-- all of these fields are missing
+unfoldable pub dataMissing : Observation → List ℕ → Bool
+dataMissing s [] = true
+dataMissing s (k ∷ ks) = not (isPresent (valueAt s k)) && dataMissing s ks
+
+-- the indicators that rest on field k and whose data are all missing, whether or not they are present
+unfoldable pub lostOn : Observation → ℕ → List ℕ
+lostOn s k = fieldsWhere (λ (i : Indicator). restsOn i k && dataMissing s (i .basis)) indicators
+
+-- the clears for which clear k with its indicators stands, in their order: k, and each indicator that rests on it and has then lost its
+-- data
+unfoldable pub clearsOf : Observation → ℕ → List ℕ
+clearsOf s k = k ∷ lostOn (cleared s k) k
+
 -- the observation that an edit makes
 unfoldable pub made : Observation → Editing → Observation
 made s (setField k v) = withValue s k (some v)
-made s (clearField k) = withValue s k none
+made s (clearField k) = cleared s k
+made s (clearWithIndicators k) = clearEach s (clearsOf s k)
 made s (setFlag j v) = withContent s 1 (withFlag (content s 1) j v)
 made s (clearFlag j) = withContent s 1 (withFlag (content s 1) j 0)
 made s (put i ns) = withContent s i ns
@@ -112,7 +139,7 @@ next s c = afterEdit s (edited s c)
 pub data Quantity : Type 0 where
   value : Quantity  -- a field's scaled value
   flag : Quantity  -- a flag's value
-  count : Quantity  -- how many bytes a fetch wrote to each output
+  count : Quantity  -- how many bytes a fetch wrote to each output, or the finding call to its own
   word : Quantity  -- the presence word
   present : Quantity  -- how many fields are present
   rptin : Quantity  -- RPTIN
@@ -154,11 +181,12 @@ readGives s (readField k) = valueGiven (valueAt s k)
 readGives s (readFlag j) = flagGiven (flagAt (content s 1) j)
 
 -- what a step gives. Set and clear give the former value: what stood in the observation before the step, as the read of that field
--- or flag gives it
+-- or flag gives it. Clear with indicators gives that of k alone
 unfoldable pub gives : Observation → Call → List Given
 gives s (reads r) = readGives s r ∷ []
 gives s (edits (setField k v)) = readGives s (readField k) ∷ []
 gives s (edits (clearField k)) = readGives s (readField k) ∷ []
+gives s (edits (clearWithIndicators k)) = readGives s (readField k) ∷ []
 gives s (edits (setFlag j v)) = readGives s (readFlag j) ∷ []
 gives s (edits (clearFlag j)) = readGives s (readFlag j) ∷ []
 gives s (edits (put i ns)) = []
@@ -241,6 +269,10 @@ pairedCheck t os = check (not (eqb (length t) (length os))) 13 0
 abbrev pub symbolsCheck : List ℕ → List ℕ → Check
 symbolsCheck t os = check (not (allMarks os && allAdmitted (symbolsIn t os))) 14 0
 
+-- clearing a field, with or without its indicators: 8, 10
+abbrev pub clearChecks : ℕ → List Check
+clearChecks k = fieldNumberCheck k ∷ requiredCheck k ∷ []
+
 -- a call's checks before the last one, which is 13 for room: as far as it has them 8, 9, 10, 11, 12, 14, in this order; put text has
 -- 13 and 14 of its own before 12. FORMAT 6.1 leaves out what never applies: the second 14 of put text, and 13 of a call that
 -- lengthens no report and has no output
@@ -248,7 +280,8 @@ unfoldable pub callChecks : FlagTable → Observation → Call → List Check
 callChecks marks s (reads (readField k)) = fieldNumberCheck k ∷ []
 callChecks marks s (reads (readFlag j)) = flagNumberCheck j ∷ standsCheck s 1 ∷ []
 callChecks marks s (edits (setField k v)) = fieldNumberCheck k ∷ valueCheck k v ∷ []
-callChecks marks s (edits (clearField k)) = fieldNumberCheck k ∷ requiredCheck k ∷ []
+callChecks marks s (edits (clearField k)) = clearChecks k
+callChecks marks s (edits (clearWithIndicators k)) = clearChecks k
 callChecks marks s (edits (setFlag j v)) = flagNumberCheck j ∷ flagValueCheck marks j v ∷ standsCheck s 1 ∷ []
 callChecks marks s (edits (clearFlag j)) = flagNumberCheck j ∷ standsCheck s 1 ∷ []
 callChecks marks s (edits (put i ns)) = idCheck i ∷ lengthCheck ns ∷ contentCheck marks i ns ∷ []

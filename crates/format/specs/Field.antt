@@ -1,6 +1,6 @@
 -- FORMAT 2.2 and 2.3: the field table; the coded number and the scaled value of a field.
 use Prim.Native.Nat.{ℕ, _-_}
-use mathlib.Core.Bool.{Bool, cond, _&&_, _||_}
+use mathlib.Core.Bool.{Bool, true, false, cond, _&&_, _||_}
 use mathlib.Core.List.{List, [], _∷_}
 use mathlib.Core.Option.{Option, none, some}
 use lib.ListN.{getD}
@@ -122,6 +122,10 @@ inRange f v = leZ (f .base +ℤ pos 1) (v .0) && leZ (v .0) (f .base +ℤ pos (f
 -- a field's entry in an observation: missing where the coded number is 0
 unfoldable pub entryOf : Field → Coded → Option Scaled
 entryOf f c = cond (eqb (c .0) 0) none (some (scaledOf f c))
+
+abbrev pub isPresent : Option Scaled → Bool
+isPresent none = false
+isPresent (some v) = true
 
 unfoldable pub codeOf : Field → Option Scaled → Coded
 codeOf f none = coded 0

@@ -6,6 +6,7 @@ pub mod Flags
 pub mod ShipText
 pub mod Observation
 pub mod Report
+pub mod Indicators
 pub mod Calls
 pub mod Reply
 pub mod Display
@@ -14,4 +15,5 @@ pub mod Buffer
 pub mod Whole
 pub mod Loading
 pub mod Costliest
+pub mod Finding
 pub mod Lister

@@ -1,4 +1,4 @@
--- FORMAT 6.1: what the code answers to the eleven calls and to the costliest text (7.9): the number and place of the refusal, or what is given, for each case.
+-- FORMAT 6.1: what the code answers to the twelve calls, to the costliest text (7.9) and to the finding call (7.10): the number and place of the refusal, or what is given, for each case.
 use Prim.Native.Nat.{ℕ}
 use mathlib.Core.Path.{_≡_}
 use mathlib.Core.List.{List, [], _∷_}

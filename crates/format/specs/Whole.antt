@@ -1,13 +1,13 @@
 -- FORMAT 7.2 to 7.4: fresh, unpack and pack.
 use Prim.Native.Nat.{ℕ, zero, suc, _+_, _/_, _%_, _^_}
-use mathlib.Core.Bool.{Bool, true, false, cond, not, _&&_, _||_}
+use mathlib.Core.Bool.{Bool, cond, not, _&&_, _||_}
 use mathlib.Core.List.{List, [], _∷_, _++_, map}
 use mathlib.Core.Option.{Option, none, some}
 use lib.ListN.{length, take, replicate}
 use lib.Dec.{ltb, eqb}
 use lib.IntN.{ℤ, pos}
 use Rattle.format.specs.Order.{Refusal, Check, check, first}
-use Rattle.format.specs.Field.{Field, table, required, inRange, scaled, BOX10, YEAR, MONTH, X, Y}
+use Rattle.format.specs.Field.{Field, table, required, inRange, scaled, isPresent, BOX10, YEAR, MONTH, X, Y}
 use Rattle.format.specs.Nibbles.{attachmentsOf, tailNibbles, behind}
 use Rattle.format.specs.Flags.{FlagTable}
 use Rattle.format.specs.Observation.{Observation, observation, packing, size}
@@ -37,8 +37,8 @@ pub record Wrote : Type 0 where
   pub out : List ℕ
 
 abbrev pub wroteBy : Option Refusal → List Given → List ℕ → List ℕ → Wrote
-wroteBy (some r) gs report out = record { answer = refused r; out = out }
-wroteBy none gs report out = record { answer = accepted gs; out = over report out }
+wroteBy (some r) gs xs out = record { answer = refused r; out = out }
+wroteBy none gs xs out = record { answer = accepted gs; out = over xs out }
 
 unfoldable pub fresh : Scaled → Scaled → Scaled → Scaled → Scaled → List ℕ → Wrote
 fresh box10 year month x y out =
@@ -50,10 +50,6 @@ fresh box10 year month x y out =
 abbrev pub valueOrZero : Option Scaled → ℤ
 valueOrZero none = pos 0
 valueOrZero (some v) = v .0
-
-abbrev pub isPresent : Option Scaled → Bool
-isPresent none = false
-isPresent (some v) = true
 
 -- the presence word of the entries from field k on: 2 ^ k for each that is present
 unfoldable pub presenceFrom : ℕ → List (Option Scaled) → ℕ

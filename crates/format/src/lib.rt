@@ -46,7 +46,7 @@ pub enum Reply {
     // A flag's value, 1 to 10, or that the flag is missing.
     Flag(u8),
     MissingFlag,
-    // How many bytes a fetch wrote.
+    // How many bytes a fetch wrote, or the finding of indicators.
     Count(usize),
     // How many nibbles of content a put of the ship text wrote.
     Nibbles(u8),

@@ -9,7 +9,7 @@ use mathlib.Core.Bool.{Bool, true, false, cond, not, _&&_}
 use mathlib.Core.List.{List, [], _∷_, _++_}
 use mathlib.Core.Option.{Option, none, some}
 use lib.ListN.{length, getD}
-use lib.Dec.{eqb}
+use lib.Dec.{ltb, eqb}
 use lib.IntN.{ℤ, pos, negsuc, _+ℤ_}
 use lib.Signed.{leZ, mag}
 use borrow.Author.Tests.{leb-true}
@@ -21,9 +21,11 @@ use Rattle.format.specs.Flags.{FlagTable, flagAt}
 use Rattle.format.specs.ShipText.{symbolsIn, nibbleCount, DeckSet, unknown, ebcdic, ascii, deckSet, setNumber}
 use Rattle.format.specs.Observation.{Observation, widths, size}
 use Rattle.format.specs.Report.{codesOf, countOf, tailOf, fieldChecks, attachmentChecks, reportChecks, observationOf, Verdict, verdict, judge}
-use Rattle.format.specs.Calls.{Call, Reading, reads, edits, fetches, readField, setField, clearField, readFlag, setFlag, clearFlag, put, fetch, remove, putText, fetchText}
-use Rattle.format.specs.Calls.{contentOf, content, shipText, valueNumber, Given, readGives, gives, roomCheck, callChecks, checks, Answer, refused, accepted, steppedBy, step}
+use Rattle.format.specs.Calls.{Call, Reading, reads, edits, fetches, readField, setField, clearField, clearWithIndicators, readFlag, setFlag, clearFlag, put, fetch, remove, putText, fetchText}
+use Rattle.format.specs.Calls.{contentOf, content, shipText, valueNumber, count, counted, Given, readGives, gives, roomCheck, callChecks, checks, Answer, refused, accepted, steppedBy, step}
 use Rattle.format.specs.Buffer.{Shown, Standing, standing, stepping, run, effectOn, effect, refusals, claimOn, claim}
+use Rattle.format.specs.Whole.{wroteBy}
+use Rattle.format.specs.Finding.{found, findChecks, findOn, find}
 use Rattle.format.specs.declared.Scaled.{Scaled}
 use Rattle.laws.proofs.Sequences.{and-true, true-false, cond-case}
 use Rattle.laws.proofs.Order.{between-in, first-none, first-append-some, first-append-skip, first-append-none}
@@ -35,6 +37,7 @@ use Rattle.laws.proofs.ShipText.{read-text-length, text-cost}
 use Rattle.laws.proofs.Report.{Good, judged, size-within}
 use Rattle.laws.proofs.WholeList.{Kept, step-kept}
 use Rattle.laws.proofs.Machine.{Each, each-answer}
+use Rattle.laws.proofs.Indicators.{found-few}
 
 -- ---- what fits
 
@@ -143,6 +146,7 @@ calls-near marks s (reads (readField k)) = number-near 1 46 k _ (λ h. near-nil 
 calls-near marks s (reads (readFlag j)) = number-near 1 14 j _ (λ h. near-one Close _ (omega arith))
 calls-near marks s (edits (setField k v)) = number-near 1 46 k _ (λ h. near-one Close _ (omega arith))
 calls-near marks s (edits (clearField k)) = number-near 1 46 k _ (λ h. near-one Close _ (omega arith))
+calls-near marks s (edits (clearWithIndicators k)) = number-near 1 46 k _ (λ h. near-one Close _ (omega arith))
 calls-near marks s (edits (setFlag j v)) = number-near 1 14 j _ (λ h. near-cons Close _ _ (omega arith) (λ q. near-one Close _ (omega arith)))
 calls-near marks s (edits (clearFlag j)) = number-near 1 14 j _ (λ h. near-one Close _ (omega arith))
 calls-near marks s (edits (put i ns)) = number-near 1 15 i _ (λ h. near-cons Close _ _ (omega arith) (λ q. near-one Close _ (omega arith)))
@@ -229,6 +233,7 @@ unfolding gives
 gives-fit marks s (reads r) g e = (read-fits marks s r g, tt)
 gives-fit marks s (edits (setField k v)) g e = (read-fits marks s (readField k) g, tt)
 gives-fit marks s (edits (clearField k)) g e = (read-fits marks s (readField k) g, tt)
+gives-fit marks s (edits (clearWithIndicators k)) g e = (read-fits marks s (readField k) g, tt)
 gives-fit marks s (edits (setFlag j v)) g e = (read-fits marks s (readFlag j) g, tt)
 gives-fit marks s (edits (clearFlag j)) g e = (read-fits marks s (readFlag j) g, tt)
 gives-fit marks s (edits (put i ns)) g e = tt
@@ -260,6 +265,18 @@ effect-fits marks b c h = go (judge marks b) refl
     go : (v : Verdict) → judge marks b ≡ v → AnswerFits (effectOn marks v b c .answer)
     go (Verdict.refused r) q = omega (arith, judge-close marks b r q .0)
     go (Verdict.accepted s) q = step-fits marks (length b) s c (judged marks b s h q .good)
+
+-- of the finding call: six at most
+pub find-fits : (marks : FlagTable) (b out : List ℕ) → AnswerFits (find marks b out .answer)
+unfolding find findChecks first
+find-fits marks b out = go (judge marks b) refl
+  where
+    go : (v : Verdict) → judge marks b ≡ v → AnswerFits (findOn v out .answer)
+    go (Verdict.refused r) q = omega (arith, judge-close marks b r q .0)
+    go (Verdict.accepted s) q =
+        cond-case (λ (o : Option Refusal). AnswerFits (wroteBy o (counted count (length (found s)) ∷ []) (found s) out .answer)) (ltb (length out) (length (found s))) _ _
+        (λ _. omega arith)
+        (λ _. (omega (arith, found-few s), tt))
 
 -- every answer of a list
 abbrev pub ShownFits : Call → Shown → Type 0

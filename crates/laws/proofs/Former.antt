@@ -8,7 +8,7 @@ use Rattle.format.specs.Order.{first}
 use Rattle.format.specs.Bits.{Bytes}
 use Rattle.format.specs.Flags.{FlagTable}
 use Rattle.format.specs.Observation.{Observation}
-use Rattle.format.specs.Calls.{Reading, Editing, reads, edits, readField, setField, clearField, readFlag, setFlag, clearFlag, fieldNumberCheck, flagNumberCheck, standsCheck}
+use Rattle.format.specs.Calls.{Reading, Editing, reads, edits, readField, setField, clearField, clearWithIndicators, readFlag, setFlag, clearFlag, fieldNumberCheck, flagNumberCheck, standsCheck}
 use Rattle.format.specs.Calls.{gives, callChecks, Answer}
 use Rattle.format.specs.Buffer.{After, after, effect, asRead}
 use Rattle.format.specs.declared.Scaled.{Scaled}
@@ -19,6 +19,7 @@ use Rattle.laws.proofs.Effects.{read-done, accepts}
 pub data Matches : Editing → Reading → Type 0 where
   sets-field : {k : ℕ} {v : Scaled} → Matches (setField k v) (readField k)
   clears-field : {k : ℕ} → Matches (clearField k) (readField k)
+  clears-with : {k : ℕ} → Matches (clearWithIndicators k) (readField k)
   sets-flag : {j v : ℕ} → Matches (setFlag j v) (readFlag j)
   clears-flag : {j : ℕ} → Matches (clearFlag j) (readFlag j)
 
@@ -26,6 +27,7 @@ same-given : (s : Observation) {e : Editing} {r : Reading} → Matches e r → g
 unfolding gives
 same-given s sets-field = refl
 same-given s clears-field = refl
+same-given s clears-with = refl
 same-given s sets-flag = refl
 same-given s clears-flag = refl
 
@@ -34,6 +36,7 @@ read-passes : (marks : FlagTable) (s : Observation) {e : Editing} {r : Reading} 
 unfolding callChecks
 read-passes marks s (sets-field {k = k}) p = no-check (fieldNumberCheck k) [] (first-none _ _ p .0) first-nil
 read-passes marks s (clears-field {k = k}) p = no-check (fieldNumberCheck k) [] (first-none _ _ p .0) first-nil
+read-passes marks s (clears-with {k = k}) p = no-check (fieldNumberCheck k) [] (first-none _ _ p .0) first-nil
 read-passes marks s (sets-flag {j = j}) p = no-check (flagNumberCheck j) (standsCheck s 1 ∷ []) (first-none _ _ p .0) (first-none _ _ (first-none _ _ p .1) .1)
 read-passes marks s clears-flag p = p
 

@@ -5,9 +5,9 @@ use native.Mathlib.Omega.{arith}
 use mathlib.Core.Path.{_≡_, refl, sym, ap, ap₂, _∙_}
 use mathlib.Core.Bool.{Bool, true, false, cond}
 use mathlib.Core.List.{List, [], _∷_, _++_, append-assoc}
-use mathlib.Core.Option.{Option}
-use lib.ListN.{length, getD, drop, set, replicate, length-append, length-set, replicate-append-replicate}
-use lib.Seq.{drop-at, set-at, set-append-left}
+use mathlib.Core.Option.{Option, none}
+use lib.ListN.{length, getD, take, drop, set, replicate, length-append, length-set, replicate-append-replicate}
+use lib.Seq.{take-at, drop-at, set-at, set-append-left}
 use borrow.Author.Tests.{eqb-true, eqb-false}
 use Rattle.format.specs.Field.{table, fieldAt, codes, codeOf}
 use Rattle.format.specs.Bits.{readFields, writeFields, total, Bytes}
@@ -15,7 +15,7 @@ use Rattle.format.specs.Flags.{FlagTable}
 use Rattle.format.specs.Nibbles.{Attachment, nibbles, odd, tailNibbles, Nibbles}
 use Rattle.format.specs.Observation.{Observation, widths, checksum, cardNumbers, cardNibbles, packing, size}
 use Rattle.format.specs.Report.{numbersOf, tailOf, Verdict, judge}
-use Rattle.format.specs.Calls.{withValue, withAttachments, over}
+use Rattle.format.specs.Calls.{withValue, withAttachments, clearEach, over}
 use Rattle.format.specs.Buffer.{zeros, layout}
 use Rattle.format.specs.declared.Scaled.{Scaled}
 use Rattle.laws.proofs.Bits.{append-below}
@@ -23,6 +23,7 @@ use Rattle.laws.proofs.Nibbles.{nibbles-append, nibbles-drop, nibbles-i
 use Rattle.laws.proofs.Card.{card-length, card-lt, card-front}
 use Rattle.laws.proofs.Fields.{noField, table-length, length-codes, codes-set}
 use Rattle.laws.proofs.Attachments.{fine-nibbles}
+use Rattle.laws.proofs.Indicators.{AllOf, Free}
 use Rattle.laws.proofs.Report.{size-is, judged, within}
 use Rattle.laws.proofs.WholeList.{layout-same}
 
@@ -114,24 +115,67 @@ field-laid marks b c s t bs j same bc long card behind =
     layout-is b (size s) t (rw same (fine-nibbles marks (judged marks b s bs j .good .fine))) c bc (omega (arith, within marks b s bs j)) card
     (rw (m, same) (behind ∙ tail-taken marks b s bs j))
 
+-- the numbers of an observation's card, with any number x for its checksum
+abbrev numbersWith : Observation → ℕ → List ℕ
+numbersWith s x = s .rptin ∷ (codes table (s .values) ++ (x ∷ length (s .attachments) ∷ []))
+
+codes-long : (s : Observation) → length (s .values) ≡ 46 → length (codes table (s .values)) ≡ 46
+codes-long s l = length-codes table (s .values) (l ∙ sym table-length) ∙ table-length
+
+-- with another code in field k, and with another checksum
+code-set : (s : Observation) (x k : ℕ) (e : Option Scaled) → length (s .values) ≡ 46 → 1 ≤ k → k ≤ 46
+    → set (numbersWith s x) k (codeOf (fieldAt k) e .0) ≡ numbersWith (withValue s k e) x
+unfolding fieldAt
+code-set s x zero e l h m = absurd (omega arith)
+code-set s x (suc k) e l h m =
+    let i : suc k - 1 ≡ k = omega arith in
+    let ends = x ∷ length (s .attachments) ∷ [] in
+    rw i
+    (ap (λ (y : List ℕ). s .rptin ∷ y)
+    (set-append-left (codes table (s .values)) ends k (codeOf (getD table k noField) e .0) (omega (arith, codes-long s l))
+    ∙ ap (λ (cs : List ℕ). cs ++ ends) (sym (codes-set table (s .values) k e))))
+
+checksum-set : (s : Observation) (x y : ℕ) → length (s .values) ≡ 46 → set (numbersWith s x) 47 y ≡ numbersWith s y
+checksum-set s x y l = ap (λ (ns : List ℕ). s .rptin ∷ ns) (set-at (codes table (s .values)) x (length (s .attachments) ∷ []) y 46 (codes-long s l))
+
 -- the numbers of a card with another entry at field k: its code, and the checksum of the codes so changed
 pub value-numbers : (s : Observation) (k : ℕ) (e : Option Scaled) → length (s .values) ≡ 46 → 1 ≤ k → k ≤ 46
     → cardNumbers (withValue s k e)
     ≡ set (set (cardNumbers s) k (codeOf (fieldAt k) e .0)) 47 (checksum (set (codes table (s .values)) (k - 1) (codeOf (fieldAt k) e .0)))
 unfolding cardNumbers fieldAt
-value-numbers s zero e l h m = absurd (omega arith)
-value-numbers s (suc k) e l h m =
-    let cs = codes table (s .values) in
-    let c = codeOf (getD table k noField) e .0 in
-    let n = length (s .attachments) in
-    let i : suc k - 1 ≡ k = omega arith in
-    let long : length (codes table (s .values)) ≡ 46 = length-codes table (s .values) (l ∙ sym table-length) ∙ table-length in
-    let left = set-append-left (codes table (s .values)) (checksum cs ∷ n ∷ []) k c (omega arith) in
-    let sum = checksum (set (codes table (s .values)) k c) in
-    let end = set-at (set (codes table (s .values)) k c) (checksum cs) (n ∷ []) sum 46 (length-set (codes table (s .values)) k c ∙ long) in
-    rw i
-    (ap (λ (x : List ℕ). s .rptin ∷ x)
-    (ap (λ (x : List ℕ). x ++ (checksum x ∷ n ∷ [])) (codes-set table (s .values) k e) ∙ sym (ap (λ (x : List ℕ). set x 46 sum) left ∙ end)))
+value-numbers s k e l h m =
+    let t = withValue s k e in
+    let ck = checksum (codes table (s .values)) in
+    let long : length (t .values) ≡ 46 = length-set (s .values) (k - 1) e ∙ l in
+    let sum = checksum (set (codes table (s .values)) (k - 1) (codeOf (getD table (k - 1) noField) e .0)) in
+    let same : checksum (codes table (t .values)) ≡ sum = ap checksum (codes-set table (s .values) (k - 1) e) in
+    ap (numbersWith t) same ∙ sym (ap (λ (ns : List ℕ). set ns 47 sum) (code-set s ck k e l h m) ∙ checksum-set t ck sum long)
+
+-- code 0 in each of these fields
+unfoldable pub emptied : List ℕ → List ℕ → List ℕ
+emptied ns [] = ns
+emptied ns (k ∷ ks) = emptied (set ns k 0) ks
+
+emptied-numbers : (ks : List ℕ) (s : Observation) (x : ℕ) → length (s .values) ≡ 46 → AllOf Free ks
+    → (emptied (numbersWith s x) ks ≡ numbersWith (clearEach s ks) x) × (length (clearEach s ks .values) ≡ 46)
+unfolding emptied clearEach codeOf
+emptied-numbers [] s x l a = (refl, l)
+emptied-numbers (k ∷ ks) s x l a =
+    let r = emptied-numbers ks (withValue s k none) x (length-set (s .values) (k - 1) none ∙ l) (a .1) in
+    (ap (λ (ns : List ℕ). emptied ns ks) (code-set s x k none l (a .0 .low) (a .0 .high)) ∙ r .0, r .1)
+
+-- the numbers of a card with these fields cleared: code 0 in each, and the checksum of the codes that are left
+pub cleared-numbers : (ks : List ℕ) (s : Observation) (ns : List ℕ) → length (s .values) ≡ 46 → AllOf Free ks → ns ≡ emptied (cardNumbers s) ks
+    → set ns 47 (checksum (take 46 (drop 1 ns))) ≡ cardNumbers (clearEach s ks)
+unfolding cardNumbers
+cleared-numbers ks s ns l a is =
+    let ck = checksum (codes table (s .values)) in
+    let t = clearEach s ks in
+    let r = emptied-numbers ks s ck l a in
+    let with : ns ≡ numbersWith t ck = is ∙ r .0 in
+    let left : take 46 (drop 1 ns) ≡ codes table (t .values) =
+    ap (λ (xs : List ℕ). take 46 (drop 1 xs)) with ∙ take-at (codes table (t .values)) (ck ∷ length (t .attachments) ∷ []) 46 (codes-long t (r .1)) in
+    ap₂ (λ (xs cs : List ℕ). set xs 47 (checksum cs)) with left ∙ checksum-set t ck (checksum (codes table (t .values))) (r .1)
 
 -- the sum of a list with another element
 pub total-set : (cs : List ℕ) (i c : ℕ) → i < length cs → total (set cs i c) + getD cs i 0 ≡ total cs + c

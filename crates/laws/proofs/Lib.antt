@@ -13,6 +13,7 @@ pub mod Agreement
 pub mod Stores
 pub mod Report
 pub mod Machine
+pub mod Indicators
 pub mod WholeList
 pub mod Laid
 pub mod Edits
@@ -23,3 +24,4 @@ pub mod Bounds
 pub mod Costliest
 pub mod TextCounts
 pub mod Former
+pub mod Clearing

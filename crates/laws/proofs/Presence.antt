@@ -14,9 +14,9 @@ use lib.IntN.{ℤ}
 use lib.Pow.{pow-add, pow-pos, shl-lt, shl-shr, shr-shr, shr-le, mod-pow-add}
 use lib.Count.{ones, ones-step, ones-cat}
 use borrow.Author.Tests.{eq-eqb, ne-eqb, eqb-true, eqb-false, not-false}
-use Rattle.format.specs.Field.{scaled}
+use Rattle.format.specs.Field.{scaled, isPresent}
 use Rattle.format.specs.Observation.{Observation}
-use Rattle.format.specs.Whole.{valueOrZero, isPresent, presenceFrom, presence, countPresent, bitAt, bitOutside, entriesGiven}
+use Rattle.format.specs.Whole.{valueOrZero, presenceFrom, presence, countPresent, bitAt, bitOutside, entriesGiven}
 use Rattle.format.specs.declared.Scaled.{Scaled}
 use Rattle.laws.proofs.Sequences.{or-false}
 

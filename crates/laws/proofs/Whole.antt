@@ -14,14 +14,14 @@ use lib.IntN.{ℤ, pos}
 use lib.Count.{ones}
 use borrow.Author.Tests.{le-ltb, ltb-false, eqb-true, not-false}
 use Rattle.format.specs.Order.{Refusal, first}
-use Rattle.format.specs.Field.{Field, table, fieldAt, required, inRange, scaled, BOX10, YEAR, MONTH, X, Y}
+use Rattle.format.specs.Field.{Field, table, fieldAt, required, inRange, scaled, isPresent, BOX10, YEAR, MONTH, X, Y}
 use Rattle.format.specs.Nibbles.{attachment, attachmentNibbles, tailNibbles, attachmentsOf, among}
 use Rattle.format.specs.Flags.{FlagTable, flagsFit, totalWeight, allMissing, qualityCode, flagsValid}
 use Rattle.format.specs.ShipText.{textStep, stateAfter, endFrom, atEnd, textValid}
 use Rattle.format.specs.Observation.{Observation, packing, size}
 use Rattle.format.specs.Report.{bodyValid, attachmentChecks, Verdict, judge}
 use Rattle.format.specs.Calls.{Answer, valueCheck, withAttachments, allNibbles, over}
-use Rattle.format.specs.Whole.{wroteBy, masked, contents, freshObservation, valueOrZero, isPresent, presence, countPresent, tail, unpacked, unpackGives, unpackChecks}
+use Rattle.format.specs.Whole.{wroteBy, masked, contents, freshObservation, valueOrZero, presence, countPresent, tail, unpacked, unpackGives, unpackChecks}
 use Rattle.format.specs.Whole.{unpackedBy, unpack, bitAt, bitOutside, packChecks, entriesGiven, countIn, packObservation, packOrder, packGives, pack}
 use Rattle.format.specs.declared.Scaled.{Scaled}
 use Rattle.laws.proofs.Sequences.{true-false, cond-case}

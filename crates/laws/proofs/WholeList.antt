@@ -17,11 +17,13 @@ use Rattle.format.specs.Flags.{FlagTable, flagFits, withFlag}
 use Rattle.format.specs.ShipText.{symbolsIn, writeText}
 use Rattle.format.specs.Observation.{Observation, packing, size}
 use Rattle.format.specs.Report.{Verdict, judge, bodyValid}
-use Rattle.format.specs.Calls.{Call, Editing, reads, edits, fetches, setField, clearField, setFlag, clearFlag, put, remove, putText, withValue, withContent, content, made, edited, afterEdit, next}
+use Rattle.format.specs.Calls.{Call, Editing, reads, edits, fetches, setField, clearField, clearWithIndicators, setFlag, clearFlag, put, remove, putText}
+use Rattle.format.specs.Calls.{withValue, withContent, content, clearsOf, clearEach, made, edited, afterEdit, next}
 use Rattle.format.specs.Calls.{shorter, overfull, outputsOf, writes, flagNumberCheck, idCheck, lengthCheck, contentCheck, standsCheck, roomCheck, callChecks, checks, Answer, steppedBy, step}
 use Rattle.format.specs.Machine.{Course, course}
 use Rattle.format.specs.Buffer.{zeros, layout, bufferAfter, After, after, effect, Shown, shown, performing, calls, Standing, standing, stepping, run, runOn, refusals, claimOn, claim}
 use Rattle.laws.proofs.Machine.{courses-agree}
+use Rattle.laws.proofs.Indicators.{AllOf, Free, clear-free, clears-free}
 use Rattle.laws.proofs.Sequences.{or-false, drop-append, drop-replicate}
 use Rattle.laws.proofs.Order.{between-in, first-none, first-append-none}
 use Rattle.format.specs.declared.Scaled.{Scaled}
@@ -126,18 +128,25 @@ flag-good marks s j v g f h c =
       valid = flag-set-valid (content s 1) j v marks old low h;
     })
 
+clear-good : (marks : FlagTable) (s : Observation) (k : ℕ) → Good marks s → Free k → Good marks (withValue s k none)
+clear-good marks s k g f =
+    let low = f .low in
+    let at : 1 + (k - 1) ≡ k = omega arith in
+    value-good marks s k none g (missing-fair (fieldAt k)) (present-none 1 (s .values) (k - 1) (ap required at ∙ f .optional) (g .present))
+
+clears-good : (marks : FlagTable) (ks : List ℕ) (s : Observation) → Good marks s → AllOf Free ks → Good marks (clearEach s ks)
+unfolding clearEach
+clears-good marks [] s g a = g
+clears-good marks (k ∷ ks) s g a = clears-good marks ks (withValue s k none) (clear-good marks s k g (a .0)) (a .1)
+
 made-good : (marks : FlagTable) (s : Observation) (e : Editing) → Good marks s → first (callChecks marks s (edits e)) ≡ none → Good marks (made s e)
 unfolding made callChecks
 made-good marks s (setField k v) g e =
     let c1 = first-none _ _ e in
     let c2 = first-none _ _ (c1 .1) in
     value-good marks s k (some v) g (in-range-fair (fieldAt k) v (not-false _ (c2 .0))) (present-some 1 (s .values) (k - 1) v (g .present))
-made-good marks s (clearField k) g e =
-    let c1 = first-none _ _ e in
-    let c2 = first-none _ _ (c1 .1) in
-    let low = between-in 1 46 k _ refl (c1 .0) .0 in
-    let at : 1 + (k - 1) ≡ k = omega arith in
-    value-good marks s k none g (missing-fair (fieldAt k)) (present-none 1 (s .values) (k - 1) (ap required at ∙ c2 .0) (g .present))
+made-good marks s (clearField k) g e = clear-good marks s k g (clear-free k e)
+made-good marks s (clearWithIndicators k) g e = clears-good marks (clearsOf s k) s g (clears-free s k (clear-free k e))
 made-good marks s (setFlag j v) g e =
     let c1 = first-none _ _ e in
     let c2 = first-none _ _ (c1 .1) in

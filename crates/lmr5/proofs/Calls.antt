@@ -91,7 +91,7 @@ costliest-fits m text origins =
 
 -- ---- each call
 
--- each of the eleven calls
+-- each of the twelve calls
 pub call-numbered : (a : call.Answer) (b : List ℕ) (o : List (List ℕ)) (w : After) (r : Answer) → after a b o ≡ w → r ≡ numbered a → left r b o ≡ numberedAfter w
 call-numbered a b o w r h e = ap (λ (x : Answer). left x b o) e ∙ ap numberedAfter h
 

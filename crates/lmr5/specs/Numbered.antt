@@ -31,7 +31,7 @@ numbered (accepted gs) = answer 0 (labels gs) 0 (numberIn gs 0) (numberIn gs 1) 
 abbrev pub single : ℕ → ℤ → Answer
 single label z = answer 0 label 0 z (pos 0) (pos 0)
 
--- ---- the eleven calls: the answer, the buffer and the outputs after one
+-- ---- the twelve calls: the answer, the buffer and the outputs after one
 
 pub record Left : Type 0 where
   pub answer : Answer
@@ -51,7 +51,7 @@ abbrev pub judging : Verdict → call.Answer
 judging (Verdict.refused r) = refused r
 judging (Verdict.accepted s) = accepted (packGives (size s))
 
--- the answer of fresh or pack, and the output after it
+-- the answer of fresh, pack or the finding call, and the output after it
 pub record Written : Type 0 where
   pub answer : Answer
   pub out : List ℕ

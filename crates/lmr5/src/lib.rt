@@ -13,6 +13,7 @@ ghost use Rattle.format.specs.Reply.{refusal, answerOf};
 ghost use Rattle.format.specs.Flags.{allYes};
 ghost use Rattle.format.specs.ShipText.{charTable};
 ghost use Rattle.format.specs.Loading.{loadAnswer, inForce};
+ghost use Rattle.format.specs.Finding.{find};
 ghost use Rattle.format.specs.Costliest.{costliestRefusal, CostliestLeaves};
 ghost use Rattle.laws.proofs.Bounds.{AnswerFits};
 ghost use Rattle.unpack.specs.Answers.{contentsNumbers};
@@ -267,6 +268,24 @@ pub extern "C" fn lmr5_clear_field(report: &mut [u8], field: usize, table: &Flag
     ensures { λ r. ⌜ left r (now (report .exit)) [] ≡ numberedAfter (effect (now (table .entry)) (now (report .entry)) (call.edits (call.clearField field))) ⌝ }
 {
     answer_of(call_fields::clear_field(report, field, table))
+}
+
+#[no_mangle]
+pub extern "C" fn lmr5_clear_with_indicators(
+    report: &mut [u8],
+    field: usize,
+    table: &FlagTable,
+) -> Answer
+    ensures { λ r. ⌜ left r (now (report .exit)) [] ≡ numberedAfter (effect (now (table .entry)) (now (report .entry)) (call.edits (call.clearWithIndicators field))) ⌝ }
+{
+    answer_of(call_indicators::clear(report, field, table))
+}
+
+#[no_mangle]
+pub extern "C" fn lmr5_find_indicators(report: &[u8], out: &mut [u8], table: &FlagTable) -> Answer
+    ensures { λ r. ⌜ record { answer = r; out = now (out .exit) } ≡ numberedWrote (find (now (table .entry)) (now (report .entry)) (now (out .entry))) ⌝ }
+{
+    answer_of(call_indicators::find(&*report, out, table))
 }
 
 #[no_mangle]

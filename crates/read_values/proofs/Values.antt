@@ -5,19 +5,18 @@ use native.Mathlib.Nat.{zero-add}
 use native.Mathlib.Numerals.{add-one}
 use native.Mathlib.Omega.{arith}
 use mathlib.Core.Path.{_≡_, sym, ap, ap₂, _∙_}
-use mathlib.Core.Bool.{Bool, true, false, cond, not}
+use mathlib.Core.Bool.{Bool, true, false, cond}
 use mathlib.Core.List.{List, _++_, map}
 use mathlib.Core.Option.{Option, none}
-use lib.Dec.{eqb}
 use lib.ListN.{length, getD, drop, set, length-map, drop-of-length-le, List·getD-map}
 use lib.Pow.{pow-mono}
 use lib.Seq.{drop-cons, take-all}
 use lib.IntN.{ℤ, pos}
 use Rattle.format.specs.Bits.{bitField}
-use Rattle.format.specs.Field.{Field, fieldAt, entryOf}
+use Rattle.format.specs.Field.{Field, fieldAt, entryOf, isPresent}
 use Rattle.format.specs.Report.{codesOf}
 use Rattle.format.specs.Calls.{over}
-use Rattle.format.specs.Whole.{valueOrZero, isPresent, presenceFrom}
+use Rattle.format.specs.Whole.{valueOrZero, presenceFrom}
 use Rattle.format.specs.declared.Coded.{Coded}
 use Rattle.format.specs.declared.Scaled.{Scaled}
 use Rattle.card.specs.Answers.{entriesOf}
@@ -27,12 +26,6 @@ use Rattle.card.proofs.Numbers.{row-at}
 use Rattle.card.proofs.Entries.{entries-length, entry-is}
 use Rattle.card.proofs.Runs.{sum-left, set-all, both-one}
 use Rattle.read_values.specs.Values.{valueOrZeroAt, bitOf, ValuesRead}
-
--- whether a field is there
-pub present-is : (f : Field) (c : Coded) (t : Bool) → eqb (c .0) 0 ≡ t → isPresent (entryOf f c) ≡ not t
-unfolding entryOf
-present-is f c true e = rw e
-present-is f c false e = rw e
 
 -- ---- one field
 

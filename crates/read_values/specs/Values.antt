@@ -5,7 +5,8 @@ use mathlib.Core.List.{List, map}
 use mathlib.Core.Option.{none}
 use lib.ListN.{getD}
 use lib.IntN.{ℤ, pos}
-use Rattle.format.specs.Whole.{valueOrZero, isPresent}
+use Rattle.format.specs.Field.{isPresent}
+use Rattle.format.specs.Whole.{valueOrZero}
 use Rattle.card.specs.Answers.{entriesOf}
 use Rattle.card.specs.Runs.{SetAndSummed}
 

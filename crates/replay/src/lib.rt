@@ -254,6 +254,7 @@ fn perform(b: &mut [u8], s: &[u8], log: &mut [u8], marks: &FlagTable) -> Perform
         9 => answered(call_attachments::remove(b, k, marks), 9, 37, log),
         10 => put_text(b, k, s, log, marks),
         11 => fetch_text(b, k, s, log, marks),
+        12 => answered(call_indicators::clear(b, k, marks), 9, 37, log),
         _ => idle(),
     }
 }

@@ -1,4 +1,4 @@
--- A script of the eleven calls and a log of each kind of answer, byte by byte, as one computed fact.
+-- A script of the twelve calls and a log of each kind of answer, byte by byte, as one computed fact.
 -- Assumes nothing.
 use Prim.Native.Nat.{ℕ}
 use mathlib.Core.List.{List, [], _∷_, _++_}
@@ -6,7 +6,7 @@ use mathlib.Core.Option.{none, some}
 use lib.ListN.{length, take}
 use lib.Dec.{T}
 use lib.IntN.{pos, negsuc}
-use Rattle.format.specs.Calls.{Call, reads, edits, fetches, readField, setField, clearField, readFlag, setFlag, clearFlag, put, fetch, remove, putText, fetchText}
+use Rattle.format.specs.Calls.{Call, reads, edits, fetches, readField, setField, clearField, clearWithIndicators, readFlag, setFlag, clearFlag, put, fetch, remove, putText, fetchText}
 use Rattle.format.specs.Calls.{outputsOf, Quantity, given, accepted}
 use Rattle.format.specs.Buffer.{zeros, shown}
 use Rattle.format.specs.Reply.{refusal}
@@ -28,6 +28,7 @@ calls =
     ∷ edits (remove 15)
     ∷ edits (putText (65 ∷ 32 ∷ []) (1 ∷ 0 ∷ 9 ∷ []))
     ∷ fetches (fetchText (6 ∷ []) (4 ∷ 5 ∷ []))
+    ∷ edits (clearWithIndicators 258)
     ∷ []
 
 script : List ℕ
@@ -43,6 +44,7 @@ script =
     ++ (9 ∷ 0 ∷ 0 ∷ 0 ∷ 0 ∷ 0 ∷ 0 ∷ 0 ∷ 15 ∷ [])
     ++ (10 ∷ 0 ∷ 0 ∷ 0 ∷ 0 ∷ 0 ∷ 0 ∷ 0 ∷ 2 ∷ 65 ∷ 32 ∷ 0 ∷ 0 ∷ 0 ∷ 0 ∷ 0 ∷ 0 ∷ 0 ∷ 3 ∷ 1 ∷ 0 ∷ 9 ∷ [])
     ++ (11 ∷ 0 ∷ 0 ∷ 0 ∷ 0 ∷ 0 ∷ 0 ∷ 0 ∷ 1 ∷ 6 ∷ 0 ∷ 0 ∷ 0 ∷ 0 ∷ 0 ∷ 0 ∷ 0 ∷ 2 ∷ 4 ∷ 5 ∷ [])
+    ++ (12 ∷ 0 ∷ 0 ∷ 0 ∷ 0 ∷ 0 ∷ 0 ∷ 1 ∷ 2 ∷ [])
 
 -- the list of a script, where the log has so much room, written again
 again : ℕ → List ℕ → List ℕ
@@ -54,18 +56,20 @@ example got want = record { got = got; want = want }
 examples : List Example
 examples =
     example (scriptOf calls) script
-    ∷ example (again 412 script) script
-    -- a log that is too short for the last record, and for the first
+    ∷ example (again 449 script) script
+    -- a log that is too short for the last record, for the one before it, and for the first
+    ∷ example (again 448 script) (take 160 script)
     ∷ example (again 411 script) (take 140 script)
     ∷ example (again 36 script) []
     -- an entry that is cut off; unknown kinds; bytes behind
-    ∷ example (again 412 (take 159 script)) (take 140 script)
-    ∷ example (again 412 (take 149 script)) (take 140 script)
-    ∷ example (again 412 (take 157 script)) (take 140 script)
-    ∷ example (again 412 (0 ∷ script)) []
-    ∷ example (again 412 (12 ∷ script)) []
+    ∷ example (again 449 (take 168 script)) (take 160 script)
+    ∷ example (again 449 (take 159 script)) (take 140 script)
+    ∷ example (again 449 (take 149 script)) (take 140 script)
+    ∷ example (again 449 (take 157 script)) (take 140 script)
+    ∷ example (again 449 (0 ∷ script)) []
+    ∷ example (again 449 (13 ∷ script)) []
     ∷ example (again 700 (script ++ (0 ∷ script))) script
-    ∷ example (again 824 (script ++ script)) (script ++ script)
+    ∷ example (again 898 (script ++ script)) (script ++ script)
     -- a log: what is refused, and what is given: nothing, a value, a negative one, a missing flag, a missing value, a flag, three numbers
     ∷ example (records (shown (refusal 13 258) ((9 ∷ []) ∷ (8 ∷ []) ∷ []) ∷ shown (accepted []) [] ∷ []))
     ((0 ∷ 13 ∷ 0 ∷ 0 ∷ 0 ∷ 0 ∷ 0 ∷ 0 ∷ 1 ∷ 2 ∷ zeros 27) ++ (9 ∷ 8 ∷ 1 ∷ zeros 36))

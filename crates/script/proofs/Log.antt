@@ -17,7 +17,7 @@ use Rattle.format.specs.Order.{Refusal, first}
 use Rattle.format.specs.Flags.{FlagTable}
 use Rattle.format.specs.Observation.{Observation, size}
 use Rattle.format.specs.Report.{Verdict, judge}
-use Rattle.format.specs.Calls.{Call, reads, edits, fetches, setField, clearField, setFlag, clearFlag, put, remove, putText, fetch, fetchText}
+use Rattle.format.specs.Calls.{Call, reads, edits, fetches, setField, clearField, clearWithIndicators, setFlag, clearFlag, put, remove, putText, fetch, fetchText}
 use Rattle.format.specs.Calls.{edited, shorter, overfull, overEach, outputsOf, writes, roomCheck, callChecks, checks}
 use Rattle.format.specs.Calls.{Quantity, value, flag, count, word, present, rptin, attachments, bytes, nibbles, deck, Given, given, gives, Answer, refused, accepted, steppedBy, step, over}
 use Rattle.format.specs.Buffer.{Shown, Standing, standing, stepping, run, effectOn, effect, refusals, claimOn, claim}
@@ -200,6 +200,7 @@ unfolding gives
 gives-few s (reads r) = omega arith
 gives-few s (edits (setField k v)) = omega arith
 gives-few s (edits (clearField k)) = omega arith
+gives-few s (edits (clearWithIndicators k)) = omega arith
 gives-few s (edits (setFlag j v)) = omega arith
 gives-few s (edits (clearFlag j)) = omega arith
 gives-few s (edits (put i ns)) = omega arith

@@ -129,12 +129,12 @@ front-length label n other m = simp (length-append, length-bytes8)
 pub reply-put : (r r′ : Reply) (log log′ xs : List ℕ) → r ≡ r′ → headOf (answerOf r′) ≡ xs → log′ ≡ over xs log → log′ ≡ over (headOf (answerOf r)) log
 reply-put r r′ log log′ xs e h w = rw (e, h) w
 
-kinds-rest : (s : List ℕ) (k : ℕ) → None 11 k → getD (kinds s) k none ≡ none
+kinds-rest : (s : List ℕ) (k : ℕ) → None 12 k → getD (kinds s) k none ≡ none
 unfolding kinds
 kinds-rest s zero p = refl
-kinds-rest s (suc k) p = let h = none-lt 11 (suc k) (omega arith) p in List·getD-eq-default (kinds s) none {n = suc k} (omega arith)
+kinds-rest s (suc k) p = let h = none-lt 12 (suc k) (omega arith) p in List·getD-eq-default (kinds s) none {n = suc k} (omega arith)
 
-pub entry-rest : (s : List ℕ) → None 11 (getD s 0 0) → entryAt s ≡ none
+pub entry-rest : (s : List ℕ) → None 12 (getD s 0 0) → entryAt s ≡ none
 unfolding entryAt within
 entry-rest s p = rw (kinds-rest s (getD s 0 0) p)
 

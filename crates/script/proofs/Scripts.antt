@@ -14,7 +14,8 @@ use lib.IntN.{ℤ}
 use borrow.Author.Tests.{le-leb, lt-leb, leb-true}
 use Rattle.format.specs.Bits.{Bytes}
 use Rattle.format.specs.Flags.{FlagTable}
-use Rattle.format.specs.Calls.{Call, reads, edits, fetches, readField, setField, clearField, readFlag, setFlag, clearFlag, put, fetch, remove, putText, fetchText, outputsOf, Answer, over}
+use Rattle.format.specs.Calls.{Call, reads, edits, fetches, readField, setField, clearField, clearWithIndicators, readFlag, setFlag, clearFlag, put, fetch, remove, putText, fetchText}
+use Rattle.format.specs.Calls.{outputsOf, Answer, over}
 use Rattle.format.specs.Machine.{Course, course}
 use Rattle.format.specs.Buffer.{after, Shown, shown, effect, calls, claim}
 use Rattle.laws.proofs.Bits.{append-below}
@@ -122,6 +123,7 @@ entry-back (fetches (fetch i out)) rest h =
     simp append-assoc (counted 8 rest (λ (x : ℕ) (d : List ℕ). fetches (fetch x d)) i out (h .0) (h .1 .0) refl)
 entry-back (edits (remove i)) rest h = one-number 9 rest (λ (x : ℕ). edits (remove x)) i h refl
 entry-back (edits (putText t os)) rest h = simp append-assoc (texts 10 rest (λ (d e : List ℕ). edits (putText d e)) t os (h .0 .0) (h .1 .0) refl)
+entry-back (edits (clearWithIndicators k)) rest h = one-number 12 rest (λ (x : ℕ). edits (clearWithIndicators x)) k h refl
 entry-back (fetches (fetchText out origins)) rest h =
     simp append-assoc (texts 11 rest (λ (d e : List ℕ). fetches (fetchText d e)) out origins (h .0 .0) (h .1 .0) refl)
 
@@ -186,7 +188,7 @@ module _ (s : List ℕ) where
               one-sized 4 n refl,
               (
                 two-sized 5 n m refl,
-                (one-sized 6 n refl, (long-sized 7 n refl, (long-sized 8 n refl, (one-sized 9 n refl, (texts-sized 10 refl, (texts-sized 11 refl, tt)))))),
+                (one-sized 6 n refl, (long-sized 7 n refl, (long-sized 8 n refl, (one-sized 9 n refl, (texts-sized 10 refl, (texts-sized 11 refl, (one-sized 12 n refl, tt))))))),
               ),
             ),
           ),
@@ -335,6 +337,7 @@ entry-bytes (fetches (fetch i out)) h = before 8 i (bytes8 (length out) ++ out) 
 entry-bytes (edits (remove i)) h = alone 9 i (omega arith)
 entry-bytes (edits (putText t os)) h =
     before 10 (length t) (t ++ (bytes8 (length os) ++ os)) (omega arith) (append-below 256 t (bytes8 (length os) ++ os) (h .0 .1) (counted-bytes os (h .1)))
+entry-bytes (edits (clearWithIndicators k)) h = alone 12 k (omega arith)
 entry-bytes (fetches (fetchText out origins)) h =
     before 11 (length out) (out ++ (bytes8 (length origins) ++ origins)) (omega arith)
     (append-below 256 out (bytes8 (length origins) ++ origins) (h .0 .1) (counted-bytes origins (h .1)))

@@ -9,7 +9,7 @@ use lib.Dec.{ltb, leb, eqb}
 use lib.Signed.{mag}
 use Rattle.numbers.specs.Words.{signed, unsigned}
 use Rattle.format.specs.Flags.{FlagTable}
-use Rattle.format.specs.Calls.{Call, reads, edits, fetches, readField, setField, clearField, readFlag, setFlag, clearFlag, put, fetch, remove, putText, fetchText, outputsOf}
+use Rattle.format.specs.Calls.{Call, reads, edits, fetches, readField, setField, clearField, clearWithIndicators, readFlag, setFlag, clearFlag, put, fetch, remove, putText, fetchText, outputsOf}
 use Rattle.format.specs.Calls.{Given, given, Answer, refused, accepted, over}
 use Rattle.format.specs.Machine.{Course}
 use Rattle.format.specs.Buffer.{Shown, shown, effect, claim}
@@ -75,6 +75,7 @@ kinds s =
     some (entry (edits (remove (numberAt s 1))) 9) ∷  -- 9
     some (entry (edits (putText (bytesAt s 1) (bytesAt s (second s)))) (17 + numberAt s 1 + numberAt s (second s))) ∷  -- 10
     some (entry (fetches (fetchText (bytesAt s 1) (bytesAt s (second s)))) (17 + numberAt s 1 + numberAt s (second s))) ∷  -- 11
+    some (entry (edits (clearWithIndicators (numberAt s 1))) 9) ∷  -- 12
     []
 
 -- the entry, if what it wants is within n
@@ -126,6 +127,7 @@ scriptEntry (fetches (fetch i out)) = 8 ∷ (bytes8 i ++ (bytes8 (length out) ++
 scriptEntry (edits (remove i)) = 9 ∷ bytes8 i
 scriptEntry (edits (putText t os)) = 10 ∷ (bytes8 (length t) ++ (t ++ (bytes8 (length os) ++ os)))
 scriptEntry (fetches (fetchText out origins)) = 11 ∷ (bytes8 (length out) ++ (out ++ (bytes8 (length origins) ++ origins)))
+scriptEntry (edits (clearWithIndicators k)) = 12 ∷ bytes8 k
 
 unfoldable pub scriptOf : List Call → List ℕ
 scriptOf [] = []
@@ -141,6 +143,7 @@ Fits (reads (readField k)) = k < 2 ^ 64
 Fits (reads (readFlag j)) = j < 2 ^ 64
 Fits (edits (setField k v)) = (k < 2 ^ 64) × (mag (v .0) < 2 ^ 63)
 Fits (edits (clearField k)) = k < 2 ^ 64
+Fits (edits (clearWithIndicators k)) = k < 2 ^ 64
 Fits (edits (setFlag j v)) = (j < 2 ^ 64) × (v < 2 ^ 64)
 Fits (edits (clearFlag j)) = j < 2 ^ 64
 Fits (edits (put i ns)) = (i < 2 ^ 64) × Slice ns

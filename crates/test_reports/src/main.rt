@@ -177,6 +177,27 @@ fn read_in(s: &[u8], marks: &FlagTable) {
     read_text(s, &mut out[..n], marks);
 }
 
+fn put_found(r: Reply) {
+    match r {
+        Reply::Refused(number, place) => test_io::put_refused(number, place),
+        Reply::Count(n) => test_io::put_head(2, 0, n as u64),
+        _ => (),
+    }
+}
+
+fn find_out(s: &[u8], out: &mut [u8], marks: &FlagTable) {
+    test_io::get_bytes(out);
+    put_found(call_indicators::find(s, out, marks));
+    test_io::put_bytes(out);
+}
+
+// The indicators of a report that have lost their data.
+fn find_in(s: &[u8], marks: &FlagTable) {
+    let mut out = [0u8; 200];
+    let n = test_io::get_length(200);
+    find_out(s, &mut out[..n], marks);
+}
+
 fn report_in(kind: u8, s: &mut [u8], marks: &FlagTable) {
     test_io::get_bytes(s);
     match kind {
@@ -184,6 +205,7 @@ fn report_in(kind: u8, s: &mut [u8], marks: &FlagTable) {
         2 => list_in(s),
         6 => same_in(s, marks),
         11 => read_in(s, marks),
+        13 => find_in(s, marks),
         _ => unpack_in(s, kind == 7, marks),
     }
 }
@@ -390,7 +412,7 @@ fn costliest_one() {
 // One vector under a table; false at the end of the input.
 fn one(kind: u8, marks: &FlagTable) -> bool {
     match kind {
-        1 | 2 | 4 | 6 | 7 | 11 => report_one(kind, marks),
+        1 | 2 | 4 | 6 | 7 | 11 | 13 => report_one(kind, marks),
         3 => fresh_one(),
         5 | 8 => pack_one(kind == 8, marks),
         9 => characters_one(),

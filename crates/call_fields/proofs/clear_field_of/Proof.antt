@@ -29,11 +29,12 @@ is-required-requires : tie.Need-is-required-requires
 is-required-requires c κs = search needs
 
 returns-2 : tie.Need-returns-2
+unfolding callChecks
 returns-2 c marks j =
     let args = c .before .before .before .before .before .before .args in
     let slice-known = c .before .before .before .before .before .slice-known in
     let within = c .before .before .before .before .within in
-    field-required _ _ (λ i. slice-known .given i .fits) j (args .k) _ (within .ensures) (c .before .before .before .if1 .left) _ (c .before .is-required .ensures)
+    field-required _ _ (λ i. slice-known .given i .fits) j (args .k) _ (within .ensures) (c .before .before .before .if1 .left) (clearField (args .k)) refl _ (c .before .is-required .ensures)
     (c .if2 .taken)
 
 replace-requires : tie.Need-replace-requires

@@ -7,7 +7,7 @@ use mathlib.Core.Bool.{Bool, true, false, cond}
 use borrow.Author.Tests.{eq-eqb, ne-eqb}
 use Rattle.format.specs.Field.{fieldAt}
 use Rattle.bits.proofs.Window.{one-shl}
-use Rattle.read_values.proofs.Values.{present-is}
+use Rattle.card.proofs.Entries.{present-is}
 use borrow.Author.Needs.{needs}
 use Rattle.read_values.proofs.presence_bit.Statement.{statement}
 use Rattle.read_values.proofs.presence_bit.Tie as tie

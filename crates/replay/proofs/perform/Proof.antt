@@ -82,6 +82,12 @@ put-text-requires c κs = search needs
 fetch-text-requires : tie.Need-fetch-text-requires
 fetch-text-requires c κs = search needs
 
+clear-requires : tie.Need-clear-requires
+clear-requires c κs = search needs
+
+answered-requires-6 : tie.Need-answered-requires-6
+answered-requires-6 c κs = search needs
+
 idle-requires-3 : tie.Need-idle-requires-3
 idle-requires-3 c κs = search needs
 
@@ -227,8 +233,26 @@ same-length-22 c = search needs
 returns-13 : tie.Need-returns-13
 returns-13 c = search needs
 
+same-length-23 : tie.Need-same-length-23
+same-length-23 c = search needs
+
+same-length-24 : tie.Need-same-length-24
+same-length-24 c = search needs
+
 returns-14 : tie.Need-returns-14
+unfolding kinds outputsOf
 returns-14 c =
+    let args = c .before .before .before .before .before .before .before .before .before .before .before .before .before .before .before .before .args in
+    let if1 = c .before .before .before .before .before .before .before .before .before .before .before .before .if1 in
+    let if2 = c .before .before .before .before .before .before .before .before .before .before .before .if2 in
+    let number-at = c .before .before .before .before .before .before .before .before .before .before .number-at in
+    ap (leaves _ _) (c .before .before .answered6 .ensures .1)
+    ∙ turn-plain _ _ (args .s .now) _ 12 _ _ _ _ _ _ _ (c .before .before .before .before .before .before .before .before .match .keys12) refl refl
+    (c .before .before .before .before .before .before .clear .ensures .0) (c .before .before .answered6 .ensures .0)
+    (ap (λ (x : ℕ). call.edits (call.clearWithIndicators x)) (number-at .ensures)) (refl) (if1 .left) (if2 .left)
+
+returns-15 : tie.Need-returns-15
+returns-15 c =
     let args = c .before .before .before .before .before .before .before .before .before .args in
     ap (leaves _ _) (c .idle3 .ensures) ∙ turn-idle _ _ (args .s .now) _ (next-none _ (args .s .now) (entry-rest (args .s .now) (c .before .match .rest)))
 
@@ -258,6 +282,8 @@ perform-spec =
     answered-requires-5
     put-text-requires
     fetch-text-requires
+    clear-requires
+    answered-requires-6
     idle-requires-3
     same-length
     same-length-2
@@ -292,4 +318,7 @@ perform-spec =
     same-length-21
     same-length-22
     returns-13
-    returns-14)
+    same-length-23
+    same-length-24
+    returns-14
+    returns-15)
