@@ -1,4 +1,4 @@
-//! The eleven calls of a list as data, with contents and outputs as given.
+//! The twelve calls of a list as data, with contents and outputs as given.
 
 use crate::edit::{self, Fetched};
 use crate::flag_table::FlagTable;
@@ -19,6 +19,7 @@ pub enum Call {
     Drop { id: u64 },
     PutText { text: Vec<u8>, origins: Vec<u8> },
     FetchText { text: Vec<u8>, origins: Vec<u8> },
+    ClearWithIndicators { field: u64 },
 }
 
 #[derive(Clone, Debug, PartialEq, Eq)]
@@ -67,6 +68,9 @@ impl Call {
                     unreachable!("fetch text has two outputs");
                 };
                 edit::fetch_text(buffer, text, origins, table).map(Fetched::numbers)
+            }
+            Call::ClearWithIndicators { field } => {
+                edit::clear_with_indicators(buffer, *field, table).map(field_value)
             }
         };
         Answer { result, outputs }

@@ -1,4 +1,4 @@
-//! The eleven calls on a buffer under a table of flags. Each works on the report's bits and
+//! The twelve calls on a buffer under a table of flags. Each works on the report's bits and
 //! nibbles where they stand; a refused call changes nothing.
 
 use std::ops::Range;
@@ -9,6 +9,7 @@ use crate::card::{CARD_BYTES, CARD_NIBBLES, Card, checksum};
 use crate::deck::CharacterSet;
 use crate::flag_table::FlagTable;
 use crate::flags::{self, FLAGS, HIGHEST_FLAG, quality_code};
+use crate::indicator::INDICATORS;
 use crate::judge::{Report, judge};
 use crate::number::Number;
 use crate::refusal::{Refusal, refusal};
@@ -53,6 +54,25 @@ pub fn clear_field(
     }
     let former = store_code(buffer, field, Coded(0));
     Ok(field.scaled(former))
+}
+
+/// Clears a field, and every indicator that rests on it and has then lost all its data.
+/// Gives the field's former value.
+pub fn clear_with_indicators(
+    buffer: &mut [u8],
+    number: u64,
+    table: &FlagTable,
+) -> Result<Option<Scaled>, Refusal> {
+    let former = clear_field(buffer, number, table)?;
+    let codes = Card::read(&bits_of(&buffer[..CARD_BYTES])).codes;
+    let is_present = |field: usize| codes[field - 1] != Coded(0);
+    for indicator in INDICATORS {
+        if indicator.rests_on(number as usize) && indicator.has_lost_its_data(is_present) {
+            let field = known_field(indicator.field as u64)?;
+            store_code(buffer, field, Coded(0));
+        }
+    }
+    Ok(former)
 }
 
 pub fn read_flag(buffer: &[u8], number: u64, table: &FlagTable) -> Result<Option<u8>, Refusal> {

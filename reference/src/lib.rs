@@ -10,6 +10,7 @@ pub mod edit;
 pub mod flag_table;
 pub mod flags;
 pub mod gate;
+pub mod indicator;
 pub mod judge;
 pub mod line;
 pub mod lister;

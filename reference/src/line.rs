@@ -76,6 +76,9 @@ pub fn inputs(case: &Case) -> String {
             text,
             origins,
         } => format!("costliest {symbols} {} {}", hex(text), hex(origins)),
+        Case::FindIndicators { report, output } => {
+            format!("find-indicators {} {}", hex(report), hex(output))
+        }
         Case::Calls { buffer, calls } => {
             let mut parts = vec![format!("calls {}", hex(buffer))];
             parts.extend(calls.iter().map(call));
@@ -97,6 +100,7 @@ fn call(call: &Call) -> String {
         Call::Drop { id } => format!("drop {id}"),
         Call::PutText { text, origins } => format!("put-text {} {}", hex(text), hex(origins)),
         Call::FetchText { text, origins } => format!("fetch-text {} {}", hex(text), hex(origins)),
+        Call::ClearWithIndicators { field } => format!("clear-with-indicators {field}"),
     }
 }
 
@@ -115,8 +119,8 @@ fn outcome(outcome: &Outcome) -> String {
             let answer = accepted(result, unpacked);
             format!("{answer} {} {}", numbers(values), hex(tail))
         }
-        Outcome::Pack { result, output } => {
-            let answer = accepted(result, |bytes| format!("ok {bytes}"));
+        Outcome::Pack { result, output } | Outcome::FindIndicators { result, output } => {
+            let answer = accepted(result, |count| format!("ok {count}"));
             format!("{answer} {}", hex(output))
         }
         Outcome::Same(result) => accepted(result, |same| format!("ok {}", u8::from(*same))),

@@ -10,7 +10,7 @@ pub enum Quantity {
     Value = 1,
     /// A flag's value.
     Flag = 2,
-    /// How many bytes a fetch wrote to an output.
+    /// How many bytes a call wrote to an output.
     Count = 3,
     /// The presence word.
     Word = 4,

@@ -4,6 +4,7 @@ use crate::attachment::Attachment;
 use crate::bits::bytes_of_nibbles;
 use crate::card::{CARD_NIBBLES, Card, checksum};
 use crate::deck::{CharacterSet, character_set};
+use crate::indicator::{ERRONEOUS_ID, INDICATORS, Indicator};
 use crate::table::{Coded, FIELDS, REQUIRED, SID, Scaled, fields};
 
 #[derive(Clone, Debug, PartialEq, Eq)]
@@ -70,6 +71,23 @@ impl Observation {
     /// The character set of the input deck.
     pub fn set(&self) -> CharacterSet {
         character_set(self.values[SID - 1])
+    }
+
+    /// Whether all data of an indicator are missing.
+    pub fn lacks_data_of(&self, indicator: Indicator) -> bool {
+        indicator.has_lost_its_data(|field| self.values[field - 1].is_some())
+    }
+
+    /// The fields of the indicators that are present without their data, ascending. There
+    /// are none where attachment 5 stands.
+    pub fn lone_indicators(&self) -> Vec<u8> {
+        if self.content(u64::from(ERRONEOUS_ID)).is_some() {
+            return Vec::new();
+        }
+        let is_present = |indicator: &Indicator| self.values[indicator.field - 1].is_some();
+        let present = INDICATORS.into_iter().filter(is_present);
+        let lone = present.filter(|&indicator| self.lacks_data_of(indicator));
+        lone.map(|indicator| indicator.field as u8).collect()
     }
 
     /// The nibbles of an id, if it stands.

@@ -1,4 +1,5 @@
-//! The calls outside the list: fresh, unpack, pack, same, characters and costliest.
+//! The calls outside the list: fresh, unpack, pack, same, characters, costliest and find
+//! indicators.
 
 use crate::attachment::{Attachment, next_attachment};
 use crate::card::{CARD_BYTES, CARD_NIBBLES};
@@ -123,6 +124,22 @@ pub fn costliest(symbols: u64, text: &mut [u8], origins: &mut [u8]) -> Result<()
     text[..n].copy_from_slice(&text::bytes(&chosen));
     origins[..n].copy_from_slice(&text::origins(&chosen));
     Ok(())
+}
+
+/// Writes the fields of the indicators that are present and whose data are all missing,
+/// in ascending order, one byte for each, and gives their number.
+pub fn find_indicators(
+    buffer: &[u8],
+    output: &mut [u8],
+    table: &FlagTable,
+) -> Result<usize, Refusal> {
+    let report = judge(buffer, table)?;
+    let found = report.observation.lone_indicators();
+    if output.len() < found.len() {
+        return Err(refusal(13, 0));
+    }
+    output[..found.len()].copy_from_slice(&found);
+    Ok(found.len())
 }
 
 fn has_bit(word: u64, bit: usize) -> bool {

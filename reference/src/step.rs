@@ -4,6 +4,7 @@ use crate::attachment::{Attachment, is_valid_body};
 use crate::call::{Answer, Call};
 use crate::flag_table::FlagTable;
 use crate::flags::{self, FLAGS};
+use crate::indicator::INDICATORS;
 use crate::number::Number;
 use crate::observation::Observation;
 use crate::refusal::Refusal;
@@ -80,7 +81,7 @@ fn place(number: u8, call: &Call) -> usize {
     match (number, call) {
         (9, Call::SetField { field, .. }) => *field as usize,
         (9, Call::SetFlag { flag, .. }) => *flag as usize,
-        (10, Call::ClearField { field }) => *field as usize,
+        (10, Call::ClearField { field } | Call::ClearWithIndicators { field }) => *field as usize,
         _ => 0,
     }
 }
@@ -94,9 +95,7 @@ fn fits(fault: Fault, observation: &Observation, n: usize, call: &Call, table: &
         Fault::Symbol => has_no_symbol(call),
         Fault::Number => has_unknown_number(call),
         Fault::Value => has_value_out_of_range(call) || sets_forbidden_flag(call, table),
-        Fault::Required => {
-            matches!(call, Call::ClearField { field } if REQUIRED.contains(&(*field as usize)))
-        }
+        Fault::Required => clears_required_field(call),
         Fault::Absent => names_absent_attachment(observation, call),
         Fault::Length => {
             content_of(call).is_some_and(|(_, content)| !(1..=255).contains(&content.len()))
@@ -126,9 +125,10 @@ fn has_no_symbol(call: &Call) -> bool {
 
 fn has_unknown_number(call: &Call) -> bool {
     match call {
-        Call::ReadField { field } | Call::SetField { field, .. } | Call::ClearField { field } => {
-            *field < 1 || *field > FIELDS as u64
-        }
+        Call::ReadField { field }
+        | Call::SetField { field, .. }
+        | Call::ClearField { field }
+        | Call::ClearWithIndicators { field } => *field < 1 || *field > FIELDS as u64,
         Call::ReadFlag { flag } | Call::SetFlag { flag, .. } | Call::ClearFlag { flag } => {
             *flag < 1 || *flag > FLAGS as u64
         }
@@ -144,6 +144,15 @@ fn has_value_out_of_range(call: &Call) -> bool {
             *value < scale.true_value.0 || *value > scale.true_value.1
         }
         Call::SetFlag { value, .. } => *value < 1 || *value > 10,
+        _ => false,
+    }
+}
+
+fn clears_required_field(call: &Call) -> bool {
+    match call {
+        Call::ClearField { field } | Call::ClearWithIndicators { field } => {
+            REQUIRED.contains(&(*field as usize))
+        }
         _ => false,
     }
 }
@@ -191,6 +200,11 @@ fn moved(observation: &Observation, call: &Call) -> Observation {
             after.values[*field as usize - 1] = Some(Scaled(*value));
         }
         Call::ClearField { field } => after.values[*field as usize - 1] = None,
+        Call::ClearWithIndicators { field } => {
+            for clear in clears(observation, *field) {
+                after = moved(&after, &clear);
+            }
+        }
         Call::SetFlag { flag, value } => place_flag(&mut after, *flag, *value as u8),
         Call::ClearFlag { flag } => place_flag(&mut after, *flag, 0),
         Call::Put { .. } | Call::PutText { .. } => {
@@ -206,6 +220,20 @@ fn moved(observation: &Observation, call: &Call) -> Observation {
         | Call::FetchText { .. } => {}
     }
     after
+}
+
+/// The clears that clearing a field with its indicators stands for: that of the field, then
+/// those of the indicators that rest on it and have then lost all their data, ascending.
+pub fn clears(observation: &Observation, field: u64) -> Vec<Call> {
+    let mut clears = vec![Call::ClearField { field }];
+    let cleared = moved(observation, &clears[0]);
+    for indicator in INDICATORS {
+        if indicator.rests_on(field as usize) && cleared.lacks_data_of(indicator) {
+            let field = indicator.field as u64;
+            clears.push(Call::ClearField { field });
+        }
+    }
+    clears
 }
 
 fn place_flag(observation: &mut Observation, flag: u64, value: u8) {
@@ -232,7 +260,10 @@ fn place_content(observation: &mut Observation, new: Attachment) {
 /// writes to each output. A set or a clear gives what stood there.
 fn gives(observation: &Observation, call: &Call) -> (Vec<Number>, Vec<Vec<u8>>) {
     match call {
-        Call::ReadField { field } | Call::SetField { field, .. } | Call::ClearField { field } => {
+        Call::ReadField { field }
+        | Call::SetField { field, .. }
+        | Call::ClearField { field }
+        | Call::ClearWithIndicators { field } => {
             let value = observation.values[*field as usize - 1];
             let value = value.map(|value| value.0);
             (vec![Number::value(value)], Vec::new())

@@ -9,7 +9,7 @@ use common::all_flags::{line, run_case, run_list};
 use common::{SHORT, plain, table_by_hand};
 use reference::call::{Answer, Call};
 use reference::cases::material::{all_symbols, symbols_of};
-use reference::cases::{Case, Outcome, costliest, fixed, flag_tables, symbols};
+use reference::cases::{Case, Outcome, costliest, fixed, flag_tables, indicators, symbols};
 use reference::gate::{SEED, list_cases, record, text_cases, whole_cases};
 use reference::number::Number;
 use reference::outside::characters;
@@ -178,12 +178,13 @@ fn records_by_hand() {
     assert_eq!(input, [&[9][..], &[0xFF, 0xFE].repeat(256)].concat());
 }
 
-/// Before the cases of the table of flags, of symbols and of the costliest text, the fixed
-/// ones and the gate's end with the same arrays.
+/// Before the cases of the table of flags, of symbols, of the costliest text and of
+/// indicators, the fixed ones and the gate's end with the same arrays.
 #[test]
 fn cases_end_with_arrays() {
     let before_flags = |mut cases: Vec<Case>| {
-        let behind = [flag_tables::cases(), symbols::cases(), costliest::cases()].concat();
+        let mut behind = [flag_tables::cases(), symbols::cases(), costliest::cases()].concat();
+        behind.extend(indicators::cases());
         assert!(cases.ends_with(&behind));
         cases.truncate(cases.len() - behind.len());
         cases

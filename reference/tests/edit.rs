@@ -1,4 +1,4 @@
-//! The eleven calls: what they give, refusals 8 to 14, bytes left alone.
+//! Eleven of the calls: what they give, refusals 8 to 14, bytes left alone.
 
 mod common;
 

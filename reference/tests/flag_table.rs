@@ -753,7 +753,7 @@ fn loads_come_last() {
     assert!(whole.stdin.starts_with(&front.stdin));
     assert!(whole.stdout.starts_with(&front.stdout));
     let more = whole.stdin.len() + whole.stdout.len() - front.stdin.len() - front.stdout.len();
-    assert!(more < 700_000, "{more}");
+    assert!(more < 750_000, "{more}");
     let lists: Vec<Item> = list_cases::lists(SEED)
         .into_iter()
         .map(Item::List)
@@ -763,7 +763,7 @@ fn loads_come_last() {
     assert!(whole.stdin.starts_with(&front.stdin));
     assert!(whole.stdout.starts_with(&front.stdout));
     let more = whole.stdin.len() + whole.stdout.len() - front.stdin.len() - front.stdout.len();
-    assert!(more < 700_000, "{more}");
+    assert!(more < 800_000, "{more}");
 }
 
 /// The number of the refusal, 0 where accepted.
@@ -821,7 +821,7 @@ fn records_meet_the_table() {
     assert!(behind_refused >= 60, "{behind_refused}");
 }
 
-/// Each of the eleven calls meets 6 by the table, set flag 9 and put 14.
+/// Each of the eleven calls in these lists meets 6 by the table, set flag 9 and put 14.
 #[test]
 fn lists_meet_the_table() {
     let mut table = FlagTable::all();
@@ -852,6 +852,7 @@ fn lists_meet_the_table() {
                 Call::Drop { .. } => 8,
                 Call::PutText { .. } => 9,
                 Call::FetchText { .. } => 10,
+                Call::ClearWithIndicators { .. } => unreachable!("it has lists of its own"),
             };
             by_six[place] += usize::from(number == 6 && accepted_by_all);
             match call {

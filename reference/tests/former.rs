@@ -17,7 +17,7 @@ use reference::flag_table::FlagTable;
 use reference::flags;
 use reference::gate::list::Item;
 use reference::gate::script::script;
-use reference::gate::{SEED, former_cases, list_cases, lists};
+use reference::gate::{SEED, former_cases, indicator_cases, list_cases, lists};
 use reference::number::Number;
 use reference::prng::Prng;
 use reference::refusal::refusal;
@@ -676,7 +676,8 @@ fn lists_of_the_gate_meet_every_former_value() {
     let due: Vec<u8> = (1..=11).collect();
     assert_eq!(refusals.into_iter().collect::<Vec<u8>>(), due);
     assert_eq!(table, FlagTable::all());
-    assert!(list_cases::items(SEED).ends_with(&items));
+    let last = [items.clone(), indicator_cases::items(SEED)].concat();
+    assert!(list_cases::items(SEED).ends_with(&last));
     let files = lists(&items);
     assert!(files.stdin.len() + files.stdout.len() < 150_000);
 }

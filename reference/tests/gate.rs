@@ -248,7 +248,7 @@ fn entries_by_hand_are_written_and_read() {
 
 #[test]
 fn unknown_kinds_are_no_calls() {
-    for kind in [0, 12, 13, 128, 255] {
+    for kind in [0, 13, 14, 128, 255] {
         assert_eq!(first_call(&[kind; 40]), None);
     }
 }
@@ -430,14 +430,14 @@ fn a_refused_report_refuses_every_call() {
 fn a_list_and_its_answer_by_hand() {
     let list = List {
         buffer: fresh_buffer(38),
-        script: hex("01 0000000000000007 0C"),
+        script: hex("01 0000000000000007 0D"),
         room: 51,
     };
     let report = fresh_buffer(38);
     let input = [
         &hex("0026")[..],
         &report,
-        &hex("0000000A 010000000000000007 0C 00000033"),
+        &hex("0000000A 010000000000000007 0D 00000033"),
     ];
     assert_eq!(list.input(), input.concat());
     let (after, ran) = run_list(&list);
@@ -821,7 +821,7 @@ fn whole_files_meet_every_refusal_and_keep_their_limits() {
     let cases = whole_cases::cases(SEED);
     assert!(cases.iter().all(record::fits));
     let files = gate::whole(&cases);
-    assert!(files.stdin.len() + files.stdout.len() < 2_300_000);
+    assert!(files.stdin.len() + files.stdout.len() < 2_350_000);
     for (kind, refusals) in [
         ("judge", &[0, 1, 2, 3, 4, 5, 6, 7][..]),
         ("lister", &[0, 1, 2, 3, 4, 5, 6, 7]),
@@ -834,6 +834,7 @@ fn whole_files_meet_every_refusal_and_keep_their_limits() {
         ("load", &[0, 16]),
         ("read out", &[0, 1, 2, 3, 4, 5, 6, 7, 11, 13]),
         ("costliest", &[0, 9, 13]),
+        ("find indicators", &[0, 1, 2, 3, 4, 5, 6, 7, 13]),
     ] {
         let met: Vec<u8> = files.tally.refusals(kind);
         assert_eq!(met, refusals, "{kind}");
@@ -929,7 +930,7 @@ fn list_files_meet_every_refusal_and_keep_their_limits() {
         Item::Load(marks) => marks.len() <= 200,
     }));
     let files = gate::lists(&items);
-    assert!(files.stdin.len() + files.stdout.len() < 2_100_000);
+    assert!(files.stdin.len() + files.stdout.len() < 2_250_000);
     let whole = lists.iter().filter(|list| {
         let (_, ran) = run_list(list);
         ran.calls.len() == CALLS && judge(&list.buffer).is_ok()
@@ -948,6 +949,7 @@ fn list_files_meet_every_refusal_and_keep_their_limits() {
         ("drop", &[8, 11]),
         ("put text", &[12, 13, 14]),
         ("fetch text", &[11, 13]),
+        ("clear with indicators", &[8, 10]),
     ] {
         let expected = [&report[..], refusals].concat();
         assert_eq!(files.tally.refusals(kind), expected, "{kind}");

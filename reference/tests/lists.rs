@@ -41,6 +41,7 @@ fn name(call: &Call) -> &'static str {
         Call::Drop { .. } => "drop",
         Call::PutText { .. } => "put text",
         Call::FetchText { .. } => "fetch text",
+        Call::ClearWithIndicators { .. } => "clear with indicators",
     }
 }
 
@@ -98,6 +99,7 @@ fn random_lists_agree() {
         ("drop", &[0, 8, 11]),
         ("put text", &[0, 12, 13, 14]),
         ("fetch text", &[0, 11, 13]),
+        ("clear with indicators", &[0, 8, 10]),
     ];
     for (call, numbers) in reached {
         for &number in numbers {
@@ -183,5 +185,5 @@ fn gate_lists_agree() {
             }
         }
     }
-    assert_eq!(met.len(), 37, "{met:?}");
+    assert_eq!(met.len(), 40, "{met:?}");
 }

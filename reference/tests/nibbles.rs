@@ -14,7 +14,9 @@ use reference::cases::material::{
 use reference::cases::{Case, Chosen, Outcome, fixed};
 use reference::flag_table::FlagTable;
 use reference::gate::list::Item;
-use reference::gate::{SEED, former_cases, list_cases, nibble_cases, record, whole_cases};
+use reference::gate::{
+    SEED, former_cases, indicator_cases, list_cases, nibble_cases, record, whole_cases,
+};
 use reference::number::{Number, Quantity};
 use reference::outside::costliest;
 use reference::prng::Prng;
@@ -574,5 +576,6 @@ fn lists_give_every_number_of_nibbles() {
     let items = list_cases::items(SEED);
     let mut last: Vec<Item> = nibble_cases::lists().into_iter().map(Item::List).collect();
     last.extend(former_cases::items(SEED));
+    last.extend(indicator_cases::items(SEED));
     assert!(items.ends_with(&last));
 }

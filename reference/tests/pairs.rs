@@ -3,7 +3,8 @@
 mod common;
 
 use common::all_flags::run_case;
-use reference::cases::pairs::pairs;
+use reference::call::Call;
+use reference::cases::pairs::{pairs, without_indicators};
 use reference::cases::{Case, Outcome};
 use reference::refusal::Refusal;
 
@@ -19,6 +20,7 @@ fn refusal_of(case: &Case) -> Option<Refusal> {
         Outcome::Recover { result, .. } => result.err(),
         Outcome::ReadOut { result, .. } => result.err(),
         Outcome::Costliest { result, .. } => result.err(),
+        Outcome::FindIndicators { result, .. } => result.err(),
         Outcome::Calls(answers) => answers[0].0.result.clone().err(),
     }
 }
@@ -112,6 +114,40 @@ fn pairs_of_reading_out() {
     }
     assert!(has_pair(is_read_out, 4, 13));
     assert!(has_pair(is_read_out, 11, 13));
+}
+
+#[test]
+fn pairs_of_the_calls_that_know_indicators() {
+    let finds = |case: &Case| matches!(case, Case::FindIndicators { .. });
+    let clears = |case: &Case| {
+        matches!(case, Case::Calls { calls, .. }
+            if matches!(calls[0], Call::ClearWithIndicators { .. }))
+    };
+    for report in 1..=7 {
+        assert!(has_pair(finds, report, 13), "{report}");
+        assert!(!has_pair(finds, 13, report), "{report}");
+        for caller in [8, 10] {
+            assert!(has_pair(clears, report, caller), "{report} {caller}");
+        }
+    }
+    let others = without_indicators();
+    let all = pairs();
+    let (first, more) = all.split_at(others.len());
+    assert!(
+        first
+            .iter()
+            .zip(&others)
+            .all(|(one, two)| one.both == two.both)
+    );
+    assert!(
+        more.iter()
+            .all(|pair| finds(&pair.both) || clears(&pair.both))
+    );
+    assert!(
+        !others
+            .iter()
+            .any(|pair| finds(&pair.both) || clears(&pair.both))
+    );
 }
 
 #[test]

@@ -277,6 +277,7 @@ fn vectors_meet_every_refusal_and_accept() {
         "load ",
         "read-out ",
         "costliest ",
+        "find-indicators ",
         "calls ",
     ];
     for kind in kinds {

@@ -6,6 +6,7 @@ use crate::call::Call;
 use crate::card::{Card, checksum};
 use crate::flag_table::{FlagTable, NO, VALUES, YES};
 use crate::flags::{self, FLAGS};
+use crate::indicator::{ERRONEOUS_ID, INDICATORS};
 use crate::observation::Observation;
 use crate::prng::Prng;
 use crate::table::{Coded, FIELDS, Scaled, fields};
@@ -412,6 +413,37 @@ pub fn random_observation(prng: &mut Prng) -> Observation {
     for id in ids {
         let body = random_body(prng, id);
         observation.attachments.push(Attachment::new(id, body));
+    }
+    observation
+}
+
+/// An observation in which indicators often stand without their data, at times beside
+/// attachment 5.
+pub fn random_indicators(prng: &mut Prng) -> Observation {
+    let mut observation = random_observation(prng);
+    for indicator in INDICATORS {
+        let value = random_value(prng, indicator.field);
+        observation.values[indicator.field - 1] = (!prng.one_in(4)).then_some(value);
+        let times = prng.pick(&[1, 1, 2, 4]);
+        for &field in indicator.data {
+            if prng.one_in(times) {
+                observation.values[field - 1] = None;
+            }
+        }
+        if prng.one_in(3) {
+            let field = prng.pick(indicator.data);
+            observation.values[field - 1] = Some(random_value(prng, field));
+        }
+    }
+    let attachments = &mut observation.attachments;
+    match prng.below(4) {
+        0 => attachments.retain(|other| other.id != ERRONEOUS_ID),
+        1 if attachments.iter().all(|other| other.id != ERRONEOUS_ID) => {
+            let position = prng.below(attachments.len() + 1);
+            let body = random_body(prng, ERRONEOUS_ID);
+            attachments.insert(position, Attachment::new(ERRONEOUS_ID, body));
+        }
+        _ => {}
     }
     observation
 }

@@ -4,6 +4,7 @@ pub mod calls;
 pub mod characters;
 pub mod costliest;
 pub mod flag_tables;
+pub mod indicators;
 pub mod material;
 pub mod outside;
 pub mod pairs;
@@ -16,7 +17,7 @@ use crate::edit::{Fetched, put_text};
 use crate::flag_table::FlagTable;
 use crate::judge::{Report, judge};
 use crate::lister;
-use crate::outside::{Unpacked, characters, costliest, fresh, pack, same, unpack};
+use crate::outside::{Unpacked, characters, costliest, find_indicators, fresh, pack, same, unpack};
 use crate::reader::read_out;
 use crate::refusal::Refusal;
 use crate::text::Table;
@@ -86,6 +87,11 @@ pub enum Case {
         text: Vec<u8>,
         origins: Vec<u8>,
     },
+    /// The indicators that are present without their data.
+    FindIndicators {
+        report: Vec<u8>,
+        output: Vec<u8>,
+    },
     /// A list of calls on one buffer.
     Calls {
         buffer: Vec<u8>,
@@ -139,6 +145,10 @@ pub enum Outcome {
         result: Result<Chosen, Refusal>,
         text: Vec<u8>,
         origins: Vec<u8>,
+    },
+    FindIndicators {
+        result: Result<usize, Refusal>,
+        output: Vec<u8>,
     },
     /// For each call its answer and the buffer after it.
     Calls(Vec<(Answer, Vec<u8>)>),
@@ -274,6 +284,11 @@ impl Case {
                     origins,
                 }
             }
+            Case::FindIndicators { report, output } => {
+                let mut output = output.clone();
+                let result = find_indicators(report, &mut output, flags);
+                Outcome::FindIndicators { result, output }
+            }
             Case::Calls { buffer, calls } => {
                 let mut buffer = buffer.clone();
                 let mut answers = Vec::new();
@@ -308,5 +323,6 @@ pub fn fixed() -> Vec<Case> {
     cases.extend(flag_tables::cases());
     cases.extend(symbols::cases());
     cases.extend(costliest::cases());
+    cases.extend(indicators::cases());
     cases
 }

@@ -2,11 +2,13 @@
 
 use super::Case;
 use super::costliest::{TOO_MANY, costliest};
+use super::indicators::{find, of_fields};
 use super::material::*;
 use super::symbols::read_out;
 use crate::attachment::with_header;
 use crate::call::Call;
 use crate::flags;
+use crate::observation::Observation;
 use crate::refusal::{Refusal, refusal};
 use crate::table::{REQUIRED, fields};
 
@@ -21,6 +23,14 @@ pub struct Pair {
 }
 
 pub fn pairs() -> Vec<Pair> {
+    let mut pairs = without_indicators();
+    pairs.extend(find_indicators_pairs());
+    pairs.extend(clear_with_indicators_pairs());
+    pairs
+}
+
+/// The pairs of the calls that do not know indicators.
+pub fn without_indicators() -> Vec<Pair> {
     let mut pairs = report_pairs();
     pairs.extend(unpack_pairs());
     pairs.extend(report_and_caller_pairs());
@@ -184,7 +194,12 @@ fn report_faults() -> Vec<ReportFault> {
 
 /// A fresh report with attachment 2 and some faults, in the order of checking.
 fn report_with(faults: &[ReportFault]) -> Vec<u8> {
-    let mut draft = Draft::of(&observation_with(&[(2, &[7])]));
+    observation_with_faults(&observation_with(&[(2, &[7])]), faults)
+}
+
+/// An observation with attachment 2 alone as a report with some faults.
+fn observation_with_faults(observation: &Observation, faults: &[ReportFault]) -> Vec<u8> {
+    let mut draft = Draft::of(observation);
     let mut length = None;
     for fault in faults {
         match *fault {
@@ -681,6 +696,51 @@ fn costliest_pairs() -> Vec<Pair> {
                 second: refusal(13, 0),
                 both: costliest(symbols, text, origins),
                 mended: costliest(85, text, origins),
+            });
+        }
+    }
+    pairs
+}
+
+/// The report's refusal, then 13 for an output one byte short of what is found.
+fn find_indicators_pairs() -> Vec<Pair> {
+    let mut pairs = Vec::new();
+    for fault in report_faults() {
+        for indicators in [&[17][..], &[17, 19, 21, 27, 32, 36]] {
+            let mut observation = of_fields(indicators, true);
+            observation.attachments = observation_with(&[(2, &[7])]).attachments;
+            let case = |faults: &[ReportFault]| {
+                let report = observation_with_faults(&observation, faults);
+                find(&report, indicators.len() - 1)
+            };
+            pairs.push(Pair {
+                first: fault.refusal(),
+                second: refusal(13, 0),
+                both: case(&[fault]),
+                mended: case(&[]),
+            });
+        }
+    }
+    pairs
+}
+
+/// The report's refusal, then 8 or 10. The two never meet.
+fn clear_with_indicators_pairs() -> Vec<Pair> {
+    let clear = |field| Call::ClearWithIndicators { field };
+    let mut pairs = Vec::new();
+    for fault in report_faults() {
+        for (second, call) in [
+            (refusal(8, 0), clear(0)),
+            (refusal(8, 0), clear(47)),
+            (refusal(8, 0), clear(256 + 18)),
+            (refusal(10, 1), clear(1)),
+            (refusal(10, 7), clear(7)),
+        ] {
+            pairs.push(Pair {
+                first: fault.refusal(),
+                second,
+                both: one_call(report_with(&[fault]), &call),
+                mended: one_call(report_with(&[]), &call),
             });
         }
     }

@@ -7,6 +7,7 @@ use crate::attachment::Attachment;
 use crate::call::Call;
 use crate::flag_table::FlagTable;
 use crate::flags;
+use crate::indicator::{ERRONEOUS_ID, INDICATORS};
 use crate::judge::judge;
 use crate::observation::Observation;
 use crate::prng::Prng;
@@ -20,7 +21,24 @@ pub fn cases(seed: u64, count: usize) -> impl Iterator<Item = Case> {
     (0..count).map(move |_| case(&mut prng))
 }
 
+/// So many cases from a seed, drawn without the calls that know indicators.
+pub fn without_indicators(seed: u64, count: usize) -> impl Iterator<Item = Case> {
+    let mut prng = Prng::new(seed);
+    (0..count).map(move |_| case_without_indicators(&mut prng))
+}
+
 fn case(prng: &mut Prng) -> Case {
+    match prng.below(12) {
+        0 => find_indicators_case(prng),
+        1..4 => {
+            let start = random_indicators(prng);
+            calls_case(prng, start, random_call)
+        }
+        _ => case_without_indicators(prng),
+    }
+}
+
+fn case_without_indicators(prng: &mut Prng) -> Case {
     match prng.below(22) {
         0..4 => Case::Judge {
             report: report(prng),
@@ -32,7 +50,10 @@ fn case(prng: &mut Prng) -> Case {
         8..11 => pack_case(prng),
         11 => fresh_case(prng),
         12..14 => read_out_case(prng),
-        _ => calls_case(prng),
+        _ => {
+            let start = random_observation(prng);
+            calls_case(prng, start, call_without_indicators)
+        }
     }
 }
 
@@ -181,16 +202,34 @@ fn fresh_case(prng: &mut Prng) -> Case {
     }
 }
 
+/// Most often some indicators stand without their data.
+fn find_indicators_case(prng: &mut Prng) -> Case {
+    let observation = random_indicators(prng);
+    let report = if prng.one_in(3) {
+        report_of(prng, &observation)
+    } else {
+        observation.packing()
+    };
+    let judged = judge(&report, &FlagTable::all());
+    let count = judged.map_or(3, |report| report.observation.lone_indicators().len());
+    Case::FindIndicators {
+        report,
+        output: random_output(prng, count),
+    }
+}
+
+/// Draws a call for an observation in a buffer of a length.
+type DrawCall = fn(&mut Prng, &Observation, usize) -> Call;
+
 /// A list of calls; the observation is stepped along so that arguments can be fitted.
-fn calls_case(prng: &mut Prng) -> Case {
-    let start = random_observation(prng);
+fn calls_case(prng: &mut Prng, start: Observation, draw: DrawCall) -> Case {
     let room = prng.pick(&[0, 0, 1, 2, 8, 30, 200, 1000]);
     let mut buffer = start.packing();
     buffer.extend(prng.bytes(room));
     let mut observation = start;
     let mut calls = Vec::new();
     for _ in 0..1 + prng.below(16) {
-        let call = random_call(prng, &observation, buffer.len());
+        let call = draw(prng, &observation, buffer.len());
         observation = step::step(&observation, buffer.len(), &call, &FlagTable::all()).0;
         calls.push(call);
     }
@@ -199,6 +238,45 @@ fn calls_case(prng: &mut Prng) -> Case {
 
 /// A call whose arguments often stand at an edge of what the observation allows.
 pub fn random_call(prng: &mut Prng, observation: &Observation, n: usize) -> Call {
+    match prng.below(5) {
+        0 => indicator_call(prng),
+        _ => call_without_indicators(prng, observation, n),
+    }
+}
+
+/// Most often a clear with indicators, else one of the calls that bring an indicator, its
+/// data or attachment 5 about or take it away.
+pub fn indicator_call(prng: &mut Prng) -> Call {
+    let indicator = prng.pick(&INDICATORS);
+    let data = prng.pick(indicator.data);
+    let either = prng.pick(&[indicator.field, data]);
+    let id = u64::from(ERRONEOUS_ID);
+    match prng.below(12) {
+        0..4 => Call::ClearWithIndicators { field: data as u64 },
+        4 => Call::ClearWithIndicators {
+            field: either as u64,
+        },
+        5 | 6 => Call::ClearWithIndicators {
+            field: random_number(prng, FIELDS as u64),
+        },
+        7..9 => Call::SetField {
+            field: either as u64,
+            value: random_value(prng, either).0,
+        },
+        9 => Call::ClearField {
+            field: either as u64,
+        },
+        10 => {
+            let length = 1 + prng.below(4);
+            let content = prng.nibbles(length);
+            Call::Put { id, content }
+        }
+        _ => Call::Drop { id },
+    }
+}
+
+/// One of the calls that do not know indicators.
+pub fn call_without_indicators(prng: &mut Prng, observation: &Observation, n: usize) -> Call {
     match prng.below(14) {
         0 => Call::ReadField {
             field: random_number(prng, FIELDS as u64),

@@ -5,7 +5,7 @@ use crate::call::Call;
 use crate::cases::Case;
 use crate::cases::flag_tables::{self, load, refused_tables};
 use crate::cases::material::*;
-use crate::cases::random::random_call;
+use crate::cases::random::call_without_indicators;
 use crate::flag_table::{FlagTable, VALUES};
 use crate::flags::{self, FLAGS};
 use crate::gate::list::{Item, List};
@@ -237,7 +237,7 @@ fn drawn_call(prng: &mut Prng, table: &FlagTable, observation: &Observation, n: 
             content: drawn_flags(prng, table),
         },
         _ => loop {
-            let call = random_call(prng, observation, n);
+            let call = call_without_indicators(prng, observation, n);
             if entry(&call).len() < 60 {
                 return call;
             }

@@ -1,5 +1,6 @@
 //! Lists of calls in script form, those of a library's own table of flags, those of
-//! symbols, those of every number of nibbles and those of former values last.
+//! symbols, those of every number of nibbles, those of former values and those of
+//! indicators last.
 
 use std::collections::BTreeSet;
 
@@ -9,14 +10,16 @@ use crate::cases::Case;
 use crate::cases::calls::{WIDE_NUMBERS, texts};
 use crate::cases::material::*;
 use crate::cases::outside::edge_values;
-use crate::cases::random::{random_call, symbol_count};
+use crate::cases::random::{call_without_indicators, symbol_count};
 use crate::cases::{pairs, reports};
 use crate::flag_table::FlagTable;
 use crate::gate::list::{Item, List, MOST_LOG};
 use crate::gate::log::{FRONT, HEAD, MARKED, record_size};
 use crate::gate::script::{entry, run, script};
 use crate::gate::sizes::{LONGEST_TAIL, observation_of_tail};
-use crate::gate::{flag_cases, former_cases, nibble_cases, sum_cases, symbol_cases, text_cases};
+use crate::gate::{
+    flag_cases, former_cases, indicator_cases, nibble_cases, sum_cases, symbol_cases, text_cases,
+};
 use crate::judge::judge;
 use crate::observation::Observation;
 use crate::prng::Prng;
@@ -36,6 +39,7 @@ pub fn items(seed: u64) -> Vec<Item> {
     items.extend(symbol_cases::items());
     items.extend(nibble_cases::lists().into_iter().map(Item::List));
     items.extend(former_cases::items(seed));
+    items.extend(indicator_cases::items(seed));
     items
 }
 
@@ -107,7 +111,7 @@ fn observation_of(buffer: &[u8]) -> Observation {
 fn drawn_call(prng: &mut Prng, buffer: &[u8]) -> Call {
     let observation = observation_of(buffer);
     loop {
-        let call = random_call(prng, &observation, buffer.len());
+        let call = call_without_indicators(prng, &observation, buffer.len());
         if entry(&call).len() < 80 || prng.one_in(12) {
             return call;
         }
@@ -289,7 +293,7 @@ fn text_lists(prng: &mut Prng) -> Vec<List> {
 fn pair_lists(prng: &mut Prng) -> Vec<List> {
     let mut buffer = Vec::new();
     let mut calls: Vec<Call> = Vec::new();
-    for pair in pairs::pairs() {
+    for pair in pairs::without_indicators() {
         for case in [pair.both, pair.mended] {
             if let Case::Calls {
                 buffer: given,
@@ -438,7 +442,7 @@ fn held_buffer() -> Vec<u8> {
     with_bytes_after(held_observation().packing(), &[0xA5; 12])
 }
 
-/// One call of each kind, all of them accepted on the held report.
+/// One call of each kind up to 11, all of them accepted on the held report.
 pub fn one_of_each() -> Vec<Call> {
     vec![
         Call::ReadField { field: 2 },
@@ -530,7 +534,7 @@ fn wide_count_lists() -> Vec<List> {
 fn unknown_kind_lists() -> Vec<List> {
     let calls = script(&one_of_each());
     let mut lists = Vec::new();
-    for kind in [0, 12, 13, 128, 255] {
+    for kind in [0, 13, 14, 128, 255] {
         lists.push(raw([&[kind][..], &calls].concat(), 60));
         lists.push(raw([&calls[..], &[kind], &calls].concat(), 60));
     }
@@ -568,7 +572,7 @@ fn short_log_lists() -> Vec<List> {
 
 /// Places in a call's record: the given ones, where its row begins, about where the
 /// row ends, between two outputs, before the last byte, and the end.
-fn cuts(call: &Call, given: &[usize]) -> BTreeSet<usize> {
+pub fn cuts(call: &Call, given: &[usize]) -> BTreeSet<usize> {
     let size = record_size(call);
     let mut cuts = BTreeSet::from([HEAD, FRONT - 1, FRONT, FRONT + 1, size - 1, size]);
     cuts.extend(given);
@@ -647,7 +651,7 @@ fn refused_lists() -> Vec<List> {
 /// the order of the shared pairs, in one list.
 fn refused_pair_lists() -> Vec<List> {
     let mut grouped: Vec<(Vec<u8>, Vec<Call>)> = Vec::new();
-    for pair in pairs::pairs() {
+    for pair in pairs::without_indicators() {
         if let Case::Calls { buffer, calls } = pair.both
             && judge(&buffer, &FlagTable::all()).is_err()
         {

@@ -5,6 +5,7 @@ pub mod costliest_cases;
 pub mod flag_cases;
 pub mod former_cases;
 pub mod head;
+pub mod indicator_cases;
 pub mod list;
 pub mod list_cases;
 pub mod log;

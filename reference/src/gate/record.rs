@@ -19,9 +19,11 @@ const CHARACTERS: u8 = 9;
 const LOAD: u8 = 10;
 const READ_OUT: u8 = 11;
 const COSTLIEST: u8 = 12;
+const FIND_INDICATORS: u8 = 13;
 
 /// The longest report, input or output; the most values; the longest tails; the most
-/// marks of a table of flags; the longest output of a text and of a costliest one.
+/// marks of a table of flags; the longest output of a text, of a costliest one and of
+/// indicators.
 pub const MOST_BYTES: usize = 2000;
 pub const MOST_VALUES: usize = 60;
 pub const MOST_UNPACK_TAIL: usize = 4000;
@@ -29,6 +31,7 @@ pub const MOST_PACK_TAIL: usize = 4200;
 pub const MOST_MARKS: usize = 200;
 pub const MOST_TEXT: usize = 2400;
 pub const MOST_COSTLIEST: usize = 200;
+pub const MOST_INDICATORS: usize = 200;
 
 /// Whether a case is a record and keeps its limits.
 pub fn fits(case: &Case) -> bool {
@@ -90,6 +93,9 @@ pub fn fits(case: &Case) -> bool {
         } => report.len() <= MOST_BYTES && text.len() <= MOST_TEXT && origins.len() <= MOST_TEXT,
         Case::Costliest { text, origins, .. } => {
             text.len() <= MOST_COSTLIEST && origins.len() <= MOST_COSTLIEST
+        }
+        Case::FindIndicators { report, output } => {
+            report.len() <= MOST_BYTES && output.len() <= MOST_INDICATORS
         }
         Case::Calls { .. } => false,
     }
@@ -186,6 +192,9 @@ pub fn input(case: &Case) -> Vec<u8> {
             counted(origins),
         ]
         .concat(),
+        Case::FindIndicators { report, output } => {
+            [vec![FIND_INDICATORS], counted(report), counted(output)].concat()
+        }
         Case::Calls { .. } => unreachable!("a list of calls is no record"),
     }
 }
@@ -208,7 +217,9 @@ pub fn answer(outcome: &Outcome) -> Vec<u8> {
             values,
             tail,
         } => [unpacked(result), numbers(values), tail.clone()].concat(),
-        Outcome::Pack { result, output } => [head(result.map(Some)), output.clone()].concat(),
+        Outcome::Pack { result, output } | Outcome::FindIndicators { result, output } => {
+            [head(result.map(Some)), output.clone()].concat()
+        }
         Outcome::Same(result) => head(result.map(|same| Some(usize::from(same)))),
         Outcome::Restore {
             result,

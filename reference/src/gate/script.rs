@@ -15,6 +15,7 @@ const FETCH: u8 = 8;
 const DROP: u8 = 9;
 const PUT_TEXT: u8 = 10;
 const FETCH_TEXT: u8 = 11;
+const CLEAR_WITH_INDICATORS: u8 = 12;
 
 /// The entry of a call: its kind, its numbers and its bytes.
 pub fn entry(call: &Call) -> Vec<u8> {
@@ -30,6 +31,7 @@ pub fn entry(call: &Call) -> Vec<u8> {
         Call::Drop { id } => joined(DROP, &[*id], &[]),
         Call::PutText { text, origins } => text_entry(PUT_TEXT, text, origins),
         Call::FetchText { text, origins } => text_entry(FETCH_TEXT, text, origins),
+        Call::ClearWithIndicators { field } => joined(CLEAR_WITH_INDICATORS, &[*field], &[]),
     }
 }
 
@@ -111,6 +113,10 @@ pub fn first_call(script: &[u8]) -> Option<(Call, &[u8])> {
             let (text, rest) = counted(rest)?;
             let (origins, rest) = counted(rest)?;
             (Call::FetchText { text, origins }, rest)
+        }
+        CLEAR_WITH_INDICATORS => {
+            let (field, rest) = number(rest)?;
+            (Call::ClearWithIndicators { field }, rest)
         }
         _ => return None,
     };

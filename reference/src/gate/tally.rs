@@ -39,6 +39,7 @@ impl Tally {
             Outcome::Load { result, .. } => ("load", number(result)),
             Outcome::ReadOut { result, .. } => ("read out", number(result)),
             Outcome::Costliest { result, .. } => ("costliest", number(result)),
+            Outcome::FindIndicators { result, .. } => ("find indicators", number(result)),
             Outcome::Calls(_) => unreachable!("a list of calls is no record"),
         };
         self.add(kind, refusal);
@@ -96,6 +97,7 @@ fn name(call: &Call) -> &'static str {
         Call::Drop { .. } => "drop",
         Call::PutText { .. } => "put text",
         Call::FetchText { .. } => "fetch text",
+        Call::ClearWithIndicators { .. } => "clear with indicators",
     }
 }
 

@@ -8,19 +8,21 @@ use crate::cases::outside::{edge_values, tails};
 use crate::cases::{self, Case, characters, pairs, random, reports};
 use crate::gate::sizes::{LONGEST_TAIL, observation_of_sum, observation_of_tail};
 use crate::gate::{
-    costliest_cases, flag_cases, record, same_cases, sum_cases, symbol_cases, trip_cases,
+    costliest_cases, flag_cases, indicator_cases, record, same_cases, sum_cases, symbol_cases,
+    trip_cases,
 };
 use crate::observation::Observation;
 use crate::prng::Prng;
 use crate::table::{FIELDS, fields};
 
-/// Cases from a seed, those of a library's own table of flags, those of symbols and
-/// those of the costliest text last.
+/// Cases from a seed, those of a library's own table of flags, those of symbols, those of
+/// the costliest text and those of indicators last.
 pub fn cases(seed: u64) -> Vec<Case> {
     let mut cases = before_loads(seed);
     cases.extend(flag_cases::records(seed));
     cases.extend(symbol_cases::records(seed));
     cases.extend(costliest_cases::records(seed));
+    cases.extend(indicator_cases::records(seed));
     cases
 }
 
@@ -391,7 +393,7 @@ fn pack_with_room(prng: &mut Prng, observation: &Observation) -> Case {
 /// Cases drawn at random, sound and damaged.
 fn drawn(prng: &mut Prng) -> Vec<Case> {
     let seed = prng.next_u64();
-    random::cases(seed, 1000)
+    random::without_indicators(seed, 1000)
         .filter(record::fits)
         .filter(|case| record::input(case).len() < 900)
         .take(100)

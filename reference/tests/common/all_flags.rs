@@ -108,6 +108,14 @@ pub fn fetch_text(buffer: &[u8], text: &mut [u8], origins: &mut [u8]) -> Answer<
     edit::fetch_text(buffer, text, origins, &FlagTable::all())
 }
 
+pub fn clear_with_indicators(buffer: &mut [u8], field: u64) -> Answer<Option<Scaled>> {
+    edit::clear_with_indicators(buffer, field, &FlagTable::all())
+}
+
+pub fn find_indicators(report: &[u8], output: &mut [u8]) -> Answer<usize> {
+    outside::find_indicators(report, output, &FlagTable::all())
+}
+
 pub fn open(report: &[u8]) -> Reader<'_> {
     Reader::open(report, &FlagTable::all())
 }
