@@ -16,6 +16,7 @@ use reference::table::field;
 use reference::text::{self, Symbol};
 
 use crate::flag_tables;
+use crate::indicators;
 use crate::reports::{changed_body, near_edge};
 
 /// Some calls in turn on an observation under a table of flags; n is the buffer's length.
@@ -37,9 +38,14 @@ pub fn list(prng: &mut Prng, observation: &Observation, n: usize, flags: &FlagTa
 fn follow(prng: &mut Prng, last: &Call, observation: &Observation, n: usize) -> Call {
     let output = prng.bytes(255);
     match *last {
+        Call::ClearField { field } if prng.one_in(3) => Call::ClearWithIndicators { field },
         Call::SetField { field, .. } | Call::ClearField { field } => Call::ReadField { field },
         Call::SetFlag { flag, .. } | Call::ClearFlag { flag } => Call::ReadFlag { flag },
+        Call::ReadField { field } if prng.one_in(2) => Call::ClearWithIndicators { field },
         Call::ReadField { field } => Call::ClearField { field },
+        Call::ClearWithIndicators { field } => Call::ReadField {
+            field: indicators::beside(prng, field),
+        },
         Call::ReadFlag { flag } => Call::ClearFlag { flag },
         Call::Put { id, .. } if prng.one_in(3) => Call::Drop { id },
         Call::Put { id, .. } | Call::Drop { id } => Call::Fetch { id, output },
@@ -66,6 +72,9 @@ pub fn call(prng: &mut Prng, observation: &Observation, n: usize, flags: &FlagTa
     }
     if prng.one_in(6) {
         return text_call(prng, observation, n);
+    }
+    if prng.one_in(12) {
+        return indicators::call(prng, observation);
     }
     let mut call = random_call(prng, observation, n);
     if prng.one_in(4) {
@@ -112,6 +121,7 @@ fn vary(prng: &mut Prng, call: &mut Call, observation: &Observation, n: usize) {
         Call::ReadField { field: number }
         | Call::SetField { field: number, .. }
         | Call::ClearField { field: number }
+        | Call::ClearWithIndicators { field: number }
         | Call::ReadFlag { flag: number }
         | Call::SetFlag { flag: number, .. }
         | Call::ClearFlag { flag: number }
@@ -130,7 +140,7 @@ fn vary(prng: &mut Prng, call: &mut Call, observation: &Observation, n: usize) {
     }
 }
 
-fn edge_number(prng: &mut Prng) -> u64 {
+pub fn edge_number(prng: &mut Prng) -> u64 {
     let number = prng.pick(&[0, 1, 2, 4, 5, 14, 15, 16, 46, 47, 48]);
     match prng.below(4) {
         0 => prng.pick(&WIDE_NUMBERS),

@@ -61,7 +61,8 @@ fn expected_call(tally: &mut Tally, call: &Call, buffer: &mut [u8], flags: &Flag
     let before = buffer.to_vec();
     let expected = expected::call(call, buffer, flags);
     let with_all = || expected::call(call, &mut before.clone(), &FlagTable::all());
-    tally.add_call(call, &expected, by_flags(&expected, flags, with_all));
+    let by_flags = by_flags(&expected, flags, with_all);
+    tally.add_call(call, &before, &expected, by_flags);
     expected
 }
 

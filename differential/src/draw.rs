@@ -19,7 +19,7 @@ use crate::{calls, flag_tables, reports, scripts};
 pub fn trials(seed: u64, case: u64) -> Vec<Trial> {
     let mut prng = prng_of(seed, case);
     let flags = flag_tables::table(&mut prng);
-    let given = match prng.below(34) {
+    let given = match prng.below(37) {
         0..3 => vec![Given::Whole(judge_case(&mut prng, &flags))],
         3..6 => vec![Given::Whole(unpack_case(&mut prng, &flags))],
         6..10 => vec![Given::Whole(pack_case(&mut prng, &flags))],
@@ -34,7 +34,8 @@ pub fn trials(seed: u64, case: u64) -> Vec<Trial> {
         27 => vec![Given::AllFlags],
         28..31 => vec![Given::Whole(read_out_case(&mut prng, &flags))],
         31 => vec![forged(&mut prng, &flags)],
-        _ => vec![Given::Whole(costliest_case(&mut prng))],
+        32..34 => vec![Given::Whole(costliest_case(&mut prng))],
+        _ => vec![Given::Whole(indicators_case(&mut prng, &flags))],
     };
     let under = |given: Given| given.under(flags);
     given.into_iter().map(under).collect()
@@ -198,6 +199,18 @@ fn costliest_case(prng: &mut Prng) -> Case {
         symbols,
         text: prng.bytes(text),
         origins: prng.bytes(origins),
+    }
+}
+
+/// An output with just enough room for what is to be found, with a byte less or more.
+fn indicators_case(prng: &mut Prng, flags: &FlagTable) -> Case {
+    let (observation, report) = lent_report(prng, flags, 2);
+    let found = observation.lone_indicators().len();
+    let less = found.saturating_sub(1);
+    let room = prng.pick(&[found, found, found, less, less, 0, found + 1, 6, 40]);
+    Case::FindIndicators {
+        report,
+        output: prng.bytes(room),
     }
 }
 

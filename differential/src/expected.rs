@@ -7,7 +7,7 @@ use reference::gate::script;
 use reference::judge::judge;
 use reference::line::hex;
 use reference::number::Number;
-use reference::outside::{characters, costliest, fresh, pack, unpack};
+use reference::outside::{characters, costliest, find_indicators, fresh, pack, unpack};
 use reference::reader::{self, Reader};
 use reference::refusal::Refusal;
 use reference::text::{self, Table};
@@ -79,7 +79,7 @@ fn with_flags(mut outcome: Outcome, flags: &FlagTable) -> Outcome {
     outcome
 }
 
-/// Judge, fresh, unpack, pack, characters, load, read out or costliest.
+/// Judge, fresh, unpack, pack, characters, load, read out, costliest or find indicators.
 pub fn whole(case: &Case, flags: &FlagTable) -> Outcome {
     match case {
         Case::Judge { report } => {
@@ -141,6 +141,13 @@ pub fn whole(case: &Case, flags: &FlagTable) -> Outcome {
             let (mut text, mut origins) = (text.clone(), origins.clone());
             let result = costliest(*symbols, &mut text, &mut origins).map(|()| Vec::new());
             outcome(result, &[("text", &text), ("origins", &origins)])
+        }
+        Case::FindIndicators { report, output } => {
+            let mut output = output.clone();
+            let result = find_indicators(report, &mut output, flags);
+            let result = result.map(|count| vec![Number::count(count)]);
+            let buffers: [(_, &[u8]); 2] = [("report", report), ("output", &output)];
+            with_flags(outcome(result, &buffers), flags)
         }
         Case::Lister { .. }
         | Case::Same { .. }
@@ -236,7 +243,7 @@ pub fn forged(report: &[u8]) -> Outcome {
     }
 }
 
-/// One of the eleven calls; the buffer is changed as it should be.
+/// One of the twelve calls; the buffer is changed as it should be.
 pub fn call(call: &Call, buffer: &mut [u8], flags: &FlagTable) -> Outcome {
     let answer = call.run(buffer, flags);
     let mut buffers: Vec<(_, &[u8])> = vec![("report", buffer)];

@@ -74,7 +74,7 @@ impl Harness {
         self.flags.hold(&flags.marks()).cast()
     }
 
-    /// Judge, fresh, unpack, pack, characters, load, read out or costliest.
+    /// Judge, fresh, unpack, pack, characters, load, read out, costliest or find indicators.
     pub fn whole(&mut self, case: &Case, flags: &FlagTable) -> Outcome {
         match case {
             Case::Judge { report } => {
@@ -128,6 +128,7 @@ impl Harness {
                 text,
                 origins,
             } => self.costliest(*symbols as usize, text, origins),
+            Case::FindIndicators { report, output } => self.find_indicators(report, output, flags),
             Case::Lister { .. }
             | Case::Same { .. }
             | Case::Restore { .. }
@@ -288,6 +289,20 @@ impl Harness {
         }
     }
 
+    fn find_indicators(&mut self, report: &[u8], output: &[u8], flags: &FlagTable) -> Outcome {
+        let (n, out_n) = (report.len(), output.len());
+        let at = hold(&mut self.report, report, self.null);
+        let out_at = hold(&mut self.output, output, self.null);
+        let flags_at = self.lend_flags(flags);
+        let answer = unsafe { (self.library.find_indicators)(at, n, out_at, out_n, flags_at) };
+        let buffers = [
+            ("report", &self.report),
+            ("output", &self.output),
+            ("flags", &self.flags),
+        ];
+        outcome(answer, &buffers)
+    }
+
     /// Steps of a reader of any numbers.
     pub fn forged(&mut self, report: &[u8], reader: &Reader) -> Outcome {
         let n = report.len();
@@ -387,6 +402,9 @@ impl Harness {
                     origins.len(),
                     flags,
                 ),
+                Call::ClearWithIndicators { field } => {
+                    (library.clear_with_indicators)(at, n, *field as usize, flags)
+                }
             }
         }
     }

@@ -1,4 +1,4 @@
-//! The independent implementation beside a library of the twenty-two calls, on
+//! The independent implementation beside a library of the twenty-four calls, on
 //! random cases, with every buffer between fences.
 
 pub mod calls;
@@ -9,6 +9,7 @@ pub mod fault;
 pub mod fence;
 pub mod flag_tables;
 pub mod harness;
+pub mod indicators;
 pub mod library;
 pub mod reports;
 pub mod scripts;

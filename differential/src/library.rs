@@ -1,4 +1,4 @@
-//! The twenty-two calls as C sees them.
+//! The twenty-four calls as C sees them.
 
 /// The refusal and its place; the labels of the numbers that are given, the first
 /// one's in the lowest byte; the numbers.
@@ -102,6 +102,9 @@ pub struct Library {
         usize,
         *const Flags,
     ) -> Answer,
+    pub clear_with_indicators: NumberedEdit,
+    pub find_indicators:
+        unsafe extern "C" fn(*const u8, usize, *mut u8, usize, *const Flags) -> Answer,
     pub open_text: unsafe extern "C" fn(*const u8, usize, *mut Reader, *const Flags) -> Answer,
     pub next_symbol: unsafe extern "C" fn(*const u8, usize, *mut Reader) -> Symbol,
     pub costliest_text: unsafe extern "C" fn(usize, *mut u8, usize, *mut u8, usize) -> Answer,

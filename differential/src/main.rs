@@ -99,6 +99,19 @@ unsafe extern "C" {
         origins_n: usize,
         flags: *const Flags,
     ) -> Answer;
+    fn lmr5_clear_with_indicators(
+        report: *mut u8,
+        n: usize,
+        field: usize,
+        flags: *const Flags,
+    ) -> Answer;
+    fn lmr5_find_indicators(
+        report: *const u8,
+        n: usize,
+        out: *mut u8,
+        out_n: usize,
+        flags: *const Flags,
+    ) -> Answer;
     fn lmr5_open_text(
         report: *const u8,
         n: usize,
@@ -143,6 +156,8 @@ const LIBRARY: Library = Library {
     drop: lmr5_drop,
     put_text: lmr5_put_text,
     fetch_text: lmr5_fetch_text,
+    clear_with_indicators: lmr5_clear_with_indicators,
+    find_indicators: lmr5_find_indicators,
     open_text: lmr5_open_text,
     next_symbol: lmr5_next_symbol,
     costliest_text: lmr5_costliest_text,

@@ -15,8 +15,11 @@ use reference::prng::Prng;
 use reference::table::{CK, Coded, FIELDS, Field, SID, Scaled, fields, place_on_card};
 use reference::text;
 
+use crate::indicators;
+
 /// An observation, of any size from no attachment to fifteen of 255 nibbles. At times
-/// its source ID is one of those whose character set is known, or beside them.
+/// its source ID is one of those whose character set is known, or beside them. As often
+/// as not some of its indicators have lost their data.
 pub fn observation(prng: &mut Prng) -> Observation {
     let mut observation = match prng.below(40) {
         0 => fresh_observation(),
@@ -48,6 +51,9 @@ pub fn observation(prng: &mut Prng) -> Observation {
         let beside = prng.below(27) as i64;
         observation.values[SID - 1] = Some(Scaled(prng.pick(&[4, 18, beside, beside])));
     }
+    if prng.one_in(2) {
+        indicators::part(prng, &mut observation);
+    }
     observation
 }
 
@@ -66,7 +72,7 @@ pub fn near_edge(prng: &mut Prng, field: Field) -> Option<i64> {
 }
 
 /// Adds an id at any position if it does not stand.
-fn add(prng: &mut Prng, observation: &mut Observation, id: u8) {
+pub fn add(prng: &mut Prng, observation: &mut Observation, id: u8) {
     if observation.content(u64::from(id)).is_none() {
         let body = random_body(prng, id);
         let position = prng.below(observation.attachments.len() + 1);

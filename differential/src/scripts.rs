@@ -15,7 +15,7 @@ pub fn given(prng: &mut Prng, buffer: &[u8], calls: &[Call]) -> Given {
     match prng.below(12) {
         0 => script.truncate(prng.below(script.len() + 1)),
         1 => {
-            script.push(prng.pick(&[0, 12, 13, 128, 255]));
+            script.push(prng.pick(&[0, 13, 14, 128, 255]));
             script.extend(prng.bytes(40));
         }
         2 => script.extend(cut_entry(prng, calls)),
@@ -79,7 +79,7 @@ fn break_entry(prng: &mut Prng, script: &mut [u8], calls: &[Call]) {
 fn random_script(prng: &mut Prng) -> Vec<u8> {
     let mut script = Vec::new();
     for _ in 0..prng.below(6) {
-        script.push(prng.below(13) as u8);
+        script.push(prng.below(14) as u8);
         for _ in 0..prng.below(3) {
             script.extend((prng.below(20) as u64).to_be_bytes());
         }

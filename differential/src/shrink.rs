@@ -6,6 +6,8 @@ use reference::flag_table::{FlagTable, NO, YES};
 use reference::gate::log::record_size;
 use reference::gate::script::first_call;
 use reference::judge::judge;
+use reference::observation::Observation;
+use reference::table::{FIELDS, REQUIRED};
 use reference::text::Table;
 
 use crate::compare::{Difference, compare};
@@ -106,14 +108,30 @@ fn one_shorter(first: &[u8], second: &[u8]) -> Vec<(Vec<u8>, Vec<u8>)> {
     pairs
 }
 
-/// A report with an attachment less, whatever its flags are, and shorter buffers.
+/// A report with an attachment less or with fewer fields, whatever its flags are, and
+/// shorter buffers.
 fn smaller_reports(buffer: &[u8]) -> Vec<Vec<u8>> {
     let mut smaller = Vec::new();
     if let Ok(report) = judge(buffer, &FlagTable::all()) {
-        for index in 0..report.ac {
+        let mut with = |change: &dyn Fn(&mut Observation)| {
             let mut observation = report.observation.clone();
-            observation.attachments.remove(index);
+            change(&mut observation);
             smaller.push([&observation.packing(), &buffer[report.bytes..]].concat());
+        };
+        for index in 0..report.ac {
+            with(&|observation| {
+                observation.attachments.remove(index);
+            });
+        }
+        let is_optional = |field: &usize| !REQUIRED.contains(field);
+        let is_present = |field: &usize| report.observation.values[field - 1].is_some();
+        let optional = (1..=FIELDS).filter(is_optional).filter(is_present);
+        for cleared in fewer(&optional.collect::<Vec<_>>()) {
+            with(&|observation| {
+                for field in cleared {
+                    observation.values[field - 1] = None;
+                }
+            });
         }
     }
     smaller.extend(shorter(buffer));
@@ -127,14 +145,17 @@ fn smaller_cases(case: &Case) -> Vec<Case> {
         change(&mut changed);
         smaller.push(changed);
     };
-    if let Case::Judge { report } | Case::Unpack { report, .. } | Case::ReadOut { report, .. } =
-        case
+    if let Case::Judge { report }
+    | Case::Unpack { report, .. }
+    | Case::ReadOut { report, .. }
+    | Case::FindIndicators { report, .. } = case
     {
         for shorter in smaller_reports(report) {
             with(&|case| {
                 if let Case::Judge { report }
                 | Case::Unpack { report, .. }
-                | Case::ReadOut { report, .. } = case
+                | Case::ReadOut { report, .. }
+                | Case::FindIndicators { report, .. } = case
                 {
                     *report = shorter.clone();
                 }
@@ -180,10 +201,16 @@ fn smaller_cases(case: &Case) -> Vec<Case> {
             });
         }
     }
-    if let Case::Fresh { output, .. } | Case::Pack { output, .. } = case {
+    if let Case::Fresh { output, .. }
+    | Case::Pack { output, .. }
+    | Case::FindIndicators { output, .. } = case
+    {
         for shorter in shorter(output) {
             with(&|case| {
-                if let Case::Fresh { output, .. } | Case::Pack { output, .. } = case {
+                if let Case::Fresh { output, .. }
+                | Case::Pack { output, .. }
+                | Case::FindIndicators { output, .. } = case
+                {
                     *output = shorter.clone();
                 }
             });

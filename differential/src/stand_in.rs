@@ -1,4 +1,4 @@
-//! The independent implementation behind the twenty-two calls, in place of a library.
+//! The independent implementation behind the twenty-four calls, in place of a library.
 
 use std::slice::{from_raw_parts, from_raw_parts_mut};
 
@@ -29,6 +29,8 @@ pub const STAND_IN: Library = Library {
     drop,
     put_text,
     fetch_text,
+    clear_with_indicators,
+    find_indicators,
     open_text,
     next_symbol,
     costliest_text,
@@ -45,7 +47,7 @@ pub unsafe fn input<'a, T>(at: *const T, n: usize) -> &'a [T] {
     unsafe { from_raw_parts(at, n) }
 }
 
-unsafe fn output<'a, T>(at: *mut T, n: usize) -> &'a mut [T] {
+pub unsafe fn output<'a, T>(at: *mut T, n: usize) -> &'a mut [T] {
     if n == 0 {
         return &mut [];
     }
@@ -284,6 +286,28 @@ pub unsafe extern "C" fn fetch_text(
     let origins = unsafe { input(origins_out, origins_n) }.to_vec();
     let call = Call::FetchText { text, origins };
     unsafe { perform(report, n, call, &[text_out, origins_out], flags) }
+}
+
+pub unsafe extern "C" fn clear_with_indicators(
+    report: *mut u8,
+    n: usize,
+    field: usize,
+    flags: *const Flags,
+) -> Answer {
+    let field = field as u64;
+    unsafe { plain(report, n, Call::ClearWithIndicators { field }, flags) }
+}
+
+pub unsafe extern "C" fn find_indicators(
+    report: *const u8,
+    n: usize,
+    out: *mut u8,
+    out_n: usize,
+    flags: *const Flags,
+) -> Answer {
+    let (report, out, flags) = unsafe { (input(report, n), output(out, out_n), table(flags)) };
+    let found = outside::find_indicators(report, out, &flags);
+    answer(found.map(|count| vec![Number::count(count)]))
 }
 
 pub unsafe extern "C" fn open_text(

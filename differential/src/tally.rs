@@ -1,7 +1,8 @@
 //! How often each call came to each refusal, to one because of the table of flags and
 //! to a CK at an edge, how often put text was refused for each reason and fetch text gave
 //! each set, how often each symbol was put, how often a costliest text had no symbol, the
-//! most, or a number between, and how often a set or a clear gave which former value.
+//! most, or a number between, how often a set or a clear gave which former value, what
+//! indicators were found, and which were cleared along with their data.
 
 use std::collections::BTreeMap;
 use std::fmt;
@@ -12,16 +13,20 @@ use reference::card::{CARD_BYTES, Card};
 use reference::cases::Case;
 use reference::cases::material::all_symbols;
 use reference::deck::{CharacterSet, character_set};
-use reference::table::{SID, fields};
+use reference::flag_table::FlagTable;
+use reference::indicator::{ERRONEOUS_ID, INDICATORS};
+use reference::judge::judge;
+use reference::table::{Coded, SID, fields};
 use reference::text::{self, Symbol};
 
 use crate::expected::{Outcome, Said};
 use crate::fence::MARKED;
+use crate::indicators::TI;
 
 /// A run of so many calls has to see every refusal that a call can meet, every one
 /// that the table of flags can decide, every reason of put text, every set, every
-/// symbol put, costliest texts of no symbol, of the most and of a number between, and
-/// every kind of former value.
+/// symbol put, costliest texts of no symbol, of the most and of a number between, every
+/// kind of former value, and everything that indicators can come to.
 pub const DEFAULT_CALLS: u64 = 2_000_000;
 
 const REFUSALS: [usize; 15] = [1, 2, 3, 4, 5, 6, 7, 8, 9, 10, 11, 12, 13, 14, 16];
@@ -35,6 +40,8 @@ const REPLAY: usize = 15;
 const ALL_FLAGS: usize = 18;
 const FORGED: usize = 20;
 const COSTLIEST: usize = 21;
+const CLEAR_WITH: usize = 22;
+const INDICATORS_FOUND: usize = 23;
 
 /// Why put text is refused by 13 or by 14.
 const REASONS: [(usize, &str); 4] = [
@@ -54,19 +61,45 @@ const LENGTHS: [&str; 3] = ["0", "1 to 84", "85"];
 const FORMERS: [&str; 3] = ["value", "0", "missing"];
 
 /// The calls that give a former value. That of a flag is never 0.
-const FORMER_GIVERS: [(usize, &[usize]); 4] = [
+const FORMER_GIVERS: [(usize, &[usize]); 5] = [
     (SET_FIELD, &[0, 1, 2]),
     (CLEAR_FIELD, &[0, 1, 2]),
     (SET_FLAG, &[0, 2]),
     (CLEAR_FLAG, &[0, 2]),
+    (CLEAR_WITH, &[0, 1, 2]),
 ];
 
-/// Fresh, pack, set field and clear field work CK out; where the report is then.
-const WRITERS: [(usize, &str); 4] = [
+/// What comes of finding indicators: how many are found, some with just enough room, or
+/// none because attachment 5 stands; or the output is a byte too short.
+const FINDS: [(&str, &str); 6] = [
+    ("0", "none found"),
+    ("1", "one found"),
+    ("more", "more than one found"),
+    ("exact", "some found with just enough room"),
+    ("short", "room for all but one"),
+    ("by id 5", "none found because attachment 5 stands"),
+];
+
+/// What an accepted clear with indicators does: how many indicators it takes along, some
+/// of them with a field that was missing already or although attachment 5 stands, and
+/// whether it leaves TI beside another of its data.
+const TAKES: [(&str, &str); 6] = [
+    ("0", "none taken along"),
+    ("1", "one taken along"),
+    ("2", "two taken along"),
+    ("missing", "some taken along with a field that was missing"),
+    ("TI left", "TI left beside its data"),
+    ("id 5", "some taken along where attachment 5 stands"),
+];
+
+/// Fresh, pack, set field, clear field and clear with indicators work CK out; where the
+/// report is then.
+const WRITERS: [(usize, &str); 5] = [
     (1, "output"),
     (3, "output"),
     (SET_FIELD, "report"),
     (CLEAR_FIELD, "report"),
+    (CLEAR_WITH, "report"),
 ];
 
 /// The refusals that the table of flags can decide.
@@ -76,7 +109,7 @@ const BY_FLAGS: [usize; 3] = [6, 9, 14];
 const EDGES: [u64; 3] = [254, 0, 1];
 
 /// Each call with the refusals that it can meet.
-const CALLS: [(&str, &[usize]); 22] = [
+const CALLS: [(&str, &[usize]); 24] = [
     ("judge", &[1, 2, 3, 4, 5, 6, 7]),
     ("fresh", &[9, 13]),
     ("unpack", &[1, 2, 3, 4, 5, 6, 7, 13]),
@@ -99,6 +132,8 @@ const CALLS: [(&str, &[usize]); 22] = [
     ("read out", &[1, 2, 3, 4, 5, 6, 7, 11, 13]),
     ("forged", &[]),
     ("costliest", &[9, 13]),
+    ("clear with", &[1, 2, 3, 4, 5, 6, 7, 8, 10]),
+    ("indicators", &[1, 2, 3, 4, 5, 6, 7, 13]),
 ];
 
 /// The refusals of a call that the table of flags can decide.
@@ -127,6 +162,8 @@ pub struct Tally {
     lengths: [u64; LENGTHS.len()],
     /// By giver and what it gave.
     formers: [[u64; FORMERS.len()]; FORMER_GIVERS.len()],
+    finds: [u64; FINDS.len()],
+    takes: [u64; TAKES.len()],
     /// Symbols that an accepted put text has written; trailing plain spaces are not.
     put: BTreeMap<Symbol, u64>,
     performed: u64,
@@ -144,6 +181,7 @@ impl Tally {
             Case::Load { .. } => 17,
             Case::ReadOut { .. } => 19,
             Case::Costliest { .. } => COSTLIEST,
+            Case::FindIndicators { .. } => INDICATORS_FOUND,
             Case::Lister { .. }
             | Case::Same { .. }
             | Case::Restore { .. }
@@ -151,9 +189,34 @@ impl Tally {
             | Case::Calls { .. } => unreachable!("not a call of the library"),
         };
         self.add(row, outcome, by_flags);
-        if let (Case::Costliest { symbols, .. }, 0) = (case, outcome.refusal()) {
-            self.add_length(*symbols);
+        match (case, outcome.refusal()) {
+            (Case::Costliest { symbols, .. }, 0) => self.add_length(*symbols),
+            (Case::FindIndicators { report, output }, refusal @ (0 | 13)) => {
+                self.add_find(report, output.len(), refusal == 0);
+            }
+            _ => {}
         }
+    }
+
+    /// A report that is accepted, and an output that has room or not.
+    fn add_find(&mut self, report: &[u8], room: usize, has_room: bool) {
+        let Ok(report) = judge(report, &FlagTable::all()) else {
+            return;
+        };
+        let mut observation = report.observation;
+        let found = observation.lone_indicators().len();
+        let attachments = &mut observation.attachments;
+        attachments.retain(|other| other.id != ERRONEOUS_ID);
+        let without_5 = observation.lone_indicators().len();
+        let met = [
+            has_room && found == 0,
+            has_room && found == 1,
+            has_room && found > 1,
+            has_room && found > 0 && room == found,
+            !has_room && room + 1 == found,
+            has_room && found < without_5,
+        ];
+        count(&mut self.finds, met);
     }
 
     fn add_length(&mut self, symbols: u64) {
@@ -173,7 +236,8 @@ impl Tally {
         self.counts[FORGED][0] += 1;
     }
 
-    pub fn add_call(&mut self, call: &Call, outcome: &Outcome, by_flags: bool) {
+    /// A call on a buffer as it was before.
+    pub fn add_call(&mut self, call: &Call, before: &[u8], outcome: &Outcome, by_flags: bool) {
         let row = match call {
             Call::ReadField { .. } => 4,
             Call::SetField { .. } => SET_FIELD,
@@ -186,6 +250,7 @@ impl Tally {
             Call::Drop { .. } => 12,
             Call::PutText { .. } => 13,
             Call::FetchText { .. } => 14,
+            Call::ClearWithIndicators { .. } => CLEAR_WITH,
         };
         self.add(row, outcome, by_flags);
         self.add_former(row, outcome);
@@ -197,8 +262,35 @@ impl Tally {
                 }
             }
             (Call::FetchText { .. }, 0) => self.add_set(outcome),
+            (Call::ClearWithIndicators { field }, 0) => {
+                self.add_take(*field as usize, before, outcome);
+            }
             _ => {}
         }
+    }
+
+    fn add_take(&mut self, field: usize, before: &[u8], outcome: &Outcome) {
+        let report = judge(before, &FlagTable::all());
+        let (Ok(report), Some(state)) = (report, outcome.buffer("report")) else {
+            return;
+        };
+        let after = card_of(state).codes;
+        let stood = |field: usize| report.observation.values[field - 1].is_some();
+        let stands = |field: usize| after[field - 1] != Coded(0);
+        let mut resting = INDICATORS.to_vec();
+        resting.retain(|indicator| indicator.rests_on(field));
+        let mut taken = resting.clone();
+        taken.retain(|indicator| stood(indicator.field) && !stands(indicator.field));
+        let has_5 = report.observation.content(ERRONEOUS_ID.into()).is_some();
+        let met = [
+            taken.is_empty(),
+            taken.len() == 1,
+            taken.len() == 2,
+            !taken.is_empty() && !stood(field),
+            resting.iter().any(|indicator| indicator.field == TI) && stands(TI),
+            !taken.is_empty() && has_5,
+        ];
+        count(&mut self.takes, met);
     }
 
     fn add_former(&mut self, row: usize, outcome: &Outcome) {
@@ -268,8 +360,8 @@ impl Tally {
 
     /// The calls that were never accepted or never came to a refusal that they can
     /// meet, the refusals that the table of flags never decided, the reasons, the sets,
-    /// the lengths and the former values that were never met, and the symbols that were
-    /// never put.
+    /// the lengths, the former values and what indicators come to that were never met, and
+    /// the symbols that were never put.
     pub fn unseen(&self) -> Vec<String> {
         let mut unseen = Vec::new();
         for ((name, refusals), counts) in CALLS.iter().zip(&self.counts) {
@@ -302,6 +394,12 @@ impl Tally {
                 unseen.push(format!("{name}, former {former}"));
             }
         }
+        for (_, find) in unmet(&FINDS, &self.finds) {
+            unseen.push(format!("indicators, {find}"));
+        }
+        for (_, take) in unmet(&TAKES, &self.takes) {
+            unseen.push(format!("clear with, {take}"));
+        }
         for symbol in all_symbols() {
             if !self.put.contains_key(&symbol) {
                 unseen.push(format!("put text, {}", name_of(symbol)));
@@ -320,6 +418,12 @@ impl Tally {
 fn unmet<'a, T>(names: &'a [T], counts: &'a [u64]) -> impl Iterator<Item = &'a T> {
     let unmet = names.iter().zip(counts).filter(|(_, count)| **count == 0);
     unmet.map(|(name, _)| name)
+}
+
+fn count(counts: &mut [u64], met: [bool; 6]) {
+    for (count, met) in counts.iter_mut().zip(met) {
+        *count += u64::from(met);
+    }
 }
 
 /// The card at the front of a report's state.
@@ -390,6 +494,8 @@ impl fmt::Display for Tally {
         fmt_row(f, "sets given", &SETS, &self.sets)?;
         fmt_row(f, "costliest of", &LENGTHS, &self.lengths)?;
         self.fmt_formers(f)?;
+        fmt_row(f, "found", &FINDS.map(|(find, _)| find), &self.finds)?;
+        fmt_row(f, "taken along", &TAKES.map(|(take, _)| take), &self.takes)?;
         let least = self.put.values().min().unwrap_or(&0);
         let (put, all) = (self.put.len(), all_symbols().len());
         writeln!(f, "symbols put: {put} of {all}, each {least} times or more")?;

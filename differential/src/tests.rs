@@ -4,6 +4,7 @@ mod altered;
 mod costliest;
 mod flag_tables;
 mod former;
+mod indicators;
 mod texts;
 
 use std::process::{Command, Output};
@@ -33,12 +34,16 @@ use crate::trial::Given;
 const SEED: u64 = 7;
 
 /// The cases of a test.
-const CASES: u64 = 9000;
+const CASES: u64 = 12_000;
 
 /// The first difference, made smaller.
 fn first_difference(library: Library, tally: &mut Tally) -> Option<Difference> {
+    first_difference_in(CASES, library, tally)
+}
+
+fn first_difference_in(cases: u64, library: Library, tally: &mut Tally) -> Option<Difference> {
     let mut harness = Harness::new(library);
-    for case in 0..CASES {
+    for case in 0..cases {
         harness.null = case % 2 == 0;
         for trial in trials(SEED, case) {
             if let Some(found) = compare(&mut harness, tally, &trial) {
@@ -224,9 +229,12 @@ fn answers_have_the_header_s_form() {
         (set_field(6, 3599), answer(1, 0)),
         (set_field(2, 1799), refused(9, 2)),
         (Call::ClearField { field: 4 }, answer(129, 0)),
+        (Call::ClearWithIndicators { field: 4 }, answer(129, 0)),
         (Call::Drop { id: 4 }, answer(0, 0)),
         (Call::ReadField { field: 47 }, refused(8, 0)),
         (Call::ClearField { field: 3 }, refused(10, 3)),
+        (Call::ClearWithIndicators { field: 47 }, refused(8, 0)),
+        (Call::ClearWithIndicators { field: 3 }, refused(10, 3)),
     ] {
         let due = expected::call(&call, &mut report.clone(), &all).said;
         assert_eq!(due, Said::Answer(answer), "{call:?}");

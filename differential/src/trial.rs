@@ -18,9 +18,9 @@ pub struct Trial {
 
 #[derive(Clone, Debug, PartialEq, Eq)]
 pub enum Given {
-    /// Judge, fresh, unpack, pack, characters, load, read out or costliest. Fresh,
-    /// characters and costliest are lent no table of flags; a load may replace the one
-    /// that it is lent.
+    /// Judge, fresh, unpack, pack, characters, load, read out, costliest or find
+    /// indicators. Fresh, characters and costliest are lent no table of flags; a load may
+    /// replace the one that it is lent.
     Whole(Case),
     /// Every flag permitted, over the trial's table.
     AllFlags,

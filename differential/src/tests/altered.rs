@@ -42,6 +42,20 @@ pub fn libraries() -> Vec<(&'static str, Library)> {
         ("put text", Library { put_text, ..own }),
         ("fetch text", Library { fetch_text, ..own }),
         ("read out", Library { open_text, ..own }),
+        (
+            "clear with",
+            Library {
+                clear_with_indicators,
+                ..own
+            },
+        ),
+        (
+            "indicators",
+            Library {
+                find_indicators,
+                ..own
+            },
+        ),
         ("replay", Library { replay, ..own }),
     ]
 }
@@ -193,6 +207,25 @@ unsafe extern "C" fn fetch_text(
         let flags = altered(flags);
         stand_in::fetch_text(report, n, text, text_n, origins, origins_n, &flags)
     }
+}
+
+unsafe extern "C" fn clear_with_indicators(
+    report: *mut u8,
+    n: usize,
+    field: usize,
+    flags: *const Flags,
+) -> Answer {
+    unsafe { stand_in::clear_with_indicators(report, n, field, &altered(flags)) }
+}
+
+unsafe extern "C" fn find_indicators(
+    report: *const u8,
+    n: usize,
+    out: *mut u8,
+    out_n: usize,
+    flags: *const Flags,
+) -> Answer {
+    unsafe { stand_in::find_indicators(report, n, out, out_n, &altered(flags)) }
 }
 
 unsafe extern "C" fn open_text(

@@ -37,6 +37,7 @@ fn name(given: &Given) -> &'static str {
         Given::Whole(Case::Unpack { .. }) => "unpack",
         Given::Whole(Case::Pack { .. }) => "pack",
         Given::Whole(Case::ReadOut { .. }) => "read out",
+        Given::Whole(Case::FindIndicators { .. }) => "indicators",
         Given::Whole(_) | Given::AllFlags | Given::Forged { .. } | Given::List { .. } => "",
         Given::Script { .. } => "replay",
         Given::Call { call, .. } => match call {
@@ -51,6 +52,7 @@ fn name(given: &Given) -> &'static str {
             Call::Drop { .. } => "drop",
             Call::PutText { .. } => "put text",
             Call::FetchText { .. } => "fetch text",
+            Call::ClearWithIndicators { .. } => "clear with",
         },
     }
 }
@@ -647,6 +649,8 @@ fn refusals_by_the_table_are_counted() {
             "put text            0        -        -",
             "fetch text          0        -        -",
             "read out            0        -        -",
+            "clear with          0        -        -",
+            "indicators          0        -        -",
         ]
     );
     let unseen = tally.unseen();
@@ -694,6 +698,8 @@ fn a_table_never_met_fails_a_whole_run() {
         "put text",
         "fetch text",
         "read out",
+        "clear with",
+        "indicators",
     ];
     for name in judging {
         due.push(format!("{name}, refusal 6 by the table of flags"));

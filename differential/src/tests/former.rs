@@ -27,15 +27,17 @@ enum Kind {
     ClearField,
     SetFlag,
     ClearFlag,
+    ClearWith,
 }
 
-const KINDS: [Kind; 4] = [
+const KINDS: [Kind; 5] = [
     Kind::SetField,
     Kind::ClearField,
     Kind::SetFlag,
     Kind::ClearFlag,
+    Kind::ClearWith,
 ];
-const OF_FIELDS: [Kind; 2] = [Kind::SetField, Kind::ClearField];
+const OF_FIELDS: [Kind; 3] = [Kind::SetField, Kind::ClearField, Kind::ClearWith];
 
 fn kind_of(call: &Call) -> Option<Kind> {
     match call {
@@ -43,6 +45,7 @@ fn kind_of(call: &Call) -> Option<Kind> {
         Call::ClearField { .. } => Some(Kind::ClearField),
         Call::SetFlag { .. } => Some(Kind::SetFlag),
         Call::ClearFlag { .. } => Some(Kind::ClearFlag),
+        Call::ClearWithIndicators { .. } => Some(Kind::ClearWith),
         _ => None,
     }
 }
@@ -50,7 +53,9 @@ fn kind_of(call: &Call) -> Option<Kind> {
 /// The read of what a call changes.
 fn read_of(call: &Call) -> Call {
     match *call {
-        Call::SetField { field, .. } | Call::ClearField { field } => Call::ReadField { field },
+        Call::SetField { field, .. }
+        | Call::ClearField { field }
+        | Call::ClearWithIndicators { field } => Call::ReadField { field },
         Call::SetFlag { flag, .. } | Call::ClearFlag { flag } => Call::ReadFlag { flag },
         _ => unreachable!("a set or a clear"),
     }
@@ -114,9 +119,9 @@ fn spoil(call: &Call, before: &[u8], after: &[u8], flags: &FlagTable, answer: &m
 
 fn coded(call: &Call, value: i64) -> i64 {
     match call {
-        Call::SetField { field, .. } | Call::ClearField { field } => {
-            value - fields()[*field as usize - 1].base
-        }
+        Call::SetField { field, .. }
+        | Call::ClearField { field }
+        | Call::ClearWithIndicators { field } => value - fields()[*field as usize - 1].base,
         _ => value,
     }
 }
@@ -191,6 +196,19 @@ unsafe extern "C" fn clear_flag(
     unsafe { spoiled(report, n, call, flags, right) }
 }
 
+unsafe extern "C" fn clear_with_indicators(
+    report: *mut u8,
+    n: usize,
+    field: usize,
+    flags: *const Flags,
+) -> Answer {
+    let call = Call::ClearWithIndicators {
+        field: field as u64,
+    };
+    let right = || unsafe { stand_in::clear_with_indicators(report, n, field, flags) };
+    unsafe { spoiled(report, n, call, flags, right) }
+}
+
 /// A right replay whose records have the mistake.
 unsafe extern "C" fn replay(
     report: *mut u8,
@@ -248,6 +266,10 @@ fn library(kind: Kind) -> Library {
         },
         Kind::ClearFlag => Library {
             clear_flag,
+            ..STAND_IN
+        },
+        Kind::ClearWith => Library {
+            clear_with_indicators,
             ..STAND_IN
         },
     }
@@ -346,6 +368,7 @@ fn a_former_value_given_by_a_refused_call_is_found() {
         (Kind::SetField, 9),
         (Kind::ClearField, 10),
         (Kind::SetFlag, 9),
+        (Kind::ClearWith, 10),
     ] {
         is_found(kind, Mistake::WhereRefused, |right| {
             right.refusal == refusal && right.given == 0
@@ -403,9 +426,13 @@ fn former_values_are_counted() {
             "set flag, former missing",
             "clear flag, former value",
             "clear flag, former missing",
+            "clear with, former value",
+            "clear with, former 0",
+            "clear with, former missing",
         ]
     );
     let clear = |field| Call::ClearField { field };
+    let clear_with = |field| Call::ClearWithIndicators { field };
     let clear_flag = |flag| Call::ClearFlag { flag };
     let mut run = |calls: &[Call]| {
         let list = Given::List {
@@ -424,10 +451,12 @@ fn former_values_are_counted() {
         set_flag_of(1, 0),
         set_flag_of(15, 1),
         clear_flag(0),
+        clear_with(2),
+        clear_with(0),
         Call::ReadField { field: 6 },
         Call::ReadFlag { flag: 1 },
     ];
-    assert_eq!(run(&refused).len(), 10);
+    assert_eq!(run(&refused).len(), 13);
     let left = run(&[
         set_of(31, 286),
         set_of(31, -999),
@@ -439,6 +468,10 @@ fn former_values_are_counted() {
         set_flag_of(1, 2),
         set_flag_of(1, 3),
         clear_flag(1),
+        clear_with(31),
+        set_of(31, 286),
+        clear_with(31),
+        clear_with(31),
     ]);
     assert_eq!(
         left,
@@ -446,18 +479,27 @@ fn former_values_are_counted() {
             "set field, former 0",
             "clear field, former value",
             "clear flag, former missing",
+            "clear with, former 0",
         ]
     );
-    let left = run(&[set_of(6, 1), set_of(4, 5), clear(4), clear_flag(14)]);
+    let left = run(&[
+        set_of(6, 1),
+        set_of(4, 5),
+        clear(4),
+        clear_flag(14),
+        set_of(28, 0),
+        clear_with(28),
+    ]);
     assert_eq!(left, [""; 0]);
     let shown = tally.to_string();
     let mut lines = shown.lines().skip_while(|line| !line.starts_with("former"));
     for line in [
         "former given    value        0  missing",
-        "set field           2        1        2",
+        "set field           2        1        4",
         "clear field         1        1        2",
         "set flag            2        -        1",
         "clear flag          1        -        1",
+        "clear with          1        1        2",
     ] {
         assert_eq!(lines.next(), Some(line), "{shown}");
     }
