@@ -5,7 +5,7 @@ use std::hint::black_box;
 
 use bench::fast::reader::{Reader, Symbol as Read};
 use bench::fast::{calls as fast, flags, script, whole};
-use bench::reports::{observation, remarks, small_observation, small_remarks};
+use bench::reports::{lone_observations, observation, remarks, small_observation, small_remarks};
 use bench::{FlagTable, library};
 use reference::attachment::Attachment;
 use reference::call::Call;
@@ -250,6 +250,32 @@ fn costliest(bed: &mut Bed) -> Option<Line> {
     ))
 }
 
+/// The measured reports have all data and mostly attachment 5, so that nothing would be found. In
+/// turn there are eight in which none, one, two or six indicators have lost theirs.
+fn find_indicators(bed: &mut Bed) -> Line {
+    let reports = lone_observations(bed.size).map(|observation| {
+        let mut report = observation.packing();
+        report.resize(bed.size + ROOM, 0xA5);
+        report
+    });
+    let row = bed.row(|prng| prng.below(reports.len()));
+    let (ours, theirs) = (RefCell::new([0u8; 6]), RefCell::new([0u8; 6]));
+    bed.steady(
+        "find_indicators",
+        &row,
+        |_, index, t| {
+            let report = black_box(&reports[*index]);
+            let out = &mut *ours.borrow_mut();
+            black_box(library::find_indicators(report, black_box(out), t));
+        },
+        |_, index, t| {
+            let report = black_box(&reports[*index]);
+            let out = &mut *theirs.borrow_mut();
+            black_box(fast::find_indicators(report, black_box(out), t)).ok();
+        },
+    )
+}
+
 fn unpack(bed: &mut Bed) -> Line {
     let room = tail_of(&bed.observation).len();
     let outputs = || (vec![0i64; 46], vec![0u8; room]);
@@ -343,6 +369,22 @@ fn clear_field(bed: &mut Bed) -> Line {
         },
         |s, k, t| {
             black_box(fast::clear_field(s, *k, t)).ok();
+        },
+    )
+}
+
+/// The fields of clear_field's row. Like those they are missing after the first turns, and so are
+/// the indicators that have gone with them.
+fn clear_with_indicators(bed: &mut Bed) -> Line {
+    let row = bed.row(|prng| 8 + prng.below(39));
+    bed.steady(
+        "clear_with_indicators",
+        &row,
+        |s, k, t| {
+            black_box(library::clear_with_indicators(s, *k, t));
+        },
+        |s, k, t| {
+            black_box(fast::clear_with_indicators(s, *k, t)).ok();
         },
     )
 }
@@ -652,7 +694,7 @@ fn replay(bed: &mut Bed) -> Line {
 
 type Measured = fn(&mut Bed) -> Option<Line>;
 
-const CALLS: [(&str, Measured); 26] = [
+const CALLS: [(&str, Measured); 28] = [
     ("judge", |bed| Some(judge(bed))),
     ("fresh", fresh),
     ("unpack", |bed| Some(unpack(bed))),
@@ -660,6 +702,9 @@ const CALLS: [(&str, Measured); 26] = [
     ("read_field", |bed| Some(read_field(bed))),
     ("set_field", |bed| Some(set_field(bed))),
     ("clear_field", |bed| Some(clear_field(bed))),
+    ("clear_with_indicators", |bed| {
+        Some(clear_with_indicators(bed))
+    }),
     ("read_flag", |bed| Some(read_flag(bed))),
     ("set_flag", |bed| Some(set_flag(bed))),
     ("clear_flag", |bed| Some(clear_flag(bed))),
@@ -683,6 +728,7 @@ const CALLS: [(&str, Measured); 26] = [
     ("read_small", |bed| {
         Some(read_text_line(&small(bed)?, "read_small"))
     }),
+    ("find_indicators", |bed| Some(find_indicators(bed))),
     ("costliest", costliest),
     ("characters", characters),
     ("all_flags", all_flags),

@@ -182,6 +182,13 @@ impl Side {
         }
     }
 
+    pub fn find_indicators(self, s: &[u8], out: &mut [u8], table: &FlagTable) -> Answer {
+        match self {
+            Side::Library => library::find_indicators(s, out, table),
+            Side::Rust => of_fast(calls::find_indicators(s, out, table)),
+        }
+    }
+
     /// The answer of a reader's opening, and the symbols that it gives. The end is seen thrice.
     pub fn read_out(self, s: &[u8], table: &FlagTable) -> (Answer, Vec<Marked>) {
         match self {
@@ -253,6 +260,9 @@ impl Side {
                     let [text, origins] = two(outputs);
                     library::fetch_text(s, text, origins, table)
                 }
+                Call::ClearWithIndicators { field } => {
+                    library::clear_with_indicators(s, size(*field), table)
+                }
             },
             Side::Rust => of_fast(match call {
                 Call::ReadField { field } => calls::read_field(s, size(*field), table),
@@ -270,6 +280,9 @@ impl Side {
                 Call::FetchText { .. } => {
                     let [text, origins] = two(outputs);
                     return of_fetched(calls::fetch_text(s, text, origins, table));
+                }
+                Call::ClearWithIndicators { field } => {
+                    calls::clear_with_indicators(s, size(*field), table)
                 }
             }),
         }
@@ -426,6 +439,18 @@ pub fn agrees(side: Side, trial: &Trial) -> bool {
                 && text[n..] == due_text[n..]
                 && origins == due_origins
                 && put == result.map(|due| due.put)
+        }
+        (
+            Case::FindIndicators { report, output },
+            Outcome::FindIndicators {
+                result,
+                output: due,
+            },
+        ) => {
+            let mut output = output.clone();
+            let answer = side.find_indicators(report, &mut output, table);
+            let result = result.map(|count| vec![Number::count(count)]);
+            answer == of_reference(result) && output == due
         }
         (Case::Calls { buffer, calls }, _) => list_agrees(side, buffer, calls, table),
         _ => true,

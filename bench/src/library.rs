@@ -84,6 +84,12 @@ mod symbols {
             field: usize,
             table: *const FlagTable,
         ) -> Answer;
+        pub fn lmr5_clear_with_indicators(
+            report: *mut u8,
+            n: usize,
+            field: usize,
+            table: *const FlagTable,
+        ) -> Answer;
         pub fn lmr5_read_flag(
             report: *const u8,
             n: usize,
@@ -152,6 +158,13 @@ mod symbols {
             table: *const FlagTable,
         ) -> Answer;
         pub fn lmr5_next_symbol(report: *const u8, n: usize, reader: *mut Reader) -> Symbol;
+        pub fn lmr5_find_indicators(
+            report: *const u8,
+            n: usize,
+            out: *mut u8,
+            out_n: usize,
+            table: *const FlagTable,
+        ) -> Answer;
         pub fn lmr5_character_table(table: *mut u16);
         pub fn lmr5_replay(
             report: *mut u8,
@@ -250,6 +263,11 @@ pub fn clear_field(s: &mut [u8], k: usize, table: &FlagTable) -> Answer {
 }
 
 #[inline(always)]
+pub fn clear_with_indicators(s: &mut [u8], k: usize, table: &FlagTable) -> Answer {
+    unsafe { symbols::lmr5_clear_with_indicators(s.as_mut_ptr(), s.len(), k, table) }
+}
+
+#[inline(always)]
 pub fn read_flag(s: &[u8], j: usize, table: &FlagTable) -> Answer {
     unsafe { symbols::lmr5_read_flag(s.as_ptr(), s.len(), j, table) }
 }
@@ -339,6 +357,13 @@ pub fn open_text(s: &[u8], reader: &mut Reader, table: &FlagTable) -> Answer {
 #[inline(always)]
 pub fn next_symbol(s: &[u8], reader: &mut Reader) -> Symbol {
     unsafe { symbols::lmr5_next_symbol(s.as_ptr(), s.len(), reader) }
+}
+
+#[inline(always)]
+pub fn find_indicators(s: &[u8], out: &mut [u8], table: &FlagTable) -> Answer {
+    unsafe {
+        symbols::lmr5_find_indicators(s.as_ptr(), s.len(), out.as_mut_ptr(), out.len(), table)
+    }
 }
 
 #[inline(always)]

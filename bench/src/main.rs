@@ -91,6 +91,10 @@ fn main() {
     println!(
         "put_small, fetch_small, read_small: the text in small letters, which are original; read: opened and read out, each step a call"
     );
+    println!("clear_field, clear_with_indicators: the same fields, missing after the first turns");
+    println!(
+        "find_indicators: reports in turn in which up to six indicators have lost their data; attachment 5 has another id, at 1853 it is taken off"
+    );
     println!("costliest: the costliest text of 85 symbols");
     let lines = measured(only.as_deref());
     if lines.is_empty() {
@@ -98,12 +102,12 @@ fn main() {
         std::process::exit(1);
     }
     println!(
-        "{:12} {:>6} {:>10} {:>10} {:>7}",
+        "{:21} {:>6} {:>10} {:>10} {:>7}",
         "name", "bytes", "ns here", "ns Rust", "ratio"
     );
     for line in &lines {
         println!(
-            "{:12} {:>6} {:>10.1} {:>10.1} {:>7.2}",
+            "{:21} {:>6} {:>10.1} {:>10.1} {:>7.2}",
             line.name,
             line.bytes,
             line.here,

@@ -2,6 +2,7 @@
 
 use reference::attachment::Attachment;
 use reference::cases::material::{fresh_observation, random_flags, random_value, symbols_of};
+use reference::indicator::ERRONEOUS_ID;
 use reference::observation::Observation;
 use reference::prng::Prng;
 use reference::table::{FIELDS, fields};
@@ -98,4 +99,39 @@ pub fn observation(size: usize) -> Observation {
     observation.attachments = attachments(&lengths, &mut prng);
     assert_eq!(observation.size(), size);
     observation
+}
+
+/// The data that are missing in each of the reports in which indicators are found.
+const LOST: [&[usize]; 8] = [
+    &[],
+    &[18],
+    &[20],
+    &[31],
+    &[18, 20],
+    &[22, 37],
+    &[28, 29, 30, 31],
+    &[18, 20, 22, 28, 29, 30, 31, 37],
+];
+
+/// Reports of one of the four sizes in which up to six indicators have lost their data. Attachment
+/// 5, which would hide them, has a free id. The longest report has none: there it is taken off.
+pub fn lone_observations(size: usize) -> [Observation; 8] {
+    let mut full = observation(size);
+    let five = full
+        .attachments
+        .iter()
+        .position(|attachment| attachment.id == ERRONEOUS_ID);
+    let free = (1..=15).rev().find(|&id| full.content(id).is_none());
+    match (five, free) {
+        (Some(index), Some(id)) => full.attachments[index].id = id as u8,
+        (Some(index), None) => drop(full.attachments.remove(index)),
+        (None, _) => {}
+    }
+    LOST.map(|lost| {
+        let mut observation = full.clone();
+        for field in lost {
+            observation.values[field - 1] = None;
+        }
+        observation
+    })
 }

@@ -4,21 +4,23 @@ use std::array::from_fn;
 
 use reference::call::Call;
 use reference::cases::material::{
-    forbid_flag, permit_flags, random_flag_table, random_flags, random_observation, tail_of,
+    Draft, forbid_flag, permit_flags, random_flag_table, random_flags, random_observation, tail_of,
     values_and_word,
 };
-use reference::cases::random::random_call;
+use reference::cases::random::{damage, indicator_call, random_call};
 use reference::cases::{Case, fixed, random};
 use reference::flag_table::FlagTable as Permitted;
 use reference::flags::{self, FLAGS};
 use reference::gate::former_cases;
 use reference::gate::list::Item;
 use reference::gate::script::first_call;
+use reference::indicator::{ERRONEOUS_ID, INDICATORS};
 use reference::observation::Observation;
 use reference::prng::Prng;
 use reference::step::step;
 
 use crate::FlagTable;
+use crate::reports::{SIZES, lone_observations};
 
 /// A case, and the table that it runs under. A load begins with it.
 #[derive(Clone, Debug)]
@@ -168,6 +170,80 @@ fn former_trials(seed: u64) -> Vec<Trial> {
     trials
 }
 
+/// Mostly the indicators keep their values and lose their data. One time in four attachment 5
+/// stands, if it stood.
+fn with_lost_data(observation: &Observation, prng: &mut Prng) -> Observation {
+    let mut observation = observation.clone();
+    let (lost, kept) = prng.pick(&[(2, 2), (8, 2), (8, 8)]);
+    for indicator in INDICATORS {
+        if prng.one_in(lost) {
+            observation.values[indicator.field - 1] = None;
+        }
+        for &field in indicator.data {
+            if !prng.one_in(kept) {
+                observation.values[field - 1] = None;
+            }
+        }
+    }
+    if !prng.one_in(4) {
+        let attachments = &mut observation.attachments;
+        attachments.retain(|attachment| attachment.id != ERRONEOUS_ID);
+    }
+    observation
+}
+
+/// Calls about indicators, mostly clears with them, on a report or a damaged one.
+fn indicator_calls_on(report: &[u8], prng: &mut Prng) -> Case {
+    let mut buffer = report.to_vec();
+    buffer.extend(prng.bytes(5));
+    let calls = (0..12).map(|_| indicator_call(prng));
+    let calls = calls.collect();
+    Case::Calls { buffer, calls }
+}
+
+fn find_of(report: Vec<u8>, prng: &mut Prng) -> Case {
+    let output = vec![prng.next_u64() as u8; prng.pick(&[6, 6, 9, 7, 5, 3, 2, 1, 0])];
+    Case::FindIndicators { report, output }
+}
+
+/// Both calls on an observation whose indicators have lost data, sound and damaged.
+fn indicator_cases(observation: &Observation, prng: &mut Prng) -> [Case; 4] {
+    let lone = with_lost_data(observation, prng);
+    let damaged = if prng.one_in(2) {
+        damaged(&lone.packing(), prng)
+    } else {
+        let mut draft = Draft::of(&lone);
+        damage(prng, &mut draft);
+        draft.bytes()
+    };
+    [
+        find_of(lone.packing(), prng),
+        find_of(damaged.clone(), prng),
+        indicator_calls_on(&lone.packing(), prng),
+        indicator_calls_on(&damaged, prng),
+    ]
+}
+
+/// The reports on which finding is measured, with each output up to 7 bytes; on each every field
+/// is cleared with its indicators.
+fn lone_trials() -> Vec<Trial> {
+    let mut cases = Vec::new();
+    for observation in SIZES.into_iter().flat_map(lone_observations) {
+        let report = observation.packing();
+        cases.extend((0..8).map(|room| Case::FindIndicators {
+            report: report.clone(),
+            output: vec![0xA5; room],
+        }));
+        let calls = (0..48).map(|field| Call::ClearWithIndicators { field });
+        cases.push(Case::Calls {
+            buffer: report,
+            calls: calls.collect(),
+        });
+    }
+    let trial = |case| Trial { table: ALL, case };
+    cases.into_iter().map(trial).collect()
+}
+
 /// A text read out to outputs that mostly have room for it.
 fn read_out_of(report: Vec<u8>, prng: &mut Prng) -> Case {
     let mut output = || vec![prng.next_u64() as u8; prng.pick(&[2295, 2295, 300, 40, 0])];
@@ -186,12 +262,15 @@ fn trials_on(observation: &Observation, prng: &mut Prng) -> Vec<Trial> {
         unpack_of(damaged.clone()),
         read_out_of(observation.packing(), prng),
         read_out_of(damaged.clone(), prng),
+        find_of(observation.packing(), prng),
         Case::Judge { report: damaged },
     ];
-    cases.map(|case| Trial { table: ALL, case }).to_vec()
+    let trial = |case| Trial { table: ALL, case };
+    let cases = cases.into_iter().chain(indicator_cases(observation, prng));
+    cases.map(trial).collect()
 }
 
-/// An observation under a table: judged, unpacked, packed, and calls on it.
+/// An observation under a table: judged, unpacked, packed, calls on it, and indicators found.
 fn trials_under(table: FlagTable, prng: &mut Prng) -> Vec<Trial> {
     let mut observation = random_observation(prng);
     for attachment in &mut observation.attachments {
@@ -207,7 +286,9 @@ fn trials_under(table: FlagTable, prng: &mut Prng) -> Vec<Trial> {
         read_out_of(report.clone(), prng),
         Case::Judge { report },
     ];
-    cases.map(|case| Trial { table, case }).to_vec()
+    let trial = |case| Trial { table, case };
+    let cases = cases.into_iter().chain(indicator_cases(&observation, prng));
+    cases.map(trial).collect()
 }
 
 /// A lent table, beside a former one: sound, of another length, with another byte or an empty row.
@@ -224,12 +305,13 @@ fn load_trial(prng: &mut Prng) -> Trial {
     Trial { table, case }
 }
 
-/// Fixed trials, those of former values, random ones, some of them under random tables, and those
-/// on these observations.
+/// Fixed trials, those of former values and of lost data, random ones, some of them under random
+/// tables, and those on these observations.
 pub fn trials(seed: u64, count: usize, observations: &[Observation]) -> Vec<Trial> {
     let mut prng = Prng::new(seed);
     let mut all = fixed_trials();
     all.extend(former_trials(seed));
+    all.extend(lone_trials());
     all.extend(random::cases(seed, count).map(|case| Trial { table: ALL, case }));
     for _ in 0..count / 10 {
         let table = random_table(&mut prng);

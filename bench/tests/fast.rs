@@ -3,16 +3,22 @@
 use bench::FlagTable;
 use bench::compare::{SIDES, Side, agrees};
 use bench::fast::reader::{Reader, Symbol};
+use bench::fast::script::{Performed, replay};
 use bench::fast::{Answer, Fetched, Given, Label, Refusal, Set, calls, flags, whole};
-use bench::reports::{SIZES, observation, small_observation};
+use bench::library;
+use bench::reports::{SIZES, lone_observations, observation, small_observation};
 use bench::trials::{ALL, Trial, permitted_of, random_table, trials};
+use reference::attachment::Attachment;
 use reference::call::Call;
 use reference::cases::flag_tables::refused_tables;
 use reference::cases::material::{
-    Draft, fetch_text, fresh_observation, observation_with, put_text, symbols_of,
+    Draft, fetch_text, fresh_observation, observation_with, put_text, random_value, symbols_of,
 };
 use reference::cases::{Case, Outcome};
+use reference::edit::clear_with_indicators;
+use reference::observation::Observation;
 use reference::prng::Prng;
+use reference::table::Scaled;
 use reference::text;
 
 #[test]
@@ -73,6 +79,7 @@ fn a_report_of_another_table_is_refused_by_every_call() {
         Call::ReadField { field: 1 },
         Call::SetField { field: 3, value: 1 },
         Call::ClearField { field: 4 },
+        Call::ClearWithIndicators { field: 31 },
         Call::ReadFlag { flag: 1 },
         Call::SetFlag { flag: 1, value: 1 },
         Call::ClearFlag {
@@ -102,14 +109,20 @@ fn a_report_of_another_table_is_refused_by_every_call() {
             assert!(agrees(side, &trial), "{side:?}: {trial:?}");
         }
     }
+    for side in SIDES {
+        let mut output = [0xA5; 6];
+        let answer = side.find_indicators(&report, &mut output, &table);
+        assert_eq!((answer.refusal, answer.place), (6, 1), "{side:?}");
+        assert_eq!(output, [0xA5; 6], "{side:?}");
+    }
 }
 
-/// Each of the four calls over a value, over the value 0, which no flag has, over nothing, and
+/// Each of the five calls over a value, over the value 0, which no flag has, over nothing, and
 /// refused. A set to the value that stood there is not counted.
 #[test]
 fn trials_have_what_stood_before() {
     let trials = trials(11, 4000, &SIZES.map(observation));
-    let mut counts = [[0; 4]; 4];
+    let mut counts = [[0; 4]; 5];
     for Trial { table, case } in trials {
         let Outcome::Calls(ran) = case.run(&mut permitted_of(&table)) else {
             continue;
@@ -121,8 +134,9 @@ fn trials_have_what_stood_before() {
             let (row, new) = match *call {
                 Call::SetField { value, .. } => (0, Some(value)),
                 Call::ClearField { .. } => (1, None),
-                Call::SetFlag { value, .. } => (2, Some(value)),
-                Call::ClearFlag { .. } => (3, None),
+                Call::ClearWithIndicators { .. } => (2, None),
+                Call::SetFlag { value, .. } => (3, Some(value)),
+                Call::ClearFlag { .. } => (4, None),
                 _ => continue,
             };
             let column = match answer.result.map(|numbers| numbers[0].value) {
@@ -137,7 +151,7 @@ fn trials_have_what_stood_before() {
     }
     for (row, counts) in counts.into_iter().enumerate() {
         for (column, count) in counts.into_iter().enumerate() {
-            let due = row < 2 || column != 1;
+            let due = row < 3 || column != 1;
             assert_eq!(count >= 100, due, "{row}, {column}: {count}");
         }
     }
@@ -152,13 +166,14 @@ const MISSING_FLAG: Answer = Ok(Given {
     number: 0,
 });
 
+fn value(number: i64) -> Answer {
+    let label = Label::Value;
+    Ok(Given { label, number })
+}
+
 /// A refused call changes nothing of what the next one gives.
 #[test]
 fn sets_and_clears_of_a_field_give_what_stood_before() {
-    let value = |number| {
-        let label = Label::Value;
-        Ok(Given { label, number })
-    };
     let refused = |number, place| Err(Refusal { number, place });
     let steps = [
         (31, None, MISSING_VALUE),
@@ -233,6 +248,264 @@ fn sets_and_clears_of_a_flag_give_what_stood_before() {
         assert_eq!(calls::set_flag(&mut buffer, 6, 1, &ALL), refused(11, 0));
         assert_eq!(calls::clear_flag(&mut buffer, 6, &ALL), refused(11, 0));
     }
+}
+
+/// Each number of them, also on the measured reports, and each refusal.
+#[test]
+fn trials_find_indicators() {
+    let trials = trials(11, 4000, &SIZES.map(observation));
+    let (mut found, mut refused) = ([0; 7], [0; 14]);
+    for Trial { table, case } in trials {
+        match case.run(&mut permitted_of(&table)) {
+            Outcome::FindIndicators { result: Ok(n), .. } => found[n] += 1,
+            Outcome::FindIndicators { result: Err(r), .. } => refused[usize::from(r.number)] += 1,
+            _ => {}
+        }
+    }
+    assert!(found.iter().all(|&count| count >= 20), "{found:?}");
+    for number in [1, 2, 3, 4, 5, 6, 7, 13] {
+        assert!(refused[number] >= 10, "{number}: {refused:?}");
+    }
+    for size in SIZES {
+        let counts = lone_observations(size).map(|lone| lone.lone_indicators().len());
+        assert_eq!(counts, [0, 1, 1, 1, 2, 2, 2, 6], "{size}");
+    }
+}
+
+/// The indicators and their data.
+const OF_INDICATORS: [usize; 14] = [17, 18, 19, 20, 21, 22, 27, 28, 29, 30, 31, 32, 36, 37];
+
+/// A fresh observation with random values of these fields.
+fn observation_of(fields: &[usize], prng: &mut Prng) -> Observation {
+    let mut observation = fresh_observation();
+    for &field in fields {
+        observation.values[field - 1] = Some(random_value(prng, field));
+    }
+    observation
+}
+
+/// Those of the fourteen fields whose bit is set.
+fn chosen(set: usize) -> Vec<usize> {
+    let fields = OF_INDICATORS.into_iter().enumerate();
+    let fields = fields.filter(|(index, _)| set >> index & 1 == 1);
+    fields.map(|(_, field)| field).collect()
+}
+
+#[test]
+fn indicators_are_found_for_every_choice_of_fields() {
+    let mut prng = Prng::new(12);
+    let mut counts = [0; 7];
+    for set in 0..1 << 14 {
+        let mut observation = observation_of(&chosen(set), &mut prng);
+        let count = observation.lone_indicators().len();
+        counts[count] += 1;
+        let mut reports = vec![observation.packing()];
+        observation.attachments.push(Attachment::new(5, vec![9]));
+        reports.push(observation.packing());
+        for report in reports {
+            for room in [6, count, count.saturating_sub(1)] {
+                let (report, output) = (report.clone(), vec![0xA5; room]);
+                let case = Case::FindIndicators { report, output };
+                let trial = Trial { table: ALL, case };
+                assert!(agrees(Side::Rust, &trial), "{:?}", chosen(set));
+            }
+        }
+    }
+    assert!(counts.iter().all(|&count| count > 0), "{counts:?}");
+}
+
+/// Answer and bytes, for every choice of fields and each of the fourteen.
+#[test]
+fn indicators_go_for_every_choice_of_fields() {
+    let mut prng = Prng::new(13);
+    let permitted = permitted_of(&ALL);
+    for set in 0..1 << 14 {
+        let report = observation_of(&chosen(set), &mut prng).packing();
+        for field in OF_INDICATORS {
+            let (mut ours, mut theirs) = (report.clone(), report.clone());
+            let answer = calls::clear_with_indicators(&mut ours, field, &ALL);
+            let due = clear_with_indicators(&mut theirs, field as u64, &permitted);
+            let due = due.expect("accepted").map_or(MISSING_VALUE, |v| value(v.0));
+            assert_eq!(answer, due, "{field} of {:?}", chosen(set));
+            assert_eq!(ours, theirs, "{field} of {:?}", chosen(set));
+        }
+    }
+}
+
+fn answer_of_count(count: usize) -> library::Answer {
+    library::Answer {
+        given: 3,
+        first: count as i64,
+        ..library::Answer::default()
+    }
+}
+
+/// By the fields that are present. Attachment 5 hides them all, and then no output is needed.
+#[test]
+fn indicators_without_data_are_found() {
+    let cases: [(&[usize], &[u8]); 19] = [
+        (&[], &[]),
+        (&[17], &[17]),
+        (&[17, 18], &[]),
+        (&[17, 20], &[17]),
+        (&[19, 18], &[19]),
+        (&[19, 20], &[]),
+        (&[21], &[21]),
+        (&[21, 22], &[]),
+        (&[27], &[27]),
+        (&[27, 28], &[]),
+        (&[27, 29], &[]),
+        (&[27, 30], &[]),
+        (&[27, 31], &[]),
+        (&[27, 32], &[27, 32]),
+        (&[27, 28, 29, 30, 32], &[32]),
+        (&[27, 31, 32], &[]),
+        (&[36], &[36]),
+        (&[36, 37], &[]),
+        (&[17, 19, 21, 27, 32, 36], &[17, 19, 21, 27, 32, 36]),
+    ];
+    let mut prng = Prng::new(14);
+    for (present, due) in cases {
+        let mut observation = observation_of(present, &mut prng);
+        let report = observation.packing();
+        observation.attachments.push(Attachment::new(5, vec![0]));
+        let hidden = observation.packing();
+        for (side, room) in (0..9).flat_map(|room| SIDES.map(|side| (side, room))) {
+            let mut output = vec![0xA5; room];
+            let answer = side.find_indicators(&hidden, &mut output, &ALL);
+            assert_eq!(answer, answer_of_count(0), "{side:?}: {present:?}");
+            assert_eq!(output, vec![0xA5; room], "{side:?}: {present:?}");
+            let answer = side.find_indicators(&report, &mut output, &ALL);
+            if room < due.len() {
+                let refused = (answer.refusal, answer.place, answer.given);
+                assert_eq!(refused, (13, 0, 0), "{side:?}: {present:?}");
+                assert_eq!(output, vec![0xA5; room], "{side:?}: {present:?}");
+            } else {
+                assert_eq!(answer, answer_of_count(due.len()), "{side:?}: {present:?}");
+                assert_eq!(output[..due.len()], *due, "{side:?}");
+                assert_eq!(output[due.len()..], vec![0xA5; room - due.len()]);
+            }
+        }
+    }
+}
+
+/// The fields that are present, the one that is cleared, and those that are then left; the same
+/// where attachment 5 stands. The former value is that of the field, not of an indicator.
+#[test]
+fn indicators_go_with_their_last_data() {
+    let cases: [(&[usize], usize, &[usize]); 20] = [
+        (&[17, 18], 18, &[]),
+        (&[17, 18], 17, &[18]),
+        (&[17], 18, &[]),
+        (&[17, 19, 20], 20, &[17]),
+        (&[19, 20], 19, &[20]),
+        (&[21, 22], 22, &[]),
+        (&[27, 28], 28, &[]),
+        (&[27, 29], 29, &[]),
+        (&[27, 30], 30, &[]),
+        (&[27, 31], 31, &[]),
+        (&[27, 28, 31], 28, &[27, 31]),
+        (&[27, 29, 30], 30, &[27, 29]),
+        (&[27, 30], 29, &[27, 30]),
+        (&[27, 32], 28, &[32]),
+        (&[27, 32], 31, &[]),
+        (&[27, 28, 29, 30, 31, 32], 31, &[27, 28, 29, 30]),
+        (&[27, 31, 32], 27, &[31, 32]),
+        (&[36, 37], 37, &[]),
+        (&[17, 19, 21, 26, 27, 32, 36], 26, &[17, 19, 21, 27, 32, 36]),
+        (&[4, 17, 18], 5, &[4, 17, 18]),
+    ];
+    let mut prng = Prng::new(15);
+    for (present, field, left) in cases {
+        for attachments in [vec![], vec![Attachment::new(5, vec![7])]] {
+            let mut observation = observation_of(present, &mut prng);
+            observation.attachments = attachments;
+            let mut buffer = observation.packing();
+            buffer.extend([0xA5; 3]);
+            let former = observation.values[field - 1];
+            for &field in present.iter().filter(|field| !left.contains(field)) {
+                observation.values[field - 1] = None;
+            }
+            let answer = calls::clear_with_indicators(&mut buffer, field, &ALL);
+            let due = former.map_or(MISSING_VALUE, |former| value(former.0));
+            assert_eq!(answer, due, "{field} of {present:?}");
+            let mut due = observation.packing();
+            due.extend([0xA5; 3]);
+            assert_eq!(buffer, due, "{field} of {present:?}");
+        }
+    }
+}
+
+/// The report's refusals come first, and nothing is changed.
+#[test]
+fn calls_on_indicators_are_refused_in_the_order_of_their_checks() {
+    let mut prng = Prng::new(16);
+    let sound = observation_of(&[17, 27, 28], &mut prng).packing();
+    let mut summed = sound.clone();
+    summed[36] ^= 1;
+    let mut odd = sound.clone();
+    odd[37] = 1;
+    let clears: [(&[u8], usize, u8, u8); 12] = [
+        (&sound[..37], 0, 1, 0),
+        (&summed, 47, 4, 0),
+        (&odd, 7, 7, 0),
+        (&sound, 0, 8, 0),
+        (&sound, 47, 8, 0),
+        (&sound, 256 + 28, 8, 0),
+        (&sound, usize::MAX, 8, 0),
+        (&sound, 1, 10, 1),
+        (&sound, 2, 10, 2),
+        (&sound, 3, 10, 3),
+        (&sound, 6, 10, 6),
+        (&sound, 7, 10, 7),
+    ];
+    for (report, field, number, place) in clears {
+        let mut buffer = report.to_vec();
+        let answer = calls::clear_with_indicators(&mut buffer, field, &ALL);
+        assert_eq!(answer, Err(Refusal { number, place }), "{field}");
+        assert_eq!(buffer, report, "{field}");
+    }
+    let finds: [(&[u8], usize, u8); 6] = [
+        (&[], 0, 1),
+        (&sound[..37], 0, 1),
+        (&summed, 0, 4),
+        (&odd, 0, 7),
+        (&odd, 6, 7),
+        (&sound, 0, 13),
+    ];
+    for (report, room, number) in finds {
+        let mut output = vec![0xA5; room];
+        let answer = calls::find_indicators(report, &mut output, &ALL);
+        let place = 0;
+        assert_eq!(answer, Err(Refusal { number, place }));
+        assert_eq!(output, vec![0xA5; room]);
+    }
+}
+
+/// An entry of kind 12 has 9 bytes; kind 13 is no call.
+#[test]
+fn a_script_clears_with_indicators() {
+    let mut observation = fresh_observation();
+    for (field, value) in [(27, 3), (31, 286), (32, 1)] {
+        observation.values[field - 1] = Some(Scaled(value));
+    }
+    let mut buffer = observation.packing();
+    let mut script = vec![12, 0, 0, 0, 0, 0, 0, 0, 31];
+    script.extend(script.clone());
+    script.extend([13, 0, 0, 0, 0, 0, 0, 0, 31]);
+    let mut log = [0xA5; 100];
+    let done = Performed {
+        calls: 2,
+        taken: 18,
+        written: 74,
+    };
+    assert_eq!(replay(&mut buffer, &script, &mut log, &ALL), done);
+    let mut due = [0; 74];
+    (due[0], due[10], due[17], due[18]) = (1, 1, 1, 30);
+    (due[37], due[47]) = (1, 129);
+    assert_eq!(log[..74], due);
+    assert_eq!(log[74..], [0xA5; 26]);
+    assert_eq!(buffer, fresh_observation().packing());
 }
 
 /// Whether the Rust side takes a text's nibbles: in a report, beginning in the high half of a byte

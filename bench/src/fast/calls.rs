@@ -1,8 +1,10 @@
-//! The eleven calls on a buffer.
+//! The twelve calls on a buffer.
 
 use super::card::{CARD, REQUIRED, ROWS, code, replace};
 use super::report::{Report, card_of, content_valid, inspect, sixteen};
-use super::{Answer, Fetched, Given, Label, Refusal, Set, flags, given, nibbles, refused, text};
+use super::{
+    Answer, Fetched, Given, Label, Refusal, Set, flags, given, indicators, nibbles, refused, text,
+};
 use crate::FlagTable;
 
 #[inline(always)]
@@ -61,6 +63,18 @@ pub fn clear_field(s: &mut [u8], k: usize, table: &FlagTable) -> Answer {
         return refused(10, k);
     }
     Ok(value_of(k, replace(card_mut(s), k, 0, r.ck)))
+}
+
+#[inline(never)]
+pub fn clear_with_indicators(s: &mut [u8], k: usize, table: &FlagTable) -> Answer {
+    let r = inspect(s, 0, table)?;
+    if k.wrapping_sub(1) >= 46 {
+        return refused(8, 0);
+    }
+    if REQUIRED >> k & 1 == 1 {
+        return refused(10, k);
+    }
+    Ok(value_of(k, indicators::clear(card_mut(s), k, r.ck)))
 }
 
 /// The flag that a nibble shows.
@@ -279,6 +293,24 @@ pub fn costliest_text(symbols: usize, out: &mut [u8], origins: &mut [u8]) -> Ans
     out.fill(b'a');
     origins.fill(1);
     Ok(Given::NOTHING)
+}
+
+/// None where attachment 5 stands.
+#[inline(never)]
+pub fn find_indicators(s: &[u8], out: &mut [u8], table: &FlagTable) -> Answer {
+    let r = inspect(s, 5, table)?;
+    let list = if r.place == 0 {
+        indicators::lone(&r.words)
+    } else {
+        indicators::NONE
+    };
+    let Some(out) = out.get_mut(..list.count) else {
+        return refused(13, 0);
+    };
+    for (i, b) in out.iter_mut().enumerate() {
+        *b = (list.fields >> (8 * i)) as u8;
+    }
+    Ok(given(Label::Count, list.count as i64))
 }
 
 #[inline(never)]

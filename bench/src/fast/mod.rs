@@ -5,6 +5,7 @@
 pub mod calls;
 mod card;
 pub mod flags;
+mod indicators;
 mod nibbles;
 pub mod reader;
 mod report;

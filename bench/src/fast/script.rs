@@ -95,6 +95,7 @@ fn perform<'a>(
             let answer = fetched.map(|fetched| given(Label::Count, fetched.symbols as i64));
             (answer, after, FRONT + outputs)
         }
+        12 => (calls::clear_with_indicators(b, k, table), after, FRONT),
         _ => return None,
     };
     record(front, answer);
