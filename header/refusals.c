@@ -1,10 +1,11 @@
 /*
  * Tries the header's numbers of refusals, flags and flag values on the library: for each refusal a call that has to be
  * refused so, and the ends of the flags and of their values. Tries the former values that set and clear give, beside what a
- * read gives just before; the table of permitted flags in every call that takes it; ship texts there and back, how many
- * nibbles they take, each refusal of their calls, the deck's set for each source ID, and the reader; the costliest text of
- * each number of symbols; and some entries of the table of the characters. Tries that nothing beside a table, a reader or a
- * costliest text is written. Says each difference, and fails if there is one.
+ * read gives just before; indicators that have lost their data, in each set of them, and each field cleared with its
+ * indicators, beside the clears that it stands for; the table of permitted flags in every call that takes it; ship texts there
+ * and back, how many nibbles they take, each refusal of their calls, the deck's set for each source ID, and the reader; the
+ * costliest text of each number of symbols; and some entries of the table of the characters. Tries that nothing beside a table,
+ * a reader, a costliest text or what is found is written. Says each difference, and fails if there is one.
  */
 #include "lmr5.h"
 
@@ -240,6 +241,8 @@ static void in_every_call(const lmr5_flag_table *own) {
     see_other("a field read", lmr5_read_field(report, ROOM, LMR5_MONTH, own));
     see_other("a field set", lmr5_set_field(report, ROOM, LMR5_MONTH, 2, own));
     see_other("a field cleared", lmr5_clear_field(report, ROOM, LMR5_S, own));
+    see_other("a field cleared with its indicators", lmr5_clear_with_indicators(report, ROOM, LMR5_S, own));
+    see_other("indicators found", lmr5_find_indicators(report, ROOM, out, ROOM, own));
     see_other("another flag read", lmr5_read_flag(report, ROOM, 2, own));
     see_other("the flag set", lmr5_set_flag(report, ROOM, 1, LMR5_VALUE_R, own));
     see_other("the flag cleared", lmr5_clear_flag(report, ROOM, 1, own));
@@ -703,6 +706,268 @@ static void former_flags(void) {
     see_given("dropped", lmr5_drop(report, ROOM, 1, &all), LMR5_GIVEN_NOTHING, 0, 0, 0);
 }
 
+/* The indicators, ascending, and whether one rests on a field. */
+static const uint8_t indicators[LMR5_INDICATORS] = {LMR5_DI, LMR5_WI, LMR5_VI, LMR5_TI, LMR5_BI, LMR5_HI};
+
+static int rests_on(size_t indicator, size_t field) {
+    switch (indicator) {
+    case LMR5_DI:
+        return field == LMR5_D;
+    case LMR5_WI:
+        return field == LMR5_W;
+    case LMR5_VI:
+        return field == LMR5_VB;
+    case LMR5_TI:
+        return field == LMR5_A || field == LMR5_WB || field == LMR5_DPT || field == LMR5_S;
+    case LMR5_BI:
+        return field == LMR5_S;
+    default:
+        return field == LMR5_H;
+    }
+}
+
+static int is_present(size_t field) {
+    return read_field(field).given == LMR5_GIVEN_VALUE;
+}
+
+static int has_data(size_t indicator) {
+    for (size_t field = LMR5_BOX10; field <= LMR5_A6; field++)
+        if (rests_on(indicator, field) && is_present(field))
+            return 1;
+    return 0;
+}
+
+static void set_to(size_t field, int64_t value) {
+    see("a field set", lmr5_set_field(report, ROOM, field, value, &all), 0, 0);
+}
+
+static void put_5(void) {
+    see("attachment 5 put", lmr5_put(report, ROOM, 5, nibbles, 1, &all), 0, 0);
+}
+
+/* The fresh report with all indicators, and with all fields. */
+static void start_indicators(void) {
+    start();
+    for (size_t i = 0; i < LMR5_INDICATORS; i++)
+        set_to(indicators[i], some_value(indicators[i]));
+}
+
+static void start_all(void) {
+    start();
+    for (size_t field = LMR5_BOX10; field <= LMR5_A6; field++)
+        set_to(field, some_value(field));
+}
+
+/* What is found comes to the front of an output of this length, and the rest stays. The report is only read. */
+static void see_found(const char *what, size_t length, const uint8_t *due, size_t count) {
+    uint8_t out[LONG];
+    lmr5_answer answer;
+    memset(out, 0xa5, sizeof out);
+    memcpy(other, report, ROOM);
+    answer = lmr5_find_indicators(report, ROOM, out, length, &all);
+    see(what, answer, 0, 0);
+    see_given(what, answer, LMR5_GIVEN_COUNT, (int64_t)count, 0, 0);
+    see_that(what, memcmp(out, due, count) == 0 && is_filled(out + count, LONG - count));
+    see_that(what, memcmp(report, other, ROOM) == 0);
+}
+
+/* Refused, it writes nothing. */
+static void see_find_refused(const char *what, size_t room, size_t length, uint32_t refusal) {
+    uint8_t out[LONG];
+    lmr5_answer answer;
+    memset(out, 0xa5, sizeof out);
+    answer = lmr5_find_indicators(report, room, out, length, &all);
+    see(what, answer, refusal, 0);
+    see_given(what, answer, LMR5_GIVEN_NOTHING, 0, 0, 0);
+    see_that(what, is_filled(out, sizeof out));
+}
+
+/* With exact room, with more, with each length that is too short, and without an output. */
+static void see_finds(const char *what, const uint8_t *due, size_t count) {
+    const lmr5_answer answer = lmr5_find_indicators(report, ROOM, NULL, 0, &all);
+    see(what, answer, count == 0 ? 0 : LMR5_REFUSED_ROOM, 0);
+    see_given(what, answer, count == 0 ? LMR5_GIVEN_COUNT : LMR5_GIVEN_NOTHING, 0, 0, 0);
+    for (size_t length = 0; length < count; length++)
+        see_find_refused(what, ROOM, length, LMR5_REFUSED_ROOM);
+    see_found(what, count, due, count);
+    see_found(what, count + 1, due, count);
+    see_found(what, LONG, due, count);
+}
+
+/* Each set of indicators without data, beside attachments; then all of them beside each other field. */
+static void found_indicators(void) {
+    uint8_t due[LMR5_INDICATORS] = {0};
+    for (size_t set = 0; set < 1 << LMR5_INDICATORS; set++) {
+        size_t count = 0;
+        start();
+        for (size_t i = 0; i < LMR5_INDICATORS; i++)
+            if (set >> i & 1) {
+                set_to(indicators[i], some_value(indicators[i]));
+                due[count++] = indicators[i];
+            }
+        see_finds("indicators alone", due, count);
+        see("put", lmr5_put(report, ROOM, 6, nibbles, 5, &all), 0, 0);
+        see_finds("indicators beside attachment 6", due, count);
+        put_5();
+        see_finds("indicators beside attachment 5", due, 0);
+        see("attachment 5 dropped", lmr5_drop(report, ROOM, 5, &all), 0, 0);
+        see_finds("indicators without attachment 5", due, count);
+    }
+    for (size_t field = LMR5_BOX10; field <= LMR5_A6; field++) {
+        size_t count = 0;
+        start_indicators();
+        set_to(field, some_value(field));
+        for (size_t i = 0; i < LMR5_INDICATORS; i++)
+            if (!rests_on(indicators[i], field))
+                due[count++] = indicators[i];
+        see_finds("indicators beside one field", due, count);
+    }
+    start_all();
+    see_finds("all fields", due, 0);
+    start_indicators();
+    see_find_refused("37 bytes", 37, LONG, LMR5_REFUSED_SHORT);
+    see_find_refused("37 bytes, no room", 37, 0, LMR5_REFUSED_SHORT);
+}
+
+static lmr5_answer clear_with(size_t field) {
+    return lmr5_clear_with_indicators(report, ROOM, field, &all);
+}
+
+/* It answers as a clear of the field, and leaves what that and the clears of its indicators leave: none without data. */
+static void see_clears(const char *what, size_t field) {
+    uint8_t before[ROOM];
+    lmr5_answer answer, due;
+    memcpy(before, report, ROOM);
+    due = lmr5_clear_field(report, ROOM, field, &all);
+    for (size_t i = 0; i < LMR5_INDICATORS; i++)
+        if (rests_on(indicators[i], field) && !has_data(indicators[i]))
+            see(what, lmr5_clear_field(report, ROOM, indicators[i], &all), 0, 0);
+    memcpy(other, report, ROOM);
+    memcpy(report, before, ROOM);
+    answer = clear_with(field);
+    see(what, answer, due.refusal, due.place);
+    see_given(what, answer, due.given, due.first, due.second, due.third);
+    see_that(what, memcmp(report, other, ROOM) == 0);
+    for (size_t i = 0; i < LMR5_INDICATORS; i++)
+        see_that(what, !rests_on(indicators[i], field) || !is_present(indicators[i]) || has_data(indicators[i]));
+}
+
+static void clears_with_indicators(void) {
+    for (size_t field = LMR5_BOX10; field <= LMR5_A6; field++)
+        for (int with_5 = 0; with_5 < 2; with_5++)
+            for (int which = 0; which < 4; which++) {
+                if (which == 0)
+                    start();
+                else if (which == 3)
+                    start_all();
+                else
+                    start_indicators();
+                if (which == 2)
+                    set_to(field, some_value(field));
+                if (with_5)
+                    put_5();
+                see_clears("a field cleared with its indicators", field);
+            }
+    for (size_t set = 0; set < 16; set++)
+        for (size_t field = LMR5_A; field <= LMR5_S; field++) {
+            start_indicators();
+            for (size_t i = 0; i < 4; i++)
+                if (set >> i & 1)
+                    set_to(LMR5_A + i, -5);
+            see_clears("one of some temperatures cleared", field);
+        }
+}
+
+/* 8 and 10 change nothing. Three of the numbers that are no field end in that of D. */
+static void clears_refused(void) {
+    const size_t no_field[6] = {0, LMR5_A6 + 1, 64 + LMR5_D, 256 + LMR5_D, SIZE_MAX / 2 + 1 + LMR5_D, SIZE_MAX};
+    const size_t required[5] = {LMR5_BOX10, LMR5_YEAR, LMR5_MONTH, LMR5_X, LMR5_Y};
+    start_all();
+    memcpy(other, report, ROOM);
+    for (size_t i = 0; i < 6; i++) {
+        const lmr5_answer answer = clear_with(no_field[i]);
+        see("no field cleared with its indicators", answer, LMR5_REFUSED_NUMBER, 0);
+        see_given("no field cleared with its indicators", answer, LMR5_GIVEN_NOTHING, 0, 0, 0);
+    }
+    for (size_t i = 0; i < 5; i++) {
+        const lmr5_answer answer = clear_with(required[i]);
+        see("a required field cleared with its indicators", answer, LMR5_REFUSED_REQUIRED, required[i]);
+        see_given("a required field cleared with its indicators", answer, LMR5_GIVEN_NOTHING, 0, 0, 0);
+    }
+    see("37 bytes", lmr5_clear_with_indicators(report, 37, 0, &all), LMR5_REFUSED_SHORT, 0);
+    see_that("refused clears with indicators", memcmp(report, other, ROOM) == 0);
+}
+
+/* What is given, and what is left, of some fields by name. */
+static void clears_by_name(void) {
+    uint8_t fresh[ROOM];
+    start();
+    memcpy(fresh, report, ROOM);
+    set_to(LMR5_DI, 3);
+    set_to(LMR5_D, 240);
+    see_given("D with DI", clear_with(LMR5_D), LMR5_GIVEN_VALUE, 240, 0, 0);
+    see_that("D with DI", memcmp(report, fresh, ROOM) == 0);
+    set_to(LMR5_DI, 3);
+    see_given("DI without D", clear_with(LMR5_D), no_value, 0, 0, 0);
+    see_that("DI without D", memcmp(report, fresh, ROOM) == 0);
+    set_to(LMR5_DI, 3);
+    set_to(LMR5_D, 240);
+    see_given("DI alone", clear_with(LMR5_DI), LMR5_GIVEN_VALUE, 3, 0, 0);
+    see_that("DI alone", !is_present(LMR5_DI) && is_present(LMR5_D));
+    set_to(LMR5_WI, 0);
+    see_given("D, where WI has lost W", clear_with(LMR5_D), LMR5_GIVEN_VALUE, 240, 0, 0);
+    see_that("D, where WI has lost W", !is_present(LMR5_D) && is_present(LMR5_WI));
+    see_given("W, which is missing", clear_with(LMR5_W), no_value, 0, 0, 0);
+    see_that("W, which is missing", memcmp(report, fresh, ROOM) == 0);
+    set_to(LMR5_TI, 1);
+    set_to(LMR5_A, 198);
+    set_to(LMR5_S, 286);
+    set_to(LMR5_BI, 2);
+    see_given("S beside A", clear_with(LMR5_S), LMR5_GIVEN_VALUE, 286, 0, 0);
+    see_that("S beside A", is_present(LMR5_TI) && is_present(LMR5_A) && !is_present(LMR5_S) && !is_present(LMR5_BI));
+    see_given("A, the last of TI", clear_with(LMR5_A), LMR5_GIVEN_VALUE, 198, 0, 0);
+    see_that("A, the last of TI", memcmp(report, fresh, ROOM) == 0);
+    set_to(LMR5_TI, 0);
+    set_to(LMR5_S, 0);
+    set_to(LMR5_BI, 0);
+    see_given("S, 0 and the last of TI", clear_with(LMR5_S), LMR5_GIVEN_VALUE, 0, 0, 0);
+    see_that("S, 0 and the last of TI", memcmp(report, fresh, ROOM) == 0);
+}
+
+/* D, with DI; D again, which is missing; field 47; MONTH; and an entry of no kind, before which the replay ends. */
+static void replayed_clears(void) {
+    enum { ENTRY = 9, RECORD = 37, CALLS = 4 };
+    const uint8_t script[(CALLS + 1) * ENTRY] = {
+        LMR5_SCRIPT_CLEAR_WITH_INDICATORS,     0, 0, 0, 0, 0, 0, 0, LMR5_D,
+        LMR5_SCRIPT_CLEAR_WITH_INDICATORS,     0, 0, 0, 0, 0, 0, 0, LMR5_D,
+        LMR5_SCRIPT_CLEAR_WITH_INDICATORS,     0, 0, 0, 0, 0, 0, 0, LMR5_A6 + 1,
+        LMR5_SCRIPT_CLEAR_WITH_INDICATORS,     0, 0, 0, 0, 0, 0, 0, LMR5_MONTH,
+        LMR5_SCRIPT_CLEAR_WITH_INDICATORS + 1, 0, 0, 0, 0, 0, 0, 0, LMR5_D};
+    uint8_t fresh[ROOM], due[(CALLS + 1) * RECORD] = {0}, log[sizeof due];
+    lmr5_performed performed;
+    due[0] = LMR5_LOG_ACCEPTED;
+    due[10] = LMR5_GIVEN_VALUE;
+    due[18] = 240;
+    due[RECORD] = LMR5_LOG_ACCEPTED;
+    due[RECORD + 10] = LMR5_GIVEN_VALUE + LMR5_GIVEN_MISSING;
+    due[2 * RECORD] = LMR5_LOG_REFUSED;
+    due[2 * RECORD + 1] = LMR5_REFUSED_NUMBER;
+    due[3 * RECORD] = LMR5_LOG_REFUSED;
+    due[3 * RECORD + 1] = LMR5_REFUSED_REQUIRED;
+    due[3 * RECORD + 9] = LMR5_MONTH;
+    memset(due + CALLS * RECORD, 0xa5, RECORD);
+    memset(log, 0xa5, sizeof log);
+    start();
+    memcpy(fresh, report, ROOM);
+    set_to(LMR5_DI, 3);
+    set_to(LMR5_D, 240);
+    performed = lmr5_replay(report, ROOM, script, sizeof script, log, sizeof log, &all);
+    see_that("clears with indicators replayed",
+             performed.calls == CALLS && performed.taken == CALLS * ENTRY && performed.written == CALLS * RECORD);
+    see_that("their records", memcmp(log, due, sizeof due) == 0);
+    see_that("their report", memcmp(report, fresh, ROOM) == 0);
+}
+
 static void see_entry(const char *what, uint16_t entry, uint16_t due) {
     if (entry == due)
         return;
@@ -732,6 +997,11 @@ int main(void) {
     flags();
     former_values();
     former_flags();
+    found_indicators();
+    clears_with_indicators();
+    clears_refused();
+    clears_by_name();
+    replayed_clears();
     tables();
     own_flags();
     texts_refused();
@@ -744,7 +1014,7 @@ int main(void) {
     replayed_texts();
     characters();
     if (differences == 0)
-        puts("include/lmr5.h: the numbers of refusals and flags as in the library, its former values, its tables of flags, its "
-             "texts and their reader, the costliest texts, and entries of the table of the characters");
+        puts("include/lmr5.h: the numbers of refusals and flags as in the library, its former values, its indicators, its "
+             "tables of flags, its texts and their reader, the costliest texts, and entries of the table of the characters");
     return differences != 0;
 }

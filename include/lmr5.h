@@ -73,7 +73,7 @@ enum lmr5_given {
     LMR5_GIVEN_NOTHING = 0,     /* no number */
     LMR5_GIVEN_VALUE = 1,       /* a field's value; of set and clear the former one */
     LMR5_GIVEN_FLAG = 2,        /* a flag's value; of set and clear the former one */
-    LMR5_GIVEN_COUNT = 3,       /* how many bytes a fetch wrote to an output */
+    LMR5_GIVEN_COUNT = 3,       /* how many bytes a fetch wrote to an output, or lmr5_find_indicators to its own */
     LMR5_GIVEN_WORD = 4,        /* a presence word */
     LMR5_GIVEN_PRESENT = 5,     /* how many fields are present */
     LMR5_GIVEN_RPTIN = 6,
@@ -262,13 +262,15 @@ lmr5_answer lmr5_pack(const int64_t *values, size_t values_length, uint64_t word
                       size_t tail_length, uint8_t *out, size_t out_length, const lmr5_flag_table *table);
 
 /*
- * ---- the eleven calls on the report that a buffer begins with
+ * ---- the twelve calls on the report that a buffer begins with
  *
  * After an accepted call the report is packed anew in place, its checksum worked out. Where it has become shorter, the bytes
  * up to its old end are 0. Bytes behind both ends stay, as does RPTIN.
  *
  * Set and clear give the former value: what stood in the field or flag before the call, or that it was missing. An accepted one
  * has the answer, number and label, that lmr5_read_field or lmr5_read_flag would have had on the same buffer just before it.
+ *
+ * lmr5_find_indicators is described here too, but is not one of the twelve: no script holds it.
  */
 
 /* Gives the value of a field, or that it is missing. Refusals: the report's refusals; 8. */
@@ -282,6 +284,39 @@ lmr5_answer lmr5_set_field(uint8_t *report, size_t report_length, size_t field, 
  * Refusals: the report's refusals; 8; 10.
  */
 lmr5_answer lmr5_clear_field(uint8_t *report, size_t report_length, size_t field, const lmr5_flag_table *table);
+
+/*
+ * An indicator is a field that says how reliable or how precise its data are. It rests on them. There are six:
+ *   LMR5_DI  rests on  LMR5_D
+ *   LMR5_WI            LMR5_W
+ *   LMR5_VI            LMR5_VB
+ *   LMR5_TI            LMR5_A, LMR5_WB, LMR5_DPT, LMR5_S
+ *   LMR5_BI            LMR5_S
+ *   LMR5_HI            LMR5_H
+ * It has lost its data where they are all missing; LMR5_TI, where all four are. A report that holds an indicator without its
+ * data is accepted.
+ */
+enum lmr5_indicators { LMR5_INDICATORS = 6 };
+
+/*
+ * Makes a field missing, and each indicator that rests on it and whose data are then all missing, whether or not attachment 5
+ * stands. Does so also where the field is missing already. All other fields stay, among them an indicator that lost other data
+ * before. Told to clear an indicator, it clears that alone.
+ * Leaves what lmr5_clear_field leaves, called for the field and then for these indicators, ascending. Answers as
+ * lmr5_clear_field does: gives the former value of the field, or that it was missing, and none of an indicator.
+ * Refusals: the report's refusals; 8; 10.
+ */
+lmr5_answer lmr5_clear_with_indicators(uint8_t *report, size_t report_length, size_t field, const lmr5_flag_table *table);
+
+/*
+ * Finds the indicators that are present and have lost their data: writes their field numbers to the front of `out`, ascending,
+ * a byte each. Where attachment 5 stands it finds none, since the data may be there. Gives how many it has found, with the
+ * label LMR5_GIVEN_COUNT. The report and the rest of `out` stay.
+ * Refusals: the report's refusals; 13 where `out` is shorter than what is found. LMR5_INDICATORS bytes always do. Where nothing
+ * is found, `out` may have no bytes.
+ */
+lmr5_answer lmr5_find_indicators(const uint8_t *report, size_t report_length, uint8_t *out, size_t out_length,
+                                 const lmr5_flag_table *table);
 
 /* Gives the value of a flag, 1 to 10, or that it is missing. Refusals: the report's refusals; 8; 11 without id 1. */
 lmr5_answer lmr5_read_flag(const uint8_t *report, size_t report_length, size_t flag, const lmr5_flag_table *table);
@@ -436,25 +471,26 @@ void lmr5_character_table(uint16_t table[256]);
  * A script is entries one after the other. An entry is a byte, its kind, and then what the call takes: numbers in 8 bytes,
  * the highest first, and bytes behind their number. A field's value is in two's complement.
  *
- *   kind                            takes                                          bytes
- *   LMR5_SCRIPT_READ_FIELD   1      field                                          9
- *   LMR5_SCRIPT_SET_FIELD    2      field, value                                   17
- *   LMR5_SCRIPT_CLEAR_FIELD  3      field                                          9
- *   LMR5_SCRIPT_READ_FLAG    4      flag                                           9
- *   LMR5_SCRIPT_SET_FLAG     5      flag, value                                    17
- *   LMR5_SCRIPT_CLEAR_FLAG   6      flag                                           9
- *   LMR5_SCRIPT_PUT          7      id, n, n bytes of content                      17 + n
- *   LMR5_SCRIPT_FETCH        8      id, n, n bytes of output                       17 + n
- *   LMR5_SCRIPT_DROP         9      id                                             9
- *   LMR5_SCRIPT_PUT_TEXT     10     n, n bytes of text, m, m bytes of origins      17 + n + m
- *   LMR5_SCRIPT_FETCH_TEXT   11     n, n bytes of output, m, m bytes of output     17 + n + m
+ *   kind                                     takes                                          bytes
+ *   LMR5_SCRIPT_READ_FIELD             1     field                                          9
+ *   LMR5_SCRIPT_SET_FIELD              2     field, value                                   17
+ *   LMR5_SCRIPT_CLEAR_FIELD            3     field                                          9
+ *   LMR5_SCRIPT_READ_FLAG              4     flag                                           9
+ *   LMR5_SCRIPT_SET_FLAG               5     flag, value                                    17
+ *   LMR5_SCRIPT_CLEAR_FLAG             6     flag                                           9
+ *   LMR5_SCRIPT_PUT                    7     id, n, n bytes of content                      17 + n
+ *   LMR5_SCRIPT_FETCH                  8     id, n, n bytes of output                       17 + n
+ *   LMR5_SCRIPT_DROP                   9     id                                             9
+ *   LMR5_SCRIPT_PUT_TEXT               10    n, n bytes of text, m, m bytes of origins      17 + n + m
+ *   LMR5_SCRIPT_FETCH_TEXT             11    n, n bytes of output, m, m bytes of output     17 + n + m
+ *   LMR5_SCRIPT_CLEAR_WITH_INDICATORS  12    field                                          9
  *
  * The log holds a record of each call, 37 bytes and then its outputs:
  *   - 10 bytes: enum lmr5_log; the refusal's number; its place in 8 bytes, the highest first. Number and place are 0 where
  *     the call is accepted.
  *   - A row of three numbers, 9 bytes each: a label, and the number in 8 bytes, the highest first, in two's complement. The
  *     number is 0 where it is missing. All 9 are 0 where there is no such number, and so all 27 where the call is refused.
- *     READ_FIELD, READ_FLAG, FETCH and PUT_TEXT give one number, FETCH_TEXT three, the others none.
+ *     FETCH_TEXT gives three numbers, PUT and DROP none, the others one.
  *   - The outputs after the call, whole and in their order. FETCH has one, of n bytes, FETCH_TEXT two, of n and of m bytes, for
  *     the text and its origins; the others have none.
  * So a record takes 37 bytes, for FETCH n more and for FETCH_TEXT n + m more, whether the call is accepted or not.
@@ -470,7 +506,8 @@ enum lmr5_script {
     LMR5_SCRIPT_FETCH = 8,
     LMR5_SCRIPT_DROP = 9,
     LMR5_SCRIPT_PUT_TEXT = 10,
-    LMR5_SCRIPT_FETCH_TEXT = 11
+    LMR5_SCRIPT_FETCH_TEXT = 11,
+    LMR5_SCRIPT_CLEAR_WITH_INDICATORS = 12
 };
 
 /* The first byte of a record. */

@@ -303,11 +303,21 @@ fn longest(sizes: &str) -> Vec<String> {
     vec![format!("LMR5_LONGEST_REPORT = {bound}")]
 }
 
+/// How many indicators there are, each a line `    indicator 17 (18 ∷ []) ∷  -- DI on D`.
+fn indicators(definitions: &str) -> Vec<String> {
+    let rows = definitions.lines();
+    let count = rows
+        .filter(|line| line.starts_with("    indicator "))
+        .count();
+    vec![format!("LMR5_INDICATORS = {count}")]
+}
+
 /// The texts that the header has to agree with.
 pub struct Sources<'a> {
     pub exports: &'a str,
     pub types: &'a str,
     pub table: &'a str,
+    pub indicators: &'a str,
     pub script: &'a str,
     pub labels: &'a str,
     pub text: &'a str,
@@ -342,6 +352,7 @@ pub fn declared(sources: &Sources) -> Declared {
             ascending(symbol_kinds(sources.readers, sources.text)),
         ),
         ("lmr5_longest", longest(sources.sizes)),
+        ("lmr5_indicators", indicators(sources.indicators)),
     ];
     for (name, numbers) in enums {
         declared.enums.insert(name.to_string(), numbers);

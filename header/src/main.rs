@@ -1,9 +1,10 @@
 //! Compares include/lmr5.h with the functions and structs that crates/lmr5 exports, its table of flags with the type of
 //! crates/format, its reader with what is stored to one, and its numbers with the definitions: fields, contents, kinds of a
-//! script's entries, the log's first bytes, labels, marks of origin, sets of a deck, kinds of symbols, the longest report.
-//! Compares the field table of docs/FORMAT.md with the definitions. Says each difference, and fails if there is one. Its
-//! argument is the repository's folder. refusals.c tries the numbers of refusals and flags, the table of flags, ship texts,
-//! their nibbles and their reader, the costliest texts, and the table of the characters.
+//! script's entries, the log's first bytes, labels, marks of origin, sets of a deck, kinds of symbols, the longest report, how
+//! many indicators there are. Compares the tables of fields and of indicators in docs/FORMAT.md with the definitions. Says each
+//! difference, and fails if there is one. Its argument is the repository's folder. refusals.c tries the numbers of refusals and
+//! flags, indicators, the table of flags, ship texts, their nibbles and their reader, the costliest texts, and the table of the
+//! characters.
 mod code;
 mod header;
 mod page;
@@ -77,10 +78,12 @@ fn read(root: &str, name: &str) -> String {
 fn main() -> ExitCode {
     let root = std::env::args().nth(1).expect("the repository's folder");
     let table = read(&root, "crates/format/specs/Field.antt");
+    let indicators = read(&root, "crates/format/specs/Indicators.antt");
     let code = code::declared(&Sources {
         exports: &read(&root, "crates/lmr5/src/lib.rt"),
         types: &read(&root, "crates/format/src/lib.rt"),
         table: &table,
+        indicators: &indicators,
         script: &read(&root, "crates/script/specs/Script.antt"),
         labels: &read(&root, "crates/script/specs/Labels.antt"),
         text: &read(&root, "crates/format/specs/ShipText.antt"),
@@ -92,17 +95,26 @@ fn main() -> ExitCode {
     for line in &said {
         println!("include/lmr5.h: {line}");
     }
+    let page = read(&root, "docs/FORMAT.md");
     let fields = page::defined(&table);
-    let written = page::written(&read(&root, "docs/FORMAT.md"));
-    if written != fields {
-        println!("docs/FORMAT.md: fields: {}", change(&fields, &written));
+    let resting = page::defined_indicators(&indicators, &table);
+    let mut is_same = said.is_empty();
+    for (what, defined, written) in [
+        ("fields", &fields, page::written(&page)),
+        ("indicators", &resting, page::written_indicators(&page)),
+    ] {
+        if written != *defined {
+            println!("docs/FORMAT.md: {what}: {}", change(defined, &written));
+            is_same = false;
+        }
     }
-    if !said.is_empty() || written != fields {
+    if !is_same {
         return ExitCode::FAILURE;
     }
     println!(
-        "docs/FORMAT.md: {} fields as in the definitions",
-        fields.len()
+        "docs/FORMAT.md: {} fields and {} indicators as in the definitions",
+        fields.len(),
+        resting.len()
     );
     println!(
         "include/lmr5.h: {} functions, {} structs and {} numbers as in the code",
@@ -131,6 +143,7 @@ mod tests {
     const TYPES: &str =
         "pub struct Coded(pub u16);\n// A table.\npub type FlagTable = [[u8; 10]; 14];\n";
     const TABLE: &str = "    field 648 (pos 0) 10 ∷  -- 1 BOX10\n    []\n";
+    const INDICATORS: &str = "    indicator 17 (18 ∷ []) ∷  -- DI on D\n    indicator 19 (20 ∷ []) ∷  -- WI on W\n    []\n";
     const SCRIPT: &str = "unfoldable pub scriptEntry : Entry → List ℕ\n\
         scriptEntry (edits (setField k v)) = 2 ∷ (bytes8 k)\nscriptEntry (edits (remove i)) = 9 ∷ bytes8 i\n\
         scriptEntry (reads (readField k)) = 1 ∷ bytes8 k\nscriptEntry (fetches (fetchText out)) = 11 ∷ (bytes8 (length out))\n\
@@ -148,7 +161,7 @@ mod tests {
         enum lmr5_refusal { LMR5_REFUSED_SHORT = 1 };\n\
         enum lmr5_log { LMR5_LOG_REFUSED = 0, LMR5_LOG_ACCEPTED = 1 };\n\
         enum lmr5_given { LMR5_GIVEN_NOTHING = 0, LMR5_GIVEN_VALUE = 1, LMR5_GIVEN_COUNT = 3, LMR5_GIVEN_MISSING = 128 };\n\
-        enum lmr5_longest { LMR5_LONGEST_REPORT = 1853 };\n\
+        enum lmr5_longest { LMR5_LONGEST_REPORT = 1853 };\nenum lmr5_indicators { LMR5_INDICATORS = 2 };\n\
         enum lmr5_origin { LMR5_ORIGIN_PLAIN = 0, LMR5_ORIGIN_ORIGINAL = 1 };\n\
         enum lmr5_set { LMR5_SET_UNKNOWN = 0, LMR5_SET_ASCII = 2 };\n\
         typedef struct lmr5_text_reader {\n    uint64_t place;\n    uint64_t end;\n    uint64_t spaces;\n    uint64_t refusal;\n\
@@ -166,6 +179,7 @@ mod tests {
             exports: CODE,
             types: TYPES,
             table: TABLE,
+            indicators: INDICATORS,
             script: SCRIPT,
             labels: LABELS,
             text: TEXT,
@@ -248,6 +262,8 @@ mod tests {
             ("LMR5_GIVEN_COUNT = 3, ", ""),
             ("GIVEN_MISSING = 128", "GIVEN_MISSING = 129"),
             ("= 1853", "= 1852"),
+            ("LMR5_INDICATORS = 2", "LMR5_INDICATORS = 3"),
+            ("enum lmr5_indicators { LMR5_INDICATORS = 2 };\n", ""),
         ];
         for (old, new) in changes {
             assert_eq!(HEADER.matches(old).count(), 1, "{old}");
@@ -292,6 +308,12 @@ mod tests {
             };
             assert_eq!(said_of(&sources, HEADER).len(), 1, "{old}");
         }
+        let indicators = &format!("{INDICATORS}    indicator 21 (22 ∷ []) ∷  -- VI on VB\n");
+        let more = Sources {
+            indicators,
+            ..sources()
+        };
+        assert_eq!(said_of(&more, HEADER).len(), 1);
         let kind = format!("{SCRIPT}scriptEntry (edits (putText t)) = 10 ∷ bytes8 t\n");
         let head = SCRIPT.replace("headOf (accepted gs) = 1", "headOf (accepted gs) = 3");
         for script in [&kind, &head] {
