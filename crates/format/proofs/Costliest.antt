@@ -12,10 +12,16 @@ use lib.Dec.{T}
 use Rattle.format.specs.Order.{Refusal, between, allMarks}
 use Rattle.format.specs.ShipText.{charCode, short, codeNibbles, Symbol, plain, original, symbolOf, symbolsIn, admitted, allAdmitted}
 use Rattle.format.specs.ShipText.{isSpace, symbolNibbles, fulls, rest, spaceRun, writeFrom, writeText, endsInSpace}
-use Rattle.format.specs.Costliest.{Costly, WrittenBy, UpTo85}
+use Rattle.format.specs.Calls.{Answer}
+use Rattle.format.specs.Reply.{refusal}
+use Rattle.format.specs.Costliest.{Costly, WrittenBy, UpTo85, Never12}
 
 no : true ≡ false → ⊥
 no e = subst (λ (b : Bool). T b) e tt
+
+numberIn : Answer → ℕ
+numberIn (Answer.refused r) = r .number
+numberIn (Answer.accepted gs) = 0
 
 -- two original symbols, and none
 two-are : Costly 2 (97 ∷ 0 ∷ []) (1 ∷ 1 ∷ [])
@@ -63,6 +69,24 @@ more-are-not u = no (sym (u .few))
 space-is-not : UpTo85 (plain 65 ∷ plain 32 ∷ []) → ⊥
 unfolding endsInSpace isSpace
 space-is-not u = no (u .kept)
+
+-- 12 is what put text never answers to such a row, at any place; it may answer 11 or 13, and 12 to a row of 86
+twelve-is-not : Never12 (plain 48 ∷ []) (refusal 12 0) → ⊥
+twelve-is-not never = never one-is 0 refl
+
+twelve-anywhere-is-not : Never12 (replicate 85 (original 32)) (refusal 12 4) → ⊥
+twelve-anywhere-is-not never = never most-are 4 refl
+
+eleven-is : Never12 (plain 48 ∷ []) (refusal 11 0)
+unfolding numberIn
+eleven-is u p e = let z : _≡_ {A = ℕ} 11 12 = ap numberIn e in omega arith
+
+thirteen-is : Never12 (plain 48 ∷ []) (refusal 13 0)
+unfolding numberIn
+thirteen-is u p e = let z : _≡_ {A = ℕ} 13 12 = ap numberIn e in omega arith
+
+more-may : Never12 (replicate 86 (original 32)) (refusal 12 0)
+more-may u p e = more-are-not u
 
 -- two symbols to longer outputs, whose rest stays; a refused call that wrote to one of its outputs
 written-are : WrittenBy none 2 (7 ∷ 7 ∷ 7 ∷ []) (9 ∷ 9 ∷ 9 ∷ 9 ∷ []) (97 ∷ 0 ∷ 7 ∷ []) (1 ∷ 1 ∷ 9 ∷ 9 ∷ [])

@@ -32,7 +32,7 @@ use Rattle.format.specs.Whole.{countFrom, packObservation, packOrder, pa
 use Rattle.format.specs.Loading.{rows, tableOf, someYes, everyRow, loadChecks, loadAnswer, inForce}
 use Rattle.format.specs.Display.{openingRefusal, displayed, handed}
 use Rattle.format.specs.Costliest.{costliestChecks, costliestRefusal}
-use Rattle.format.specs.Indicators.{indicators, fieldsWhere, restingOn}
+use Rattle.format.specs.Indicators.{indicators, fieldsWhere, basisIn, dataOf, restingOn}
 use Rattle.format.specs.Finding.{lostIndicators, found, findChecks, find, ascendingFrom, clearCalls}
 use Rattle.format.specs.Lister.{digitsFrom, fieldLines, listing}
 use Rattle.format.specs.declared.Scaled.{Scaled}
@@ -923,6 +923,9 @@ lostData =
     -- which indicators rest on each field from 0 to 47
     example (joined (map (λ (k : ℕ). length (restingOn k) ∷ restingOn k) (upFrom 0 48)))
     (replicate 18 0 ++ (1 ∷ 17 ∷ 0 ∷ 1 ∷ 19 ∷ 0 ∷ 1 ∷ 21 ∷ (replicate 5 0 ++ (1 ∷ 27 ∷ 1 ∷ 27 ∷ 1 ∷ 27 ∷ 2 ∷ 27 ∷ 32 ∷ (replicate 5 0 ++ (1 ∷ 36 ∷ replicate 10 0))))))
+    -- and on which fields each rests
+    ∷ example (joined (map (λ (i : ℕ). length (dataOf i) ∷ dataOf i) (upFrom 0 48)))
+    (replicate 17 0 ++ (1 ∷ 18 ∷ 0 ∷ 1 ∷ 20 ∷ 0 ∷ 1 ∷ 22 ∷ (replicate 5 0 ++ (4 ∷ 28 ∷ 29 ∷ 30 ∷ 31 ∷ (replicate 4 0 ++ (1 ∷ 31 ∷ (replicate 3 0 ++ (1 ∷ 37 ∷ replicate 11 0))))))))
     -- found: none present, all six, each alone, each beside its data
     ∷ example (found (sheet [] []) ++ found (sheet [] allSix)) allSix
     ∷ example (joined (map (λ (i : ℕ). found (sheet [] (one i))) allSix)) allSix
@@ -1018,7 +1021,7 @@ lostData =
 
 pub indicators-hold : T (every lostData)
 unfolding lowest withLowest sheet presentFrom presentIn presentAfter stated wrote finds tells allSix clearing put5 clearName besideClears lostData
-    indicators fieldsWhere restingOn dataMissing lostOn clearsOf clearEach lostIndicators found
+    indicators fieldsWhere basisIn dataOf restingOn dataMissing lostOn clearsOf clearEach lostIndicators found
     findChecks find ascendingFrom noA withA under without rows spoilt upFrom one quantityNumber quantities flagless put1 reportWith reportOf highestCodes
     signed optional given refusal answer joined answers yes refuses example freshBytes sBytes answersOf roomy wide same every first
     table fieldAt required scaledOf codedOf inRange entryOf codeOf entries codes bits number bitsOf bitField total readFields writeFields nibbles bytes padded

@@ -4,6 +4,7 @@ use Prim.Native.Nat.{ℕ}
 use mathlib.Core.Path.{_≡_}
 use mathlib.Core.Bool.{Bool, true, false, cond, _&&_}
 use mathlib.Core.List.{List, [], _∷_, map}
+use mathlib.Core.Option.{none}
 use lib.ListN.{length, take}
 use lib.Dec.{ltb}
 use Rattle.format.specs.Order.{Check, check, first}
@@ -11,7 +12,7 @@ use Rattle.format.specs.Field.{isPresent}
 use Rattle.format.specs.Nibbles.{among}
 use Rattle.format.specs.Flags.{FlagTable}
 use Rattle.format.specs.Observation.{Observation}
-use Rattle.format.specs.Indicators.{Indicator, indicators, fieldsWhere, restingOn}
+use Rattle.format.specs.Indicators.{Indicator, indicators, fieldsWhere, dataOf, restingOn}
 use Rattle.format.specs.Report.{observationOf, Verdict, judge}
 use Rattle.format.specs.Calls.{Call, edits, clearField, valueAt, stands, dataMissing, clearsOf, count, Given, counted, Answer, refused, accepted}
 use Rattle.format.specs.Buffer.{effect, calls}
@@ -54,12 +55,25 @@ Ascends w = (n : ℕ) → w .answer ≡ accepted (counted count n ∷ []) → as
 abbrev pub clearCalls : List ℕ → ℕ → List Call
 clearCalls b k = map (λ (i : ℕ). edits (clearField i)) (clearsOf (observationOf b) k)
 
+-- one of these fields is present
+abbrev pub SomePresent : Observation → List ℕ → Type 0
+SomePresent s ks = (k : ℕ) × (among k ks ≡ true) × (isPresent (valueAt s k) ≡ true)
+
+-- every field keeps its entry, but for k, and for an indicator that rests on k and of whose data none is present afterwards
+abbrev pub OthersKept : ℕ → Observation → Observation → Type 0
+OthersKept k before after =
+    (i : ℕ) → (i ≡ k → ⊥) → (among k (dataOf i) ≡ true → SomePresent after (dataOf i)) → valueAt after i ≡ valueAt before i
+
 -- its answer and the buffer after it
 pub record AsClears (marks : FlagTable) (b : List ℕ) (k : ℕ) (a : Answer) (b′ : List ℕ) : Type 0 where
   -- it answers as clear k does, refused or not
   pub answers : a ≡ effect marks b (edits (clearField k)) .answer
   -- it leaves what the clears leave, made one after the other
   pub leaves : b′ ≡ calls marks b (clearCalls b k) .state
+  -- accepted, k is missing
+  pub cleared : (gs : List Given) → a ≡ accepted gs → valueAt (observationOf b′) k ≡ none
+  -- refused or not, it clears no more than that: said without the list of its clears
+  pub others-kept : OthersKept k (observationOf b) (observationOf b′)
   -- accepted, no indicator that rests on k is left present with its data all missing, whether or not attachment 5 stands
   pub none-left : (gs : List Given) → a ≡ accepted gs → (i : ℕ) → among i (restingOn k) ≡ true → among i (lostIndicators (observationOf b′)) ≡ false
   -- and the finding call finds none, whatever output it is lent

@@ -2,6 +2,7 @@
 use Prim.Native.Nat.{ℕ}
 use mathlib.Core.Bool.{Bool, cond}
 use mathlib.Core.List.{List, [], _∷_, _++_}
+use lib.Dec.{eqb}
 use Rattle.format.specs.Nibbles.{among}
 
 -- an indicator: its field, and the fields that it rests on, which are its data
@@ -30,6 +31,14 @@ fieldsWhere test (i ∷ more) = cond (test i) (i .field ∷ []) [] ++ fieldsWher
 -- indicator i rests on field k
 abbrev pub restsOn : Indicator → ℕ → Bool
 restsOn i k = among k (i .basis)
+
+-- the data of field i: nothing where it is no indicator
+unfoldable pub basisIn : List Indicator → ℕ → List ℕ
+basisIn [] i = []
+basisIn (row ∷ more) i = cond (eqb i (row .field)) (row .basis) (basisIn more i)
+
+unfoldable pub dataOf : ℕ → List ℕ
+dataOf i = basisIn indicators i
 
 -- the fields of all indicators that rest on field k
 unfoldable pub restingOn : ℕ → List ℕ

@@ -8,10 +8,6 @@ use lib.Dec.{ltb, eqb}
 use lib.IntN.{ℤ, pos, negsuc}
 use Rattle.format.specs.Order.{between}
 use Rattle.format.specs.declared.Scaled.{Scaled}
-use Rattle.format.specs.declared.TextState.{TextState}
-use Rattle.format.specs.declared.TextState.the-variants.{Between, Run, Pair, Escape, Half, Invalid}
-use Rattle.format.specs.declared.TextStep.{TextStep}
-use Rattle.format.specs.declared.TextStep.the-variants.{On, Plain, Original}
 
 -- ---- characters
 
@@ -145,6 +141,21 @@ endsInSpace (x ∷ y ∷ ys) = endsInSpace (y ∷ ys)
 
 unfoldable pub spaces : ℕ → List Symbol
 spaces s = replicate s (plain 32)
+
+-- where a reader stands, with so many spaces that no symbol has followed yet
+pub data TextState : Type 0 where
+  Between : ℕ → TextState  -- between two codes
+  Run : ℕ → TextState  -- after an 11
+  Pair : ℕ → ℕ → TextState  -- after a 12, 13 or 14
+  Escape : ℕ → TextState  -- after a 15
+  Half : ℕ → ℕ → TextState  -- after a 15 and the high half of a byte
+  Invalid : TextState  -- the writer gives no such nibbles
+
+-- another state, or a symbol behind so many spaces
+pub data TextStep : Type 0 where
+  On : TextState → TextStep
+  Plain : ℕ → ℕ → TextStep
+  Original : ℕ → ℕ → TextStep
 
 -- what one nibble brings. In a run as the writer gives it, 10 follows a rest of 0 or 1 so far, and 11 full eighteens only
 unfoldable pub textStep : TextState → ℕ → TextStep

@@ -1,4 +1,4 @@
-// The types that the definitions share with the code, and a reader's states. No function.
+// The types that the definitions share with the code. No function.
 
 // A field's coded number as the card holds it. 0 is missing.
 pub struct Coded(pub u16);
@@ -9,30 +9,6 @@ pub struct Scaled(pub i64);
 // A library's own table of permitted flags: for flag j and value v the mark at [j - 1][v - 1], where 1 is yes and any other
 // number no.
 pub type FlagTable = [[u8; 10]; 14];
-
-// For the definitions alone (crate text has a table of states): where a reader of ship text stands, with so many spaces that no
-// symbol has followed yet, and what of a code it has read since.
-pub enum TextState {
-    // Between two codes.
-    Between(usize),
-    // After an 11.
-    Run(usize),
-    // After a 12, 13 or 14.
-    Pair(usize, u8),
-    // After a 15.
-    Escape(usize),
-    // After a 15 and the high half of a byte.
-    Half(usize, u8),
-    // The writer gives no such nibbles.
-    Invalid,
-}
-
-// What one nibble brings: another state, or a symbol behind so many spaces.
-pub enum TextStep {
-    On(TextState),
-    Plain(usize, u8),
-    Original(usize, u8),
-}
 
 // What a call on a buffer answers.
 pub enum Reply {

@@ -6,18 +6,18 @@ use native.Mathlib.Omega.{arith}
 use mathlib.Core.Path.{_≡_, refl, sym, ap, ap₂, subst, _∙_}
 use mathlib.Core.Bool.{Bool, true, false, cond, not, _&&_, _||_, and-false, or-true}
 use mathlib.Core.List.{List, [], _∷_, _++_, map}
-use mathlib.Core.Option.{Option, none}
+use mathlib.Core.Option.{Option, none, some}
 use lib.ListN.{length, getD, set}
 use lib.Seq.{getD-set-other}
-use lib.Dec.{ltb, leb, eqb}
-use borrow.Author.Tests.{ltb-true, lt-ltb, eqb-true, eqb-false, eq-eqb, ne-eqb, leb-true, not-true}
+use lib.Dec.{ltb, eqb}
+use borrow.Author.Tests.{ltb-true, lt-ltb, eqb-true, eqb-false, eq-eqb, ne-eqb, not-true}
 use Rattle.format.specs.Order.{first, between}
 use Rattle.format.specs.Field.{required, isPresent}
 use Rattle.format.specs.Nibbles.{among}
 use Rattle.format.specs.Observation.{Observation}
-use Rattle.format.specs.Indicators.{Indicator, indicators, fieldsWhere, restsOn, restingOn}
+use Rattle.format.specs.Indicators.{Indicator, indicators, fieldsWhere, basisIn, dataOf, restsOn, restingOn}
 use Rattle.format.specs.Calls.{stands, valueAt, withValue, dataMissing, lostOn, clearsOf, clearEach, clearChecks}
-use Rattle.format.specs.Finding.{lostIndicators, found, ascendingFrom}
+use Rattle.format.specs.Finding.{lostIndicators, found, ascendingFrom, OthersKept}
 use Rattle.format.specs.declared.Scaled.{Scaled}
 use Rattle.laws.proofs.Sequences.{and-true, or-false, true-false, cond-case, test-case}
 use Rattle.laws.proofs.Order.{between-in, first-none}
@@ -103,6 +103,47 @@ passing test (i ∷ more) = (
     here : test i ≡ true → (test i && eqb (i .field) (i .field)) || among (i .field) (fieldsWhere test more) ≡ true
     here e = rw (e, eq-eqb (i .field) (i .field) refl)
 
+-- the data of an indicator that passes a test of its data
+passing-data : (f : List ℕ → Bool) (x low : ℕ) (rows : List Indicator) → ascendingFrom low (map (λ (i : Indicator). i .field) rows) ≡ true
+    → among x (fieldsWhere (λ (i : Indicator). f (i .basis)) rows) ≡ true → f (basisIn rows x) ≡ true
+unfolding ascendingFrom fieldsWhere among basisIn
+passing-data f x low [] a h = absurd (true-false false h refl)
+passing-data f x low (i ∷ more) a h =
+    let s = and-true (ltb low (i .field)) (ascendingFrom (i .field) (map (λ (j : Indicator). j .field) more)) a in
+    go (eqb x (i .field)) refl (s .1) (λ k. passing-data f x (i .field) more (s .1) k) (sym (among-fields x (λ (j : Indicator). f (j .basis)) i more) ∙ h)
+  where
+    go : (t : Bool) → eqb x (i .field) ≡ t → ascendingFrom (i .field) (map (λ (j : Indicator). j .field) more) ≡ true
+        → (among x (fieldsWhere (λ (j : Indicator). f (j .basis)) more) ≡ true → f (basisIn more x) ≡ true)
+        → (f (i .basis) && t) || among x (fieldsWhere (λ (j : Indicator). f (j .basis)) more) ≡ true
+        → f (cond t (i .basis) (basisIn more x)) ≡ true
+    go true e b next k =
+        let same = eqb-true x (i .field) e in
+        let none-behind = fields-above x (i .field) (λ (j : Indicator). f (j .basis)) more b (omega arith) in
+        test-case {P = f (i .basis) ≡ true} (f (i .basis)) (λ q. q) (λ q. absurd (true-false _ k (rw (q, none-behind))))
+    go false e b next k = next (rw (and-false (f (i .basis))) at k)
+
+-- ---- a field that may be cleared
+
+pub record Free (k : ℕ) : Type 0 where
+  pub low : 1 ≤ k
+  pub high : k ≤ 46
+  pub optional : required k ≡ false
+
+free : (k : ℕ) → between 1 46 k && not (required k) ≡ true → Free k
+free k e =
+    let a = and-true (between 1 46 k) (not (required k)) e in
+    let b = between-in 1 46 k (between 1 46 k) refl (ap not (a .0)) in
+    record { low = b .0; high = b .1; optional = not-true (required k) (a .1) }
+
+-- it is not the first, so that another field has another place among the values
+free-apart : (k x : ℕ) → Free k → eqb x k ≡ false → x - 1 ≡ k - 1 → ⊥
+unfolding required
+free-apart k x f e same =
+    let ne = eqb-false x k e in
+    let not-first = eqb-false k 1 (or-false _ _ (f .optional) .0) in
+    let low = f .low in
+    omega (arith, ne, not-first)
+
 -- ---- the values after clears
 
 pub none-set : (vs : List (Option Scaled)) (p : ℕ) → getD (set vs p none) p none ≡ none
@@ -136,13 +177,12 @@ cleared-missing s (k ∷ ks) x h = go (eqb x k) refl h (λ a. cleared-missing (w
     go false e a next = next a
 
 -- what is not cleared is as it was
-cleared-other : (s : Observation) (ks : List ℕ) (x : ℕ) → 2 ≤ x → among x ks ≡ false → valueAt (clearEach s ks) x ≡ valueAt s x
+cleared-other : (s : Observation) (ks : List ℕ) (x : ℕ) → AllOf Free ks → among x ks ≡ false → valueAt (clearEach s ks) x ≡ valueAt s x
 unfolding clearEach among
-cleared-other s [] x l h = refl
-cleared-other s (k ∷ ks) x l h =
+cleared-other s [] x fs h = refl
+cleared-other s (k ∷ ks) x fs h =
     let o = or-false (eqb x k) (among x ks) h in
-    let ne = eqb-false x k (o .0) in
-    cleared-other (withValue s k none) ks x l (o .1) ∙ getD-set-other (s .values) (k - 1) (x - 1) none none (λ e. ne (omega arith))
+    cleared-other (withValue s k none) ks x (fs .1) (o .1) ∙ getD-set-other (s .values) (k - 1) (x - 1) none none (free-apart k x (fs .0) (o .0))
 
 pub cleared-attachments : (s : Observation) (ks : List ℕ) → clearEach s ks .attachments ≡ s .attachments
 unfolding clearEach
@@ -150,36 +190,37 @@ cleared-attachments s [] = refl
 cleared-attachments s (k ∷ ks) = cleared-attachments (withValue s k none) ks
 
 -- data of which none is cleared are missing as before
-data-kept : (s : Observation) (ks rs : List ℕ) → AllOf (λ (r : ℕ). (2 ≤ r) × (among r ks ≡ false)) rs → dataMissing (clearEach s ks) rs ≡ dataMissing s rs
+data-kept : (s : Observation) (ks rs : List ℕ) → AllOf Free ks → AllOf (λ (r : ℕ). among r ks ≡ false) rs → dataMissing (clearEach s ks) rs ≡ dataMissing s rs
 unfolding dataMissing
-data-kept s ks [] a = refl
-data-kept s ks (r ∷ rs) a =
-    ap₂ (λ (e : Option Scaled) (t : Bool). not (isPresent e) && t) (cleared-other s ks r (a .0 .0) (a .0 .1)) (data-kept s ks rs (a .1))
+data-kept s ks [] fs a = refl
+data-kept s ks (r ∷ rs) fs a =
+    ap₂ (λ (e : Option Scaled) (t : Bool). not (isPresent e) && t) (cleared-other s ks r fs (a .0)) (data-kept s ks rs fs (a .1))
+
+absent : (e : Option Scaled) → isPresent e ≡ false → e ≡ none
+absent none h = refl
+absent (some v) h = absurd (true-false true refl h)
+
+-- each of data that are all missing is missing
+data-missing : (s : Observation) (rs : List ℕ) (x : ℕ) → dataMissing s rs ≡ true → among x rs ≡ true → isPresent (valueAt s x) ≡ false
+unfolding dataMissing among
+data-missing s [] x m h = absurd (true-false false h refl)
+data-missing s (r ∷ rs) x m h =
+    let both = and-true (not (isPresent (valueAt s r))) (dataMissing s rs) m in
+    go (eqb x r) refl h (λ a. data-missing s rs x (both .1) a) (not-true (isPresent (valueAt s r)) (both .0))
+  where
+    go : (t : Bool) → eqb x r ≡ t → t || among x rs ≡ true → (among x rs ≡ true → isPresent (valueAt s x) ≡ false) → isPresent (valueAt s r) ≡ false
+        → isPresent (valueAt s x) ≡ false
+    go true e a next here = ap (λ (k : ℕ). isPresent (valueAt s k)) (eqb-true x r e) ∙ here
+    go false e a next here = next a
 
 -- ---- the table
-
--- a field that may be cleared
-pub record Free (k : ℕ) : Type 0 where
-  pub low : 1 ≤ k
-  pub high : k ≤ 46
-  pub optional : required k ≡ false
-
-free : (k : ℕ) → between 1 46 k && not (required k) ≡ true → Free k
-free k e =
-    let a = and-true (between 1 46 k) (not (required k)) e in
-    let b = between-in 1 46 k (between 1 46 k) refl (ap not (a .0)) in
-    record { low = b .0; high = b .1; optional = not-true (required k) (a .1) }
 
 fields : List ℕ
 fields = map (λ (i : Indicator). i .field) indicators
 
--- a field above 1 that is no indicator
-Apart : ℕ → Type 0
-Apart r = (2 ≤ r) × (among r fields ≡ false)
-
-apart : (r : ℕ) → leb 2 r && not (among r fields) ≡ true → Apart r
-unfolding Apart
-apart r e = let a = and-true (leb 2 r) (not (among r fields)) e in (leb-true 2 r (a .0), not-true (among r fields) (a .1))
+-- a field that is no indicator
+abbrev Apart : ℕ → Type 0
+Apart r = among r fields ≡ false
 
 -- every indicator may be cleared; so may its data, which are no indicators
 indicators-free : Every (λ (i : Indicator). Free (i .field)) indicators
@@ -195,10 +236,7 @@ data-free = (
 
 data-apart : Every (λ (i : Indicator). AllOf Apart (i .basis)) indicators
 unfolding indicators fields among
-data-apart = (
-  (apart 18 refl, tt),
-  ((apart 20 refl, tt), ((apart 22 refl, tt), ((apart 28 refl, (apart 29 refl, (apart 30 refl, (apart 31 refl, tt)))), ((apart 31 refl, tt), ((apart 37 refl, tt), tt))))),
-)
+data-apart = ((refl, tt), ((refl, tt), ((refl, tt), ((refl, (refl, (refl, (refl, tt)))), ((refl, tt), ((refl, tt), tt))))))
 
 indicators-ascend : ascendingFrom 0 fields ≡ true
 unfolding indicators fields ascendingFrom
@@ -250,10 +288,10 @@ outside x test (i ∷ more) h =
     let o = or-false (eqb x (i .field)) (among x (map (λ (j : Indicator). j .field) more)) h in
     rw (among-fields x test i more, o .0, and-false (test i), outside x test more (o .1))
 
-all-apart : (test : Indicator → Bool) (rs : List ℕ) → AllOf Apart rs → AllOf (λ (r : ℕ). (2 ≤ r) × (among r (fieldsWhere test indicators) ≡ false)) rs
-unfolding Apart fields
+all-apart : (test : Indicator → Bool) (rs : List ℕ) → AllOf Apart rs → AllOf (λ (r : ℕ). among r (fieldsWhere test indicators) ≡ false) rs
+unfolding fields
 all-apart test [] a = tt
-all-apart test (r ∷ rs) a = ((a .0 .0, outside r test indicators (a .0 .1)), all-apart test rs (a .1))
+all-apart test (r ∷ rs) a = (outside r test indicators (a .0), all-apart test rs (a .1))
 
 pub none-left : (s : Observation) (k x : ℕ) → among x (restingOn k) ≡ true → among x (lostIndicators (clearEach s (clearsOf s k))) ≡ false
 unfolding restingOn lostIndicators clearsOf lostOn clearEach fields
@@ -273,13 +311,31 @@ none-left s k x h = excluded x 0 (λ (i : Indicator). restsOn i k) (λ (i : Indi
     row i among-it a r =
         test-case {P = isPresent (valueAt u (i .field)) && dataMissing u (i .basis) ≡ false} (dataMissing t (i .basis))
         (λ e. ap (λ (v : Option Scaled). isPresent v && dataMissing u (i .basis)) (cleared-missing t (fieldsWhere test indicators) (i .field) (among-it (rw (r, e)))))
-        (λ e. ap (λ (b : Bool). isPresent (valueAt u (i .field)) && b) (data-kept t (fieldsWhere test indicators) (i .basis) (all-apart test (i .basis) a) ∙ e)
+        (λ e. ap (λ (b : Bool). isPresent (valueAt u (i .field)) && b) (data-kept t (fieldsWhere test indicators) (i .basis) (all-fields Free test indicators indicators-free) (all-apart test (i .basis) a) ∙ e)
         ∙ and-false (isPresent (valueAt u (i .field))))
 
     rows : Every (λ (i : Indicator). restsOn i k ≡ true → isPresent (valueAt u (i .field)) && dataMissing u (i .basis) ≡ false) indicators
     rows =
         each-two (λ (i : Indicator). test i ≡ true → among (i .field) (fieldsWhere test indicators) ≡ true)
         (λ (i : Indicator). AllOf Apart (i .basis)) _ indicators row (passing test indicators) data-apart
+
+-- ---- every other field keeps its entry
+
+pub others-kept : (s : Observation) (k : ℕ) → Free k → OthersKept k s (clearEach s (clearsOf s k))
+unfolding clearsOf lostOn clearEach fields dataOf among
+others-kept s k f i other stays =
+    cleared-other s (clearsOf s k) i (clears-free s k f)
+    (rw (ne-eqb i k other) (test-case {P = among i (lostOn t k) ≡ false} (among i (lostOn t k)) (λ e. absurd (lost e)) (λ e. e)))
+  where
+    t : Observation
+    t = withValue s k none
+
+    lost : among i (lostOn t k) ≡ true → ⊥
+    lost e =
+        let both = and-true (among k (dataOf i)) (dataMissing t (dataOf i)) (passing-data (λ (ks : List ℕ). among k ks && dataMissing t ks) i 0 indicators indicators-ascend e) in
+        let left = stays (both .0) in
+        let gone = stays-missing t (lostOn t k) (left .0) (absent _ (data-missing t (dataOf i) (left .0) (both .1) (left .1))) in
+        true-false _ (left .2) (ap isPresent gone)
 
 -- ---- what is found
 

@@ -11,10 +11,8 @@ use lib.ListN.{length, take, length-append, length-replicate}
 use lib.Seq.{take-append-seam}
 use lib.Dec.{ltb, leb, eqb}
 use borrow.Author.Tests.{ltb-true, eqb-true, eqb-false, lt-ltb, le-ltb, le-leb, eq-eqb, ne-eqb}
-use Rattle.format.specs.declared.TextState.{TextState}
-use Rattle.format.specs.declared.TextState.the-variants.{Between, Run, Pair, Escape, Half, Invalid}
-use Rattle.format.specs.declared.TextStep.{TextStep}
-use Rattle.format.specs.declared.TextStep.the-variants.{On, Plain, Original}
+use Rattle.format.specs.ShipText.{TextState, Between, Run, Pair, Escape, Half, Invalid}
+use Rattle.format.specs.ShipText.{TextStep, On, Plain, Original}
 use Rattle.format.specs.ShipText.{charCode, short, pairByte, codeNibbles, Symbol, plain, original, admitted, allAdmitted, isSpace, symbolNibbles, fulls, rest, nibbleCount, endsInSpace}
 use Rattle.format.specs.ShipText.{spaceRun, writeFrom, writeText, spaces, textStep, stateAfter, symbolsOf, readFrom, endFrom, atEnd, textValid, readText}
 use Rattle.format.specs.Calls.{allNibbles}

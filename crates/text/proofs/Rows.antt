@@ -9,10 +9,8 @@ use mathlib.Core.List.{List, [], _∷_}
 use lib.ListN.{length, getD}
 use lib.Dec.{ltb, eqb}
 use borrow.Author.Tests.{lt-ltb, le-ltb, eq-eqb, ne-eqb, eqb-true, eqb-false, ltb-true, ltb-false, not-true}
-use Rattle.format.specs.declared.TextState.{TextState}
-use Rattle.format.specs.declared.TextState.the-variants.{Between, Run, Pair, Escape, Half, Invalid}
-use Rattle.format.specs.declared.TextStep.{TextStep}
-use Rattle.format.specs.declared.TextStep.the-variants.{On}
+use Rattle.format.specs.ShipText.{TextState, Between, Run, Pair, Escape, Half, Invalid}
+use Rattle.format.specs.ShipText.{TextStep, On}
 use Rattle.format.specs.ShipText.{pairByte, textStep, stateAfter, endFrom, atEnd, textValid}
 use Rattle.laws.proofs.Sequences.{cond-case, test-case}
 use Rattle.laws.proofs.Characters.{allBelow, at-below, no-column, no-row}

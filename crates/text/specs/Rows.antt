@@ -5,8 +5,7 @@ use mathlib.Core.Bool.{cond}
 use mathlib.Core.List.{List, [], _∷_}
 use lib.ListN.{getD}
 use lib.Dec.{ltb, eqb}
-use Rattle.format.specs.declared.TextState.{TextState}
-use Rattle.format.specs.declared.TextState.the-variants.{Between, Run, Pair, Escape, Half, Invalid}
+use Rattle.format.specs.ShipText.{TextState, Between, Run, Pair, Escape, Half, Invalid}
 
 -- after a 12, 13 or 14
 abbrev pub pairPlaces : List ℕ

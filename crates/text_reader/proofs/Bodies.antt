@@ -9,8 +9,7 @@ use lib.Dec.{leb}
 use lib.ListN.{length, take, drop, replicate, length-append, length-take, length-drop, length-map, length-replicate}
 use lib.Seq.{take-add, take-take, drop-drop, sets}
 use borrow.Author.Tests.{le-leb}
-use Rattle.format.specs.declared.TextState.{TextState}
-use Rattle.format.specs.declared.TextState.the-variants.{Between}
+use Rattle.format.specs.ShipText.{TextState, Between}
 use Rattle.format.specs.ShipText.{Symbol, plain, spaces, readFrom, endFrom, atEnd, textValid, readText}
 use Rattle.format.specs.Calls.{over}
 use Rattle.laws.proofs.ShipText.{read-append, end-append, credit, read-length, read-text-length}

@@ -10,10 +10,8 @@ use lib.Seq.{getD-take, getD-drop}
 use lib.ListN.{length, getD, take, drop, replicate, length-append, length-take, length-drop, length-replicate, replicate-append-replicate}
 use lib.Dec.{ltb, eqb}
 use borrow.Author.Tests.{lt-ltb, le-ltb, le-leb, lt-leb, ne-eqb, eqb-true, eqb-false, ltb-true, ltb-false}
-use Rattle.format.specs.declared.TextState.{TextState}
-use Rattle.format.specs.declared.TextState.the-variants.{Between, Run, Pair, Escape, Half, Invalid}
-use Rattle.format.specs.declared.TextStep.{TextStep}
-use Rattle.format.specs.declared.TextStep.the-variants.{On}
+use Rattle.format.specs.ShipText.{TextState, Between, Run, Pair, Escape, Half, Invalid}
+use Rattle.format.specs.ShipText.{TextStep, On}
 use Rattle.format.specs.ShipText.{Symbol, plain, original, byteOf, originOf, symbolOf, spaces, pairByte, textStep, stateAfter, symbolsOf, readFrom, endFrom, atEnd}
 use Rattle.laws.proofs.Sequences.{true-false, cond-case, test-case}
 use Rattle.laws.proofs.ShipText.{invalid-refused, credit}

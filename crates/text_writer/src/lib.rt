@@ -187,6 +187,6 @@ pub fn write(t: &[u8], origins: &[u8], out: &mut [u8; 255]) -> Written
     requires { ⌜ length (now t) ≡ length (now origins) ⌝ }
     ensures { λ r. ⌜ Writes (now (t .entry)) (now (origins .entry)) (now (out .entry)) (now (out .exit)) r ⌝ }
 {
-    let codes = characters::table();
+    let codes = character_table::table();
     put_text(&codes, t, origins, out)
 }
