@@ -1,4 +1,4 @@
-.PHONY: help test list lib header-test example vectors reference-test differential differential-test bench
+.PHONY: help test list lib header-test example vectors reference-test differential differential-test division-test bench
 
 # The first target: plain `make` starts nothing that takes long.
 help:
@@ -7,6 +7,7 @@ help:
 	@echo 'make lib               the library for C and Rust: lib/liblmr5.a and lib/liblmr5.so'
 	@echo 'make example           two C programs over the library: one corrects a sample report, one shows a remark'
 	@echo 'make header-test       compares include/lmr5.h with the code'
+	@echo 'make division-test     looks for a division by 255 in the sources and in the machine code of the library'
 	@echo 'make differential      the independent implementation beside the library, on random cases'
 	@echo 'make differential-test what the differential test has to find'
 	@echo 'make reference-test    the tests of the independent implementation'
@@ -53,6 +54,11 @@ header-test:
 	cd header && cargo test --quiet && cargo run --quiet -- ..
 	gcc -std=c99 -Wall -Wextra -pedantic -Werror -fsyntax-only -x c include/lmr5.h
 	! command -v g++ >/dev/null || g++ -Wall -Wextra -pedantic -Werror -fsyntax-only -x c++ include/lmr5.h
+
+# Looks for a division by 255 (FORMAT 2.4) in the sources and in the machine code of the library.
+division-test: lib/liblmr5.a
+	$(call needs,division-test,gcc objdump)
+	@scripts/division lib/liblmr5.a
 
 # Builds the programs of examples/ over the library. One corrects a sample report, one shows a ship's remark with its originals.
 example: lib/liblmr5.a
