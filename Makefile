@@ -1,4 +1,4 @@
-.PHONY: help test list lib header-test example vectors reference-test differential differential-test division-test bench
+.PHONY: help test list lib header-test example vectors reference-test differential differential-test division-test proofs-test bench
 
 # The first target: plain `make` starts nothing that takes long.
 help:
@@ -8,6 +8,7 @@ help:
 	@echo 'make example           two C programs over the library: one corrects a sample report, one shows a remark'
 	@echo 'make header-test       compares include/lmr5.h with the code'
 	@echo 'make division-test     looks for a division by 255 in the sources and in the machine code of the library'
+	@echo 'make proofs-test       compares the table of definitions in docs/PROOFS.md with the sources'
 	@echo 'make differential      the independent implementation beside the library, on random cases'
 	@echo 'make differential-test what the differential test has to find'
 	@echo 'make reference-test    the tests of the independent implementation'
@@ -59,6 +60,10 @@ header-test:
 division-test: lib/liblmr5.a
 	$(call needs,division-test,gcc objdump)
 	@scripts/division lib/liblmr5.a
+
+# Compares the table of definitions in docs/PROOFS.md with the sources.
+proofs-test:
+	@scripts/proofs
 
 # Builds the programs of examples/ over the library. One corrects a sample report, one shows a ship's remark with its originals.
 example: lib/liblmr5.a
