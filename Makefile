@@ -1,4 +1,4 @@
-.PHONY: help test list lib header-test example vectors reference-test differential differential-test division-test proofs-test bench
+.PHONY: help test list lib header-test declarations example vectors reference-test differential differential-test division-test proofs-test bench
 
 # The first target: plain `make` starts nothing that takes long.
 help:
@@ -6,7 +6,8 @@ help:
 	@echo 'make test              the gate: proves every crate, tries every must-fail edit, runs every program'
 	@echo 'make lib               the library for C and Rust: lib/liblmr5.a and lib/liblmr5.so'
 	@echo 'make example           two C programs over the library: one corrects a sample report, one shows a remark'
-	@echo 'make header-test       compares include/lmr5.h with the code'
+	@echo 'make header-test       compares include/lmr5.h with the code, and its version with the record of its declarations'
+	@echo 'make declarations      writes that record anew, where the version has been raised'
 	@echo 'make division-test     looks for a division by 255 in the sources and in the machine code of the library'
 	@echo 'make proofs-test       compares the table of definitions in docs/PROOFS.md with the sources'
 	@echo 'make differential      the independent implementation beside the library, on random cases'
@@ -17,6 +18,9 @@ help:
 
 # $(call needs,NAME,TOOLS): says which tool is missing for `make NAME`.
 needs = @for tool in $(2); do command -v $$tool >/dev/null || { echo "make $(1): $$tool is not on the PATH" >&2; exit 2; }; done
+
+# Every program in C is compiled so.
+c99 = gcc -std=c99 -Wall -Wextra -pedantic -Werror
 
 # The same as the gate, with how far it is on standard error.
 test:
@@ -30,31 +34,42 @@ list:
 	@scripts/progress 'make list' lister rt check lister >/dev/null
 	@target/bin/lister
 
-# The library for C and Rust programs, for include/lmr5.h, made anew where a source is newer. Both files come last, when the
-# header and the numbers have been tried.
-lib: lib/liblmr5.a lib/liblmr5.so
+# The name under which a program loads the shared library: it has the major number of the version.
+soname := liblmr5.so.$(shell awk '$$2 == "LMR5_VERSION_MAJOR" { print $$3 }' include/lmr5.h)
+
+# The library for C and Rust programs, for include/lmr5.h, made anew where a source is newer. Its files come last, when the
+# header and the numbers have been tried. lib/liblmr5.so is a link, by which the linker finds the shared library.
+library = lib/liblmr5.a lib/$(soname) lib/liblmr5.so
+lib: $(library)
 	@echo 'make lib: lib/liblmr5.a and lib/liblmr5.so are up to date' >&2
 
-sources = crates.txt include/lmr5.h docs/FORMAT.md $(shell find crates header/src header/refusals.c -name '*.rt' -o -name '*.antt' -o -name '*.rs' -o -name '*.c')
+sources = crates.txt include/lmr5.h header/declarations CHANGELOG.md docs/FORMAT.md $(shell find crates header/src header/refusals.c -name '*.rt' -o -name '*.antt' -o -name '*.rs' -o -name '*.c')
 
-lib/liblmr5.a lib/liblmr5.so &: $(sources)
+$(library) &: $(sources)
 	$(call needs,lib,rt gcc cargo)
 	@scripts/progress 'make lib' lmr5 sh -c 'rt check $(shell sed -n 's/^lmr5://p' crates.txt) && rt staticlib lmr5' >/dev/null
 	@echo 'make lib: linking, and comparing the header with the code' >&2
 	@mkdir -p lib
 	@cp target/staticlib/liblmr5.a lib/made.a
-	gcc -shared -Wl,-soname,liblmr5.so -o lib/made.so -Wl,--whole-archive lib/made.a -Wl,--no-whole-archive
+	gcc -shared -Wl,-soname,$(soname) -o lib/made.so -Wl,--whole-archive lib/made.a -Wl,--no-whole-archive
 	@$(MAKE) --no-print-directory header-test
-	gcc -std=c99 -Wall -Wextra -pedantic -Werror -Iinclude -o lib/refusals header/refusals.c lib/made.a
+	$(c99) -Iinclude -o lib/refusals header/refusals.c lib/made.a
 	lib/refusals
-	@mv lib/made.a lib/liblmr5.a && mv lib/made.so lib/liblmr5.so
+	@mv lib/made.a lib/liblmr5.a && mv lib/made.so lib/$(soname) && ln -sf $(soname) lib/liblmr5.so
 
-# Compares the header with what crates/lmr5 exports and with the definitions, and compiles it as C99 and, with g++, as C++.
+# Compares the header with what crates/lmr5 exports, with the definitions and with the record of its declarations, and compiles
+# it as C99 and, with g++, as C++.
 header-test:
 	$(call needs,header-test,gcc cargo)
 	cd header && cargo test --quiet && cargo run --quiet -- ..
-	gcc -std=c99 -Wall -Wextra -pedantic -Werror -fsyntax-only -x c include/lmr5.h
+	$(c99) -fsyntax-only -x c include/lmr5.h
 	! command -v g++ >/dev/null || g++ -Wall -Wextra -pedantic -Werror -fsyntax-only -x c++ include/lmr5.h
+
+# Writes the record of the header's declarations anew, where the version has been raised as the changes ask. Once for each
+# change that lands: to raise the version again before that, take the record back from git first.
+declarations:
+	$(call needs,declarations,cargo)
+	cd header && cargo run --quiet -- .. record
 
 # Looks for a division by 255 (FORMAT 2.4) in the sources and in the machine code of the library.
 division-test: lib/liblmr5.a
@@ -68,8 +83,8 @@ proofs-test:
 # Builds the programs of examples/ over the library. One corrects a sample report, one shows a ship's remark with its originals.
 example: lib/liblmr5.a
 	$(call needs,example,gcc)
-	gcc -std=c99 -Wall -Wextra -pedantic -Werror -O2 -Iinclude -o lib/correct examples/correct.c lib/liblmr5.a
-	gcc -std=c99 -Wall -Wextra -pedantic -Werror -O2 -Iinclude -o lib/remark examples/remark.c lib/liblmr5.a
+	$(c99) -O2 -Iinclude -o lib/correct examples/correct.c lib/liblmr5.a
+	$(c99) -O2 -Iinclude -o lib/remark examples/remark.c lib/liblmr5.a
 	lib/correct examples/report lib/corrected 286 A
 	lib/remark < examples/atlas
 

@@ -1,11 +1,12 @@
 /*
  * Tries the header's numbers of refusals, flags and flag values on the library: for each refusal a call that has to be
- * refused so, and the ends of the flags and of their values. Tries the former values that set and clear give, beside what a
- * read gives just before; indicators that have lost their data, in each set of them, and each field cleared with its
- * indicators, beside the clears that it stands for; the table of permitted flags in every call that takes it; ship texts there
- * and back, how many nibbles they take, each refusal of their calls, the deck's set for each source ID, and the reader; the
- * costliest text of each number of symbols; and some entries of the table of the characters. Tries that nothing beside a table,
- * a reader, a costliest text or what is found is written. Says each difference, and fails if there is one.
+ * refused so, with its words, and the ends of the flags and of their values. Tries what lmr5_is_missing says of answers; the
+ * former values that set and clear give, beside what a read gives just before; indicators that have lost their data, in each
+ * set of them, and each field cleared with its indicators, beside the clears that it stands for; the table of permitted flags
+ * in every call that takes it; ship texts there and back, how many nibbles they take, each refusal of their calls, the deck's
+ * set for each source ID, and the reader; the costliest text of each number of symbols; and some entries of the table of the
+ * characters. Tries that nothing beside a table, a reader, a costliest text or what is found is written. Says each difference,
+ * and fails if there is one.
  */
 #include "lmr5.h"
 
@@ -20,18 +21,53 @@ static const uint8_t zeros[16] = {0};
 static lmr5_flag_table all;
 static int differences;
 
-static void see(const char *what, lmr5_answer answer, uint32_t refusal, uint64_t place) {
-    if (answer.refusal == refusal && answer.place == place)
-        return;
-    printf("include/lmr5.h: %s: refusal %u, place %llu\n", what, (unsigned)answer.refusal, (unsigned long long)answer.place);
-    differences++;
-}
-
 static void see_that(const char *what, int holds) {
     if (holds)
         return;
     printf("include/lmr5.h: %s: not so\n", what);
     differences++;
+}
+
+/* The words of each refusal; none where the number has none. Which of the numbers calls have answered. */
+enum { NUMBERS = LMR5_REFUSED_TABLE + 1 };
+static const char *const words[NUMBERS] = {
+    [0] = "accepted",
+    [LMR5_REFUSED_SHORT] = "the report or an attachment is cut short",
+    [LMR5_REFUSED_CODE] = "a code is above the field's highest",
+    [LMR5_REFUSED_MISSING] = "a required field is missing",
+    [LMR5_REFUSED_CHECKSUM] = "the checksum differs",
+    [LMR5_REFUSED_ATTACHMENT] = "an attachment is empty, has id 0 or repeats an id",
+    [LMR5_REFUSED_BODY] = "an attachment's flags or ship text are invalid or not permitted",
+    [LMR5_REFUSED_PADDING] = "the padding nibble is not 0",
+    [LMR5_REFUSED_NUMBER] = "there is no such field, flag or id",
+    [LMR5_REFUSED_VALUE] = "the value is out of range or not permitted",
+    [LMR5_REFUSED_REQUIRED] = "the field is required",
+    [LMR5_REFUSED_NO_SUCH] = "there is no such attachment",
+    [LMR5_REFUSED_LENGTH] = "the content has no nibble or over 255",
+    [LMR5_REFUSED_ROOM] = "a buffer is too short, or a text and its marks differ in length",
+    [LMR5_REFUSED_CONTENT] = "the content is invalid or not permitted",
+    [LMR5_REFUSED_TABLE] = "the table of flags is invalid"};
+static int is_met[NUMBERS];
+
+static void see_name(const char *what, uint32_t refusal, const char *due) {
+    const char *const name = lmr5_refusal_name(refusal);
+    if (strcmp(name, due) == 0)
+        return;
+    printf("include/lmr5.h: %s: refusal %u is \"%s\"\n", what, (unsigned)refusal, name);
+    differences++;
+}
+
+/* The refusal and its place, and its words. What is refused is not missing. */
+static void see(const char *what, lmr5_answer answer, uint32_t refusal, uint64_t place) {
+    if (answer.refusal != refusal || answer.place != place) {
+        printf("include/lmr5.h: %s: refusal %u, place %llu\n", what, (unsigned)answer.refusal,
+               (unsigned long long)answer.place);
+        differences++;
+        return;
+    }
+    see_name(what, answer.refusal, words[refusal]);
+    see_that(what, refusal == 0 || !lmr5_is_missing(answer));
+    is_met[refusal] = 1;
 }
 
 /* The labels and numbers that are given. Where there are none, all are 0. */
@@ -686,6 +722,53 @@ static void former_values(void) {
     }
 }
 
+/* What is missing is given as 0, which a value may be too. */
+static void see_missing(const char *what, lmr5_answer answer, int64_t first) {
+    see_that(what, lmr5_is_missing(answer) && answer.first == first);
+}
+
+static void see_not_missing(const char *what, lmr5_answer answer, int64_t first) {
+    see_that(what, !lmr5_is_missing(answer) && answer.first == first);
+}
+
+static void missing(void) {
+    const size_t flag = LMR5_FLAG_SEA_SURFACE_TEMPERATURE;
+    uint8_t out[ROOM] = {0}, origins[ROOM] = {0};
+    lmr5_answer answer;
+    start();
+    see_missing("S, which is missing", read_field(LMR5_S), 0);
+    see_missing("S set over missing", lmr5_set_field(report, ROOM, LMR5_S, 0, &all), 0);
+    see_not_missing("S at 0", read_field(LMR5_S), 0);
+    see_not_missing("S set over 0", lmr5_set_field(report, ROOM, LMR5_S, -5, &all), 0);
+    see_not_missing("S at -5", read_field(LMR5_S), -5);
+    see_not_missing("S refused", lmr5_set_field(report, ROOM, LMR5_S, 1000, &all), 0);
+    see_not_missing("S cleared", lmr5_clear_field(report, ROOM, LMR5_S, &all), -5);
+    see_missing("S cleared again", lmr5_clear_field(report, ROOM, LMR5_S, &all), 0);
+    see_missing("S cleared with its indicators", lmr5_clear_with_indicators(report, ROOM, LMR5_S, &all), 0);
+    see_not_missing("no indicators", lmr5_find_indicators(report, ROOM, NULL, 0, &all), 0);
+    see_not_missing("no such field", read_field(LMR5_A6 + 1), 0);
+    see_not_missing("no flags", read_flag(flag), 0);
+    see_not_missing("a put, which gives nothing", lmr5_put(report, ROOM, 1, zeros, 16, &all), 0);
+    see_missing("a flag, which is missing", read_flag(flag), 0);
+    see_missing("a flag set over missing", lmr5_set_flag(report, ROOM, flag, LMR5_VALUE_S, &all), 0);
+    see_not_missing("a flag at S", read_flag(flag), LMR5_VALUE_S);
+    see_not_missing("a size", lmr5_judge(report, ROOM, &all), 38 + 9);
+    start_text();
+    answer = lmr5_fetch_text(report, ROOM, out, ROOM, origins, ROOM, &all);
+    see_not_missing("three numbers", answer, SYMBOLS);
+    answer.given += 256 * LMR5_GIVEN_MISSING + 65536 * LMR5_GIVEN_MISSING;
+    see_not_missing("three numbers, the first alone not missing", answer, SYMBOLS);
+}
+
+/* Every refusal has been answered by a call, and its words have been seen; numbers that are none have words too. */
+static void names(void) {
+    const uint32_t no_refusal[8] = {15, 17, 18, 19, 20, 256, 256 + LMR5_REFUSED_SHORT, UINT32_MAX};
+    for (uint32_t number = 0; number < NUMBERS; number++)
+        see_that("a refusal that calls answer", is_met[number] == (words[number] != NULL));
+    for (size_t i = 0; i < 8; i++)
+        see_name("no refusal", no_refusal[i], "unknown refusal");
+}
+
 static void former_flags(void) {
     const size_t last = LMR5_FLAG_PRESSURE_TENDENCY;
     start();
@@ -995,6 +1078,7 @@ int main(void) {
     by_the_report();
     by_an_argument();
     flags();
+    missing();
     former_values();
     former_flags();
     found_indicators();
@@ -1013,8 +1097,10 @@ int main(void) {
     forged_readers();
     replayed_texts();
     characters();
+    names();
     if (differences == 0)
-        puts("include/lmr5.h: the numbers of refusals and flags as in the library, its former values, its indicators, its "
-             "tables of flags, its texts and their reader, the costliest texts, and entries of the table of the characters");
+        puts("include/lmr5.h: the numbers of refusals and flags as in the library, their words, what is missing, its former "
+             "values, its indicators, its tables of flags, its texts and their reader, the costliest texts, and entries of the "
+             "table of the characters");
     return differences != 0;
 }

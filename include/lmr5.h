@@ -1,9 +1,9 @@
 /*
  * Packed LMR.5 marine reports: judged, read and corrected in place.
  *
- * Link lib/liblmr5.a or lib/liblmr5.so, which `make lib` gives. Each function is proved, on every input, to meet its promise
- * in crates/lmr5/src/lib.rt. This header says the same in words, and docs/FORMAT.md in full; its signatures and numbers are
- * tested against the code. A later version may add to it, and may give a call a further argument.
+ * Link lib/liblmr5.a or lib/liblmr5.so, which `make lib` gives. Each function of the library is proved, on every input, to meet
+ * its promise in crates/lmr5/src/lib.rt. This header says the same in words, and docs/FORMAT.md in full; its signatures and
+ * numbers are tested against the code. The two functions that are defined here are tested. CHANGELOG.md has the versions.
  *
  * WHAT A CALL GETS
  * A buffer is a pointer and its length, in elements. The library keeps no pointer, allocates nothing, owns nothing and has
@@ -49,6 +49,17 @@
 #include <stddef.h>
 #include <stdint.h>
 
+/*
+ * The version of this header and of its library. The minor number is raised where something is added, such as a call, a struct
+ * or a number of an enum. The major one is raised, and the minor one is 0 again, where a declaration changes or goes, or a call
+ * gives or means something else. A program needs a library of the major number that it was built with, and of the same minor
+ * number or a later one. It loads the shared library under a name that ends in the major number, and so none of another one.
+ * LMR5_VERSION is the version as one number, for `#if`: 5.2 is 5002.
+ */
+#define LMR5_VERSION_MAJOR 5
+#define LMR5_VERSION_MINOR 2
+#define LMR5_VERSION (LMR5_VERSION_MAJOR * 1000 + LMR5_VERSION_MINOR)
+
 #ifdef __cplusplus
 extern "C" {
 #endif
@@ -58,7 +69,7 @@ typedef struct lmr5_answer {
     uint32_t refusal; /* 0: accepted; else enum lmr5_refusal */
     uint32_t given;   /* the labels of the numbers below; 0: there is none */
     uint64_t place;   /* of the refusal: a field, a flag or an attachment's position from 1; else 0 */
-    int64_t first;    /* the numbers; 0 where one is missing or not given */
+    int64_t first;    /* the numbers; 0 where one is missing (lmr5_is_missing) or not given */
     int64_t second;
     int64_t third;
 } lmr5_answer;
@@ -66,7 +77,8 @@ typedef struct lmr5_answer {
 /*
  * A label is a byte that says what a number is. The lowest byte of `given` is the label of `first`, the next that of `second`,
  * the one after that of `third`; the highest is 0. A call that gives one number has its label alone in `given`. Where the
- * number is missing, its label has LMR5_GIVEN_MISSING added: a missing field is LMR5_GIVEN_VALUE + LMR5_GIVEN_MISSING.
+ * number is missing, its label has LMR5_GIVEN_MISSING added: a missing field is LMR5_GIVEN_VALUE + LMR5_GIVEN_MISSING. Ask
+ * lmr5_is_missing before `first` is read.
  * No answer has labels 4 to 7 yet: lmr5_unpack stores those numbers in `contents`.
  */
 enum lmr5_given {
@@ -83,6 +95,15 @@ enum lmr5_given {
     LMR5_GIVEN_DECK = 10,       /* the character set of the input deck: enum lmr5_set */
     LMR5_GIVEN_MISSING = 128    /* added to a label: the number is missing, which is not 0 */
 };
+
+/*
+ * Whether the call was accepted and its first number is missing: not 0 if so, else 0. `first` is 0 for a missing number, and
+ * for a value of 0. A refused call gives no number, so none of it is missing.
+ */
+static inline int lmr5_is_missing(lmr5_answer answer)
+{
+    return (answer.given & LMR5_GIVEN_MISSING) != 0;
+}
 
 enum lmr5_refusal {
     /* by the report's bytes, or pack's tail */
@@ -107,6 +128,47 @@ enum lmr5_refusal {
     /* by a table of flags; there is no 15 yet */
     LMR5_REFUSED_TABLE = 16       /* not 140 bytes, a byte other than 0 or 1, or a row without a 1 */
 };
+
+/* A refusal in words, for any number: 0 is "accepted", and a number that this header does not have "unknown refusal". */
+static inline const char *lmr5_refusal_name(uint32_t refusal)
+{
+    switch (refusal) {
+    case 0:
+        return "accepted";
+    case LMR5_REFUSED_SHORT:
+        return "the report or an attachment is cut short";
+    case LMR5_REFUSED_CODE:
+        return "a code is above the field's highest";
+    case LMR5_REFUSED_MISSING:
+        return "a required field is missing";
+    case LMR5_REFUSED_CHECKSUM:
+        return "the checksum differs";
+    case LMR5_REFUSED_ATTACHMENT:
+        return "an attachment is empty, has id 0 or repeats an id";
+    case LMR5_REFUSED_BODY:
+        return "an attachment's flags or ship text are invalid or not permitted";
+    case LMR5_REFUSED_PADDING:
+        return "the padding nibble is not 0";
+    case LMR5_REFUSED_NUMBER:
+        return "there is no such field, flag or id";
+    case LMR5_REFUSED_VALUE:
+        return "the value is out of range or not permitted";
+    case LMR5_REFUSED_REQUIRED:
+        return "the field is required";
+    case LMR5_REFUSED_NO_SUCH:
+        return "there is no such attachment";
+    case LMR5_REFUSED_LENGTH:
+        return "the content has no nibble or over 255";
+    case LMR5_REFUSED_ROOM:
+        return "a buffer is too short, or a text and its marks differ in length";
+    case LMR5_REFUSED_CONTENT:
+        return "the content is invalid or not permitted";
+    case LMR5_REFUSED_TABLE:
+        return "the table of flags is invalid";
+    default:
+        return "unknown refusal";
+    }
+}
 
 /* The longest report, in bytes. */
 enum lmr5_longest { LMR5_LONGEST_REPORT = 1853 };

@@ -1,15 +1,24 @@
 //! Compares include/lmr5.h with the functions and structs that crates/lmr5 exports, its table of flags with the type of
 //! crates/format, its reader with what is stored to one, and its numbers with the definitions: fields, contents, kinds of a
 //! script's entries, the log's first bytes, labels, marks of origin, sets of a deck, kinds of symbols, the longest report, how
-//! many indicators there are. Compares the tables of fields and of indicators in docs/FORMAT.md with the definitions. Says each
-//! difference, and fails if there is one. Its argument is the repository's folder. refusals.c tries the numbers of refusals and
-//! flags, indicators, the table of flags, ship texts, their nibbles and their reader, the costliest texts, and the table of the
-//! characters.
+//! many indicators there are. Sees that each refusal has its own words, and that the version was raised where a declaration
+//! differs from the record in header/declarations. Compares the tables of fields and of indicators in docs/FORMAT.md with the
+//! definitions. Says each difference, and fails if there is one.
+//!
+//! Its argument is the repository's folder. With a second one, `record`, it compares nothing else than the version, and writes
+//! the record anew.
+//!
+//! refusals.c tries the numbers and the words of refusals, the numbers of flags, what is missing, indicators, the table of
+//! flags, ship texts, their nibbles and their reader, the costliest texts, and the table of the characters.
 mod code;
 mod header;
 mod page;
+mod record;
+mod words;
 
 use code::Sources;
+use header::Header;
+use record::Record;
 use std::collections::BTreeMap;
 use std::process::ExitCode;
 
@@ -61,13 +70,15 @@ fn compare(
 /// The header's enums whose names the source has not.
 const TRIED: [&str; 3] = ["lmr5_refusal", "lmr5_flag", "lmr5_flag_value"];
 
-/// All differences.
-fn differences(code: &Declared, header: &Declared) -> Vec<String> {
-    let mut said = compare("function", &code.functions, &header.functions);
-    said.extend(compare("struct", &code.structs, &header.structs));
-    let mut enums = header.enums.clone();
+/// All differences, and what is wrong with the words of refusals.
+fn differences(code: &Declared, header: &Header) -> Vec<String> {
+    let declared = &header.declared;
+    let mut said = compare("function", &code.functions, &declared.functions);
+    said.extend(compare("struct", &code.structs, &declared.structs));
+    let mut enums = declared.enums.clone();
     enums.retain(|name, _| !TRIED.contains(&name.as_str()));
     said.extend(compare("enum", &code.enums, &enums));
+    said.extend(words::faults(header));
     said
 }
 
@@ -75,27 +86,64 @@ fn read(root: &str, name: &str) -> String {
     std::fs::read_to_string(format!("{root}/{name}")).unwrap_or_else(|e| panic!("{name}: {e}"))
 }
 
-fn main() -> ExitCode {
-    let root = std::env::args().nth(1).expect("the repository's folder");
-    let table = read(&root, "crates/format/specs/Field.antt");
-    let indicators = read(&root, "crates/format/specs/Indicators.antt");
-    let code = code::declared(&Sources {
-        exports: &read(&root, "crates/lmr5/src/lib.rt"),
-        types: &read(&root, "crates/format/src/lib.rt"),
-        table: &table,
-        indicators: &indicators,
-        script: &read(&root, "crates/script/specs/Script.antt"),
-        labels: &read(&root, "crates/script/specs/Labels.antt"),
-        text: &read(&root, "crates/format/specs/ShipText.antt"),
-        readers: &read(&root, "crates/lmr5/specs/Readers.antt"),
-        sizes: &read(&root, "crates/report/specs/Answers.antt"),
-    });
-    let header = header::declared(&read(&root, "include/lmr5.h"));
-    let said = differences(&code, &header);
+const RECORD: &str = "header/declarations";
+const CHANGELOG: &str = "CHANGELOG.md";
+
+/// What is wrong with the header's version, beside the record of the declarations and the changelog.
+fn version_faults(recorded: &Record, now: &Record, changelog: &str) -> Vec<String> {
+    let mut said = record::faults(recorded, now);
+    if said.is_empty() && recorded != now {
+        said.push(format!(
+            "version {} is not in {RECORD} yet: make declarations",
+            now.version
+        ));
+    }
+    if record::newest(changelog) != Some(now.version) {
+        said.push(format!(
+            "version {} is not the first in {CHANGELOG}",
+            now.version
+        ));
+    }
+    said
+}
+
+/// Writes the record anew, where the version has been raised as the changes ask.
+fn write_record(root: &str, now: &Record) -> ExitCode {
+    let said = record::faults(&Record::parse(&read(root, RECORD)), now);
     for line in &said {
         println!("include/lmr5.h: {line}");
     }
-    let page = read(&root, "docs/FORMAT.md");
+    if !said.is_empty() {
+        return ExitCode::FAILURE;
+    }
+    std::fs::write(format!("{root}/{RECORD}"), now.to_string()).expect(RECORD);
+    println!("{RECORD}: the declarations of version {}", now.version);
+    ExitCode::SUCCESS
+}
+
+/// Says what differs, or what was compared.
+fn compare_all(root: &str, header: &Header) -> ExitCode {
+    let table = read(root, "crates/format/specs/Field.antt");
+    let indicators = read(root, "crates/format/specs/Indicators.antt");
+    let code = code::declared(&Sources {
+        exports: &read(root, "crates/lmr5/src/lib.rt"),
+        types: &read(root, "crates/format/src/lib.rt"),
+        table: &table,
+        indicators: &indicators,
+        script: &read(root, "crates/script/specs/Script.antt"),
+        labels: &read(root, "crates/script/specs/Labels.antt"),
+        text: &read(root, "crates/format/specs/ShipText.antt"),
+        readers: &read(root, "crates/lmr5/specs/Readers.antt"),
+        sizes: &read(root, "crates/report/specs/Answers.antt"),
+    });
+    let now = Record::of(header);
+    let recorded = Record::parse(&read(root, RECORD));
+    let mut said = differences(&code, header);
+    said.extend(version_faults(&recorded, &now, &read(root, CHANGELOG)));
+    for line in &said {
+        println!("include/lmr5.h: {line}");
+    }
+    let page = read(root, "docs/FORMAT.md");
     let fields = page::defined(&table);
     let resting = page::defined_indicators(&indicators, &table);
     let mut is_same = said.is_empty();
@@ -117,12 +165,29 @@ fn main() -> ExitCode {
         resting.len()
     );
     println!(
-        "include/lmr5.h: {} functions, {} structs and {} numbers as in the code",
+        "include/lmr5.h: version {}, {} functions, {} structs and {} numbers as in the code, words for {} refusals",
+        now.version,
         code.functions.len(),
         code.structs.len(),
-        code.enums.values().map(Vec::len).sum::<usize>()
+        code.enums.values().map(Vec::len).sum::<usize>(),
+        header.declared.enums["lmr5_refusal"].len()
     );
     ExitCode::SUCCESS
+}
+
+fn main() -> ExitCode {
+    let arguments: Vec<String> = std::env::args().skip(1).collect();
+    let arguments: Vec<&str> = arguments.iter().map(String::as_str).collect();
+    let (root, is_writing) = match arguments[..] {
+        [root] => (root, false),
+        [root, "record"] => (root, true),
+        _ => panic!("usage: header FOLDER [record]"),
+    };
+    let header = Header::of(&read(root, "include/lmr5.h"));
+    if is_writing {
+        return write_record(root, &Record::of(&header));
+    }
+    compare_all(root, &header)
 }
 
 #[cfg(test)]
@@ -155,10 +220,13 @@ mod tests {
     const READERS: &str = "symbolOfStep End = record { kind = 0; byte = 0 }\n\
         symbolOfStep (Given b o at waiting) = record { kind = o + 1; byte = b }\n";
     const SIZES: &str = "  within : (38 ≤ n) × (n ≤ 1853)\n";
-    const HEADER: &str = "#include <stdint.h>\nextern \"C\" {\ntypedef struct lmr5_answer {\n    uint32_t refusal; /* a; b */\n} lmr5_answer;\n\
+    const HEADER: &str = "#include <stdint.h>\n#ifdef __cplusplus\nextern \"C\" {\n#endif\ntypedef struct lmr5_answer {\n    uint32_t refusal; /* a; b */\n} lmr5_answer;\n\
         enum lmr5_field { LMR5_BOX10 = 1 };\nenum lmr5_contents { LMR5_CONTENTS_WORD = 0, LMR5_CONTENTS_PRESENT = 1 };\n\
         enum lmr5_script { LMR5_SCRIPT_READ_FIELD = 1, LMR5_SCRIPT_SET_FIELD = 2, LMR5_SCRIPT_DROP = 9, LMR5_SCRIPT_FETCH_TEXT = 11 };\n\
         enum lmr5_refusal { LMR5_REFUSED_SHORT = 1 };\n\
+        static inline const char *lmr5_refusal_name(uint32_t refusal)\n{\n    switch (refusal) {\n\
+        \x20   case 0:\n        return \"accepted\";\n    case LMR5_REFUSED_SHORT:\n        return \"cut short\";\n\
+        \x20   default:\n        return \"unknown\";\n    }\n}\n\
         enum lmr5_log { LMR5_LOG_REFUSED = 0, LMR5_LOG_ACCEPTED = 1 };\n\
         enum lmr5_given { LMR5_GIVEN_NOTHING = 0, LMR5_GIVEN_VALUE = 1, LMR5_GIVEN_COUNT = 3, LMR5_GIVEN_MISSING = 128 };\n\
         enum lmr5_longest { LMR5_LONGEST_REPORT = 1853 };\nenum lmr5_indicators { LMR5_INDICATORS = 2 };\n\
@@ -172,7 +240,7 @@ mod tests {
         lmr5_answer lmr5_f(const uint8_t *report, size_t report_length, size_t n, uint64_t to[6]);\n\
         typedef struct lmr5_flag_table {\n    uint8_t marks[14][10];\n} lmr5_flag_table;\n\
         void lmr5_t(uint16_t table[256]);\nvoid lmr5_m(lmr5_flag_table *table);\n\
-        lmr5_answer lmr5_j(uint8_t *log, size_t log_length,\n                   const lmr5_flag_table *table);\n}\n";
+        lmr5_answer lmr5_j(uint8_t *log, size_t log_length,\n                   const lmr5_flag_table *table);\n#ifdef __cplusplus\n}\n#endif\n";
 
     fn sources() -> Sources<'static> {
         Sources {
@@ -189,7 +257,7 @@ mod tests {
     }
 
     fn said_of(sources: &Sources, header: &str) -> Vec<String> {
-        differences(&code::declared(sources), &header::declared(header))
+        differences(&code::declared(sources), &Header::of(header))
     }
 
     fn said(header: &str) -> usize {
@@ -224,7 +292,7 @@ mod tests {
             ("marks[14][10]", "marks[140]"),
             ("marks[14][10]", "marks[14][11]"),
             ("uint8_t marks", "uint16_t marks"),
-            ("uint32_t refusal", "uint64_t refusal"),
+            ("uint32_t refusal;", "uint64_t refusal;"),
             ("LMR5_BOX10 = 1", "LMR5_BOX10 = 2"),
             ("LMR5_BOX10 = 1", "LMR5_BOX = 1"),
             ("CONTENTS_WORD = 0", "CONTENTS_WORD = 1"),
@@ -264,6 +332,10 @@ mod tests {
             ("= 1853", "= 1852"),
             ("LMR5_INDICATORS = 2", "LMR5_INDICATORS = 3"),
             ("enum lmr5_indicators { LMR5_INDICATORS = 2 };\n", ""),
+            (
+                "REFUSED_SHORT = 1",
+                "REFUSED_SHORT = 1, LMR5_REFUSED_CODE = 2",
+            ),
         ];
         for (old, new) in changes {
             assert_eq!(HEADER.matches(old).count(), 1, "{old}");
@@ -389,6 +461,27 @@ mod tests {
             ..sources()
         };
         code::declared(&sources);
+    }
+
+    #[test]
+    fn a_version_is_recorded_and_in_the_changelog() {
+        let version = |minor| {
+            let text =
+                format!("#define LMR5_VERSION_MAJOR 5\n#define LMR5_VERSION_MINOR {minor}\n");
+            Record::of(&Header::of(&text))
+        };
+        let faults = |now, changelog| version_faults(&version(2), &version(now), changelog);
+        assert_eq!(faults(2, "## 5.2"), [""; 0]);
+        assert_eq!(
+            faults(3, "## 5.3"),
+            ["version 5.3 is not in header/declarations yet: make declarations"]
+        );
+        assert_eq!(
+            faults(2, "## 5.1"),
+            ["version 5.2 is not the first in CHANGELOG.md"]
+        );
+        assert_eq!(faults(3, "## 5.2").len(), 2);
+        assert_eq!(faults(4, "## 5.4").len(), 1);
     }
 
     #[test]
