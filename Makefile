@@ -5,7 +5,7 @@ help:
 	@echo 'make list < report     lists a report: its fields, checksum and attachment count, or its refusal'
 	@echo 'make test              the gate: proves every crate, tries every must-fail edit, runs every program'
 	@echo 'make lib               the library for C and Rust: lib/liblmr5.a and lib/liblmr5.so'
-	@echo 'make example           two C programs over the library: one corrects a sample report, one shows a remark'
+	@echo 'make example           the C of examples/ and of README.md over the library, with what it should print'
 	@echo 'make header-test       compares include/lmr5.h with the code, and its version with the record of its declarations'
 	@echo 'make declarations      writes that record anew, where the version has been raised'
 	@echo 'make division-test     looks for a division by 255 in the sources and in the machine code of the library'
@@ -80,13 +80,20 @@ division-test: lib/liblmr5.a
 proofs-test:
 	@scripts/proofs
 
-# Builds the programs of examples/ over the library. One corrects a sample report, one shows a ship's remark with its originals.
-example: lib/liblmr5.a
-	$(call needs,example,gcc)
+# Builds over the library the programs of examples/, the program of README.md as it stands there, and its fragment within
+# examples/frame.c; one of them over the shared library. Runs them, and fails where something else comes out than
+# examples/printed has.
+example: $(library)
+	$(call needs,example,gcc awk)
+	@mkdir -p lib/readme
+	scripts/snippets README.md lib/readme/program.c lib/readme/fragment
 	$(c99) -O2 -Iinclude -o lib/correct examples/correct.c lib/liblmr5.a
-	$(c99) -O2 -Iinclude -o lib/remark examples/remark.c lib/liblmr5.a
-	lib/correct examples/report lib/corrected 286 A
-	lib/remark < examples/atlas
+	$(c99) -O2 -Iinclude -o lib/remark examples/remark.c -Llib -llmr5
+	$(c99) -O2 -Iinclude -o lib/program lib/readme/program.c lib/liblmr5.a
+	$(c99) -O2 -Iinclude -Ilib/readme -o lib/frame examples/frame.c lib/liblmr5.a
+	scripts/examples $(soname) >lib/printed
+	diff examples/printed lib/printed
+	@cat lib/printed
 
 # Makes the test vectors of the gate anew, byte for byte, from the independent implementation.
 vectors:

@@ -14,23 +14,6 @@
 
 #include "lmr5.h"
 
-static const char *const refusals[] = {
-    "accepted",
-    "the report or an attachment is cut short",
-    "a code is above the field's highest",
-    "a required field is missing",
-    "the checksum differs",
-    "an attachment is empty, has id 0 or repeats an id",
-    "the flags or the ship text are invalid",
-    "the padding nibble is not 0",
-    "no such field, flag or id",
-    "the value is out of range",
-    "the field is required",
-    "there is no such attachment",
-    "the content has no nibble or over 255",
-    "a buffer is too short",
-    "the content is invalid"};
-
 /* The flags in the order of their values, from 1. */
 static const char letters[] = "RABJKLMNQS";
 
@@ -39,7 +22,7 @@ static int is_refused(const char *what, lmr5_answer a)
 {
     if (a.refusal == 0)
         return 0;
-    fprintf(stderr, "correct: %s: %s", what, refusals[a.refusal]);
+    fprintf(stderr, "correct: %s: %s", what, lmr5_refusal_name(a.refusal));
     if (a.place != 0)
         fprintf(stderr, " (place %lu)", (unsigned long)a.place);
     fprintf(stderr, "; refusal %lu\n", (unsigned long)a.refusal);
@@ -55,10 +38,10 @@ static int set_temperature(uint8_t *report, size_t length, long tenths)
     lmr5_answer a = lmr5_set_field(report, length, LMR5_S, tenths, &table);
     if (is_refused("sea surface temperature", a))
         return 0;
-    if (a.given == LMR5_GIVEN_VALUE)
-        printf("S: before %ld, after %ld\n", (long)a.first, tenths);
-    else
+    if (lmr5_is_missing(a))
         printf("S: before missing, after %ld\n", tenths);
+    else
+        printf("S: before %ld, after %ld\n", (long)a.first, tenths);
     return 1;
 }
 
@@ -75,10 +58,10 @@ static int set_flag(uint8_t *report, size_t length, size_t value)
     }
     if (is_refused("flag", a))
         return 0;
-    if (a.given == LMR5_GIVEN_FLAG)
-        printf("flag of S: before %c, after %c\n", letters[a.first - 1], letters[value - 1]);
-    else
+    if (lmr5_is_missing(a))
         printf("flag of S: before missing, after %c\n", letters[value - 1]);
+    else
+        printf("flag of S: before %c, after %c\n", letters[a.first - 1], letters[value - 1]);
     return 1;
 }
 

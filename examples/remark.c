@@ -10,8 +10,27 @@
 
 #include "lmr5.h"
 
-/* By enum lmr5_set. */
-static const char *const sets[] = {"an unknown character set", "EBCDIC", "ASCII"};
+/* The name of a character set, by enum lmr5_set. */
+static const char *set_name(int64_t set)
+{
+    switch (set) {
+    case LMR5_SET_EBCDIC:
+        return "EBCDIC";
+    case LMR5_SET_ASCII:
+        return "ASCII";
+    default:
+        return "an unknown character set";
+    }
+}
+
+/* Says a refusal in words, and whether there was one. */
+static int is_refused(lmr5_answer answer)
+{
+    if (answer.refusal == 0)
+        return 0;
+    fprintf(stderr, "remark: %s, place %lu\n", lmr5_refusal_name(answer.refusal), (unsigned long)answer.place);
+    return 1;
+}
 
 /* Every flag is permitted. */
 static lmr5_flag_table table;
@@ -45,13 +64,13 @@ int main(void)
         puts("no remark");
         return 0;
     }
-    if (answer.refusal != 0) {
-        fprintf(stderr, "remark: refusal %d, place %d\n", (int)answer.refusal, (int)answer.place);
+    if (is_refused(answer))
         return 1;
-    }
-    /* The fetch gives the symbols, the set and the nibbles. It is not refused: there is a text, and room for any. */
+    /* The fetch gives the symbols, the set and the nibbles. */
     answer = lmr5_fetch_text(report, length, text, sizeof text, origins, sizeof origins, &table);
-    printf("%ld symbols in %ld nibbles, deck in %s: ", (long)answer.first, (long)answer.third, sets[answer.second]);
+    if (is_refused(answer))
+        return 1;
+    printf("%ld symbols in %ld nibbles, deck in %s: ", (long)answer.first, (long)answer.third, set_name(answer.second));
     print_symbols(length, reader);
     return 0;
 }
