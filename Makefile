@@ -38,7 +38,8 @@ list:
 soname := liblmr5.so.$(shell awk '$$2 == "LMR5_VERSION_MAJOR" { print $$3 }' include/lmr5.h)
 
 # The library for C and Rust programs, for include/lmr5.h, made anew where a source is newer. Its files come last, when the
-# header and the numbers have been tried. lib/liblmr5.so is a link, by which the linker finds the shared library.
+# header and the numbers have been tried. lib/liblmr5.so names the shared library for the linker, and cannot itself be loaded: a
+# program that asks for it was built before there were versions.
 library = lib/liblmr5.a lib/$(soname) lib/liblmr5.so
 lib: $(library)
 	@echo 'make lib: lib/liblmr5.a and lib/liblmr5.so are up to date' >&2
@@ -55,7 +56,7 @@ $(library) &: $(sources)
 	@$(MAKE) --no-print-directory header-test
 	$(c99) -Iinclude -o lib/refusals header/refusals.c lib/made.a
 	lib/refusals
-	@mv lib/made.a lib/liblmr5.a && mv lib/made.so lib/$(soname) && ln -sf $(soname) lib/liblmr5.so
+	@mv lib/made.a lib/liblmr5.a && mv lib/made.so lib/$(soname) && echo 'INPUT($(soname))' >lib/liblmr5.so
 
 # Compares the header with what crates/lmr5 exports, with the definitions and with the record of its declarations, and compiles
 # it as C99 and, with g++, as C++.
