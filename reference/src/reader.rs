@@ -61,6 +61,21 @@ impl Iterator for Reader<'_> {
 
 impl FusedIterator for Reader<'_> {}
 
+/// How a reader was opened, and its first steps; none is the end.
+#[derive(Clone, Copy, Debug, PartialEq, Eq)]
+pub struct FirstSteps {
+    pub opened: Result<(), Refusal>,
+    pub steps: [Option<Symbol>; 3],
+}
+
+pub fn first_steps(report: &[u8], table: &FlagTable) -> FirstSteps {
+    let mut reader = Reader::open(report, table);
+    FirstSteps {
+        opened: reader.opened(),
+        steps: std::array::from_fn(|_| reader.next()),
+    }
+}
+
 /// Fetches the text by reading it out: its bytes to one output, its origins to another.
 pub fn read_out(
     report: &[u8],

@@ -8,7 +8,7 @@ use std::path::Path;
 use std::process::Command;
 
 use common::all_flags::{judge, run, run_case, run_list};
-use common::{fresh_buffer, table_by_hand};
+use common::{fresh_buffer, hex, table_by_hand};
 use reference::call::{Answer, Call};
 use reference::cases::{Case, Outcome};
 use reference::gate::list::{Item, List};
@@ -18,19 +18,6 @@ use reference::gate::script::{entry, first_call, script};
 use reference::gate::{self, SEED, list_cases, record, sizes, whole_cases};
 use reference::number::{Number, Quantity};
 use reference::prng::Prng;
-
-/// Bytes from hex digits; spaces are for the eye.
-fn hex(digits: &str) -> Vec<u8> {
-    let digits: Vec<u8> = digits
-        .chars()
-        .filter_map(|digit| digit.to_digit(16))
-        .map(|digit| digit as u8)
-        .collect();
-    digits
-        .chunks(2)
-        .map(|pair| 16 * pair[0] + pair[1])
-        .collect()
-}
 
 /// A record of the log. Zeros fill it up to 37 bytes; an output stands behind a
 /// bar.
@@ -820,7 +807,7 @@ fn observations_have_the_wanted_size_and_sum() {
 fn whole_files_meet_every_refusal_and_keep_their_limits() {
     let cases = whole_cases::cases(SEED);
     assert!(cases.iter().all(record::fits));
-    let files = gate::whole(&cases);
+    let files = gate::reports(SEED);
     assert!(files.stdin.len() + files.stdout.len() < 2_350_000);
     for (kind, refusals) in [
         ("judge", &[0, 1, 2, 3, 4, 5, 6, 7][..]),
@@ -835,6 +822,7 @@ fn whole_files_meet_every_refusal_and_keep_their_limits() {
         ("read out", &[0, 1, 2, 3, 4, 5, 6, 7, 11, 13]),
         ("costliest", &[0, 9, 13]),
         ("find indicators", &[0, 1, 2, 3, 4, 5, 6, 7, 13]),
+        ("first steps", &[0, 1, 2, 3, 4, 5, 6, 7, 11]),
     ] {
         let met: Vec<u8> = files.tally.refusals(kind);
         assert_eq!(met, refusals, "{kind}");
@@ -959,9 +947,8 @@ fn list_files_meet_every_refusal_and_keep_their_limits() {
 
 #[test]
 fn the_same_seed_gives_the_same_files() {
-    let whole = |seed| gate::whole(&whole_cases::cases(seed));
     let lists = |seed| gate::lists(&list_cases::items(seed));
-    for make in [&whole as &dyn Fn(u64) -> gate::Files, &lists] {
+    for make in [&gate::reports as &dyn Fn(u64) -> gate::Files, &lists] {
         let (first, again, other) = (make(SEED), make(SEED), make(SEED + 1));
         assert_eq!(first.stdin, again.stdin);
         assert_eq!(first.stdout, again.stdout);
@@ -972,10 +959,7 @@ fn the_same_seed_gives_the_same_files() {
 #[test]
 fn the_programs_write_the_files() {
     let programs = [
-        (
-            env!("CARGO_BIN_EXE_gate-reports"),
-            gate::whole(&whole_cases::cases(SEED)),
-        ),
+        (env!("CARGO_BIN_EXE_gate-reports"), gate::reports(SEED)),
         (
             env!("CARGO_BIN_EXE_gate-scripts"),
             gate::lists(&list_cases::items(SEED)),

@@ -5,7 +5,7 @@ mod common;
 use std::collections::{BTreeMap, BTreeSet};
 
 use common::all_flags::*;
-use common::{fresh_buffer, fresh_with_tail, refused, set_bits, set_ck};
+use common::{fresh_buffer, fresh_with_tail, hex, refused, set_bits, set_ck};
 use reference::call::{Answer, Call};
 use reference::cases::material::{fresh_observation, random_indicators, random_observation};
 use reference::cases::{Case, Outcome, fixed, random, reports};
@@ -795,18 +795,6 @@ fn the_machine_clears_one_after_the_other() {
         assert_eq!(there, left, "{call:?}");
         observation = after;
     }
-}
-
-/// Bytes from hex digits; spaces are for the eye.
-fn hex(digits: &str) -> Vec<u8> {
-    let digits: Vec<u32> = digits
-        .chars()
-        .filter_map(|digit| digit.to_digit(16))
-        .collect();
-    digits
-        .chunks(2)
-        .map(|pair| (16 * pair[0] + pair[1]) as u8)
-        .collect()
 }
 
 /// Kind 12 and the field; a record as that of clear field.

@@ -2,7 +2,7 @@
 
 use std::process::ExitCode;
 
-use reference::gate::{arguments, whole, whole_cases};
+use reference::gate::{arguments, reports};
 
 fn main() -> ExitCode {
     let given: Vec<String> = std::env::args().skip(1).collect();
@@ -10,7 +10,7 @@ fn main() -> ExitCode {
         eprintln!("usage: gate-reports DIR [SEED]");
         return ExitCode::from(2);
     };
-    let files = whole(&whole_cases::cases(seed));
+    let files = reports(seed);
     if let Err(error) = files.write(directory) {
         eprintln!("gate-reports: {error}");
         return ExitCode::FAILURE;

@@ -14,6 +14,7 @@ pub mod record;
 pub mod same_cases;
 pub mod script;
 pub mod sizes;
+pub mod step_cases;
 pub mod sum_cases;
 pub mod symbol_cases;
 pub mod tally;
@@ -27,6 +28,7 @@ use std::path::Path;
 
 use crate::cases::Case;
 use crate::flag_table::FlagTable;
+use crate::reader::first_steps;
 use list::{Item, load};
 use tally::Tally;
 
@@ -40,15 +42,25 @@ pub struct Files {
     pub tally: Tally,
 }
 
+/// Records from a seed: calls outside the list, then the first steps of readers.
+pub fn reports(seed: u64) -> Files {
+    let mut files = whole(&whole_cases::cases(seed));
+    let mut flags = FlagTable::all();
+    for item in step_cases::items(seed) {
+        match item {
+            step_cases::Item::Report(report) => files.add_steps(&report, &flags),
+            step_cases::Item::Load(marks) => files.add_case(&Case::Load { marks }, &mut flags),
+        }
+    }
+    files
+}
+
 /// Records of calls outside the list.
 pub fn whole(cases: &[Case]) -> Files {
     let mut files = Files::empty();
     let mut flags = FlagTable::all();
     for case in cases {
-        let outcome = case.run(&mut flags);
-        files.stdin.extend(record::input(case));
-        files.stdout.extend(record::answer(&outcome));
-        files.tally.add_record(&outcome);
+        files.add_case(case, &mut flags);
     }
     files
 }
@@ -83,6 +95,20 @@ impl Files {
             stdout: Vec::new(),
             tally: Tally::default(),
         }
+    }
+
+    fn add_case(&mut self, case: &Case, flags: &mut FlagTable) {
+        let outcome = case.run(flags);
+        self.stdin.extend(record::input(case));
+        self.stdout.extend(record::answer(&outcome));
+        self.tally.add_record(&outcome);
+    }
+
+    fn add_steps(&mut self, report: &[u8], flags: &FlagTable) {
+        let given = first_steps(report, flags);
+        self.stdin.extend(record::steps_input(report));
+        self.stdout.extend(record::steps_answer(&given));
+        self.tally.add_steps(&given);
     }
 
     /// Writes `stdin` and `stdout` to a directory, which is made if need be.

@@ -4,8 +4,9 @@ use crate::cases::{Case, Chosen, Outcome};
 use crate::edit::Fetched;
 use crate::gate::head::{head, loaded};
 use crate::outside::Unpacked;
+use crate::reader::FirstSteps;
 use crate::refusal::Refusal;
-use crate::text::Table;
+use crate::text::{Symbol, Table};
 
 const JUDGE: u8 = 1;
 const LISTER: u8 = 2;
@@ -20,6 +21,7 @@ const LOAD: u8 = 10;
 const READ_OUT: u8 = 11;
 const COSTLIEST: u8 = 12;
 const FIND_INDICATORS: u8 = 13;
+const FIRST_STEPS: u8 = 14;
 
 /// The longest report, input or output; the most values; the longest tails; the most
 /// marks of a table of flags; the longest output of a text, of a costliest one and of
@@ -259,6 +261,23 @@ pub fn answer(outcome: &Outcome) -> Vec<u8> {
         } => costliest(result, text, origins),
         Outcome::Calls(_) => unreachable!("a list of calls is no record"),
     }
+}
+
+/// The kind and the report on which a reader takes its first steps.
+pub fn steps_input(report: &[u8]) -> Vec<u8> {
+    [vec![FIRST_STEPS], counted(report)].concat()
+}
+
+/// The head of the opening, and each step.
+pub fn steps_answer(given: &FirstSteps) -> Vec<u8> {
+    let mut bytes = head(given.opened.map(|()| None));
+    bytes.extend(given.steps.map(step).as_flattened());
+    bytes
+}
+
+/// 1, the symbol's byte and its origin, or three zeros at the end.
+fn step(step: Option<Symbol>) -> [u8; 3] {
+    step.map_or([0; 3], |symbol| [1, symbol.byte(), symbol.origin()])
 }
 
 /// The head, and the six numbers where they are given.

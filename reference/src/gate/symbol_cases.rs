@@ -11,6 +11,7 @@ use crate::gate::flag_cases::item;
 use crate::gate::list::Item;
 use crate::gate::record;
 use crate::gate::whole_cases::room;
+use crate::observation::Observation;
 use crate::prng::Prng;
 use crate::text;
 
@@ -42,8 +43,8 @@ pub fn items() -> Vec<Item> {
     cases.into_iter().filter_map(item).collect()
 }
 
-/// A small report with a text at any position, and outputs of drawn lengths and bytes.
-fn drawn_read_out(prng: &mut Prng) -> Case {
+/// A small observation with a text at any position.
+pub fn drawn_observation(prng: &mut Prng) -> Observation {
     let mut observation = random_observation(prng);
     observation.attachments.truncate(3);
     observation
@@ -52,6 +53,12 @@ fn drawn_read_out(prng: &mut Prng) -> Case {
     let position = prng.below(observation.attachments.len() + 1);
     let attachment = Attachment::new(text::ID, random_body(prng, text::ID));
     observation.attachments.insert(position, attachment);
+    observation
+}
+
+/// Such a report, and outputs of drawn lengths and bytes.
+fn drawn_read_out(prng: &mut Prng) -> Case {
+    let observation = drawn_observation(prng);
     let count = symbol_count(&observation);
     let (text, origins) = (room(prng, count), room(prng, count));
     Case::ReadOut {

@@ -9,6 +9,7 @@ use crate::flag_table::FlagTable;
 use crate::gate::list::List;
 use crate::gate::script::Ran;
 use crate::judge::judge;
+use crate::reader::FirstSteps;
 use crate::refusal::Refusal;
 
 /// Counts by kind and refusal, 0 where accepted.
@@ -43,6 +44,10 @@ impl Tally {
             Outcome::Calls(_) => unreachable!("a list of calls is no record"),
         };
         self.add(kind, refusal);
+    }
+
+    pub fn add_steps(&mut self, given: &FirstSteps) {
+        self.add("first steps", number(&given.opened));
     }
 
     pub fn add_load(&mut self, result: Result<(), Refusal>) {

@@ -7,6 +7,19 @@ use reference::refusal::{Refusal, refusal};
 use reference::table::Scaled;
 use reference::text::{Symbol, Table};
 
+/// Bytes from hex digits; spaces are for the eye.
+pub fn hex(digits: &str) -> Vec<u8> {
+    let digits: Vec<u8> = digits
+        .chars()
+        .filter_map(|digit| digit.to_digit(16))
+        .map(|digit| digit as u8)
+        .collect();
+    digits
+        .chunks(2)
+        .map(|pair| 16 * pair[0] + pair[1])
+        .collect()
+}
+
 /// Fresh, values 1, 1900, 1, 0, 0, in a buffer of a length filled with A5.
 pub fn fresh_buffer(length: usize) -> Vec<u8> {
     let mut buffer = vec![0xA5; length];
