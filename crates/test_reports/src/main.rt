@@ -1,4 +1,6 @@
 // Runs the calls outside the list over vectors of the independent implementation.
+ghost use mathlib.Core.Path.{_≡_};
+ghost use Rattle.test_reports.specs.FirstThree.{standsBehind, InTurn};
 use format::FlagTable;
 use format::Reply;
 use format::Scaled;
@@ -7,6 +9,7 @@ use pack::Packed;
 use report::Compared;
 use report::Judged;
 use test_io::Kind;
+use text_display::Step;
 use unpack::Unpacked;
 
 fn judge_in(s: &[u8], marks: &FlagTable) {
@@ -198,6 +201,79 @@ fn find_in(s: &[u8], marks: &FlagTable) {
     find_out(s, &mut out[..n], marks);
 }
 
+// A place in nibbles, and the spaces of a run that are still to give there.
+struct Standing {
+    at: usize,
+    spaces: usize,
+}
+
+// Where a reader stands behind a step from a place.
+fn behind(step: Step, at: usize) -> Standing
+    ensures { λ r. ⌜ r ≡ standsBehind step at ⌝ }
+{
+    match step {
+        Step::Given(_, _, after, spaces) => Standing { at: after, spaces },
+        Step::End => Standing { at, spaces: 0 },
+    }
+}
+
+// The first three steps of a reader for display, with the number and the place of its refusal, 0 where it has none.
+struct FirstSteps {
+    number: u8,
+    place: usize,
+    first: Step,
+    second: Step,
+    third: Step,
+}
+
+// Opens a reader of the report's ship text, and moves it on by what its steps give.
+fn first_steps(report: &[u8], table: &FlagTable) -> FirstSteps
+    ensures { λ r. ⌜ InTurn (now (table .entry)) (now (report .entry)) r ⌝ }
+{
+    let start = text_display::open(report, table);
+    let first = text_display::next(start);
+    let behind_first = behind(first, start.at);
+    let middle = text_display::moved(start, behind_first.at, behind_first.spaces);
+    let second = text_display::next(middle);
+    let behind_second = behind(second, middle.at);
+    let last = text_display::moved(middle, behind_second.at, behind_second.spaces);
+    let third = text_display::next(last);
+    FirstSteps {
+        number: last.number,
+        place: last.place,
+        first,
+        second,
+        third,
+    }
+}
+
+fn put_step(step: Step) {
+    match step {
+        Step::Given(byte, origin, _, _) => test_io::put_bytes(&[1, byte, origin]),
+        Step::End => test_io::put_bytes(&[0, 0, 0]),
+    }
+}
+
+fn put_opening(number: u8, place: usize) {
+    if number == 0 {
+        test_io::put_head(1, 0, 0);
+        return;
+    }
+    test_io::put_refused(number, place);
+}
+
+// A reader of the ship text opened, and its first three steps.
+fn steps_in(report: &[u8], table: &FlagTable) {
+    let steps = first_steps(report, table);
+    let first = steps.first;
+    let second = steps.second;
+    let third = steps.third;
+    put_opening(steps.number, steps.place);
+    put_step(first);
+    put_step(second);
+    put_step(third);
+}
+
 fn report_in(kind: u8, s: &mut [u8], marks: &FlagTable) {
     test_io::get_bytes(s);
     match kind {
@@ -206,6 +282,7 @@ fn report_in(kind: u8, s: &mut [u8], marks: &FlagTable) {
         6 => same_in(s, marks),
         11 => read_in(s, marks),
         13 => find_in(s, marks),
+        14 => steps_in(s, marks),
         _ => unpack_in(s, kind == 7, marks),
     }
 }
@@ -412,7 +489,7 @@ fn costliest_one() {
 // One vector under a table; false at the end of the input.
 fn one(kind: u8, marks: &FlagTable) -> bool {
     match kind {
-        1 | 2 | 4 | 6 | 7 | 11 | 13 => report_one(kind, marks),
+        1 | 2 | 4 | 6 | 7 | 11 | 13 | 14 => report_one(kind, marks),
         3 => fresh_one(),
         5 | 8 => pack_one(kind == 8, marks),
         9 => characters_one(),
