@@ -77,8 +77,8 @@ typedef struct lmr5_answer {
 /*
  * A label is a byte that says what a number is. The lowest byte of `given` is the label of `first`, the next that of `second`,
  * the one after that of `third`; the highest is 0. A call that gives one number has its label alone in `given`. Where the
- * number is missing, its label has LMR5_GIVEN_MISSING added: a missing field is LMR5_GIVEN_VALUE + LMR5_GIVEN_MISSING. Ask
- * lmr5_is_missing before `first` is read.
+ * number is missing, its label has LMR5_GIVEN_MISSING added: a missing field is LMR5_GIVEN_VALUE + LMR5_GIVEN_MISSING. Look
+ * at `refusal` first and ask lmr5_is_missing next, before `first` is read.
  * No answer has labels 4 to 7 yet: lmr5_unpack stores those numbers in `contents`.
  */
 enum lmr5_given {
@@ -150,7 +150,7 @@ static inline const char *lmr5_refusal_name(uint32_t refusal)
     case LMR5_REFUSED_PADDING:
         return "the padding nibble is not 0";
     case LMR5_REFUSED_NUMBER:
-        return "there is no such field, flag or id";
+        return "there is no such field, flag or id, or a presence bit is of no field";
     case LMR5_REFUSED_VALUE:
         return "the value is out of range or not permitted";
     case LMR5_REFUSED_REQUIRED:

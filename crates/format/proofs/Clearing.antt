@@ -1,77 +1,93 @@
--- Clear with indicators by cases (FORMAT 6.1): observations of which one cannot be what the call leaves of the other, since it clears
--- too much.
+-- Clear with indicators by cases (FORMAT 6.1): observations of which one cannot be what the call leaves of the other, since too much
+-- or too little is cleared.
 -- Assumes nothing.
 use Prim.Native.Nat.{ℕ}
 use native.Mathlib.Omega.{arith}
-use mathlib.Core.Path.{_≡_, refl, sym, ap, subst, _∙_}
-use mathlib.Core.Bool.{Bool, true, false}
+use mathlib.Core.Path.{_≡_, refl, sym, ap, _∙_}
+use mathlib.Core.Bool.{Bool, true, false, not, _&&_, _||_}
 use mathlib.Core.List.{List, [], _∷_}
 use mathlib.Core.Option.{Option, none, some}
 use lib.ListN.{replicate}
-use lib.Dec.{T}
+use lib.Dec.{eqb}
 use lib.IntN.{pos, natAbs}
+use borrow.Author.Tests.{eqb-true}
 use Rattle.format.specs.Field.{scaled, isPresent}
 use Rattle.format.specs.Nibbles.{among}
 use Rattle.format.specs.Observation.{Observation, observation}
 use Rattle.format.specs.Indicators.{indicators, basisIn, dataOf}
-use Rattle.format.specs.Calls.{valueAt, withValue}
-use Rattle.format.specs.Finding.{SomePresent, OthersKept}
+use Rattle.format.specs.Calls.{valueAt, withValue, dataMissing}
+use Rattle.format.specs.Finding.{Clears}
 use Rattle.format.specs.declared.Scaled.{Scaled}
+use Rattle.format.proofs.Test.{no}
 
-no : true ≡ false → ⊥
-no e = subst (λ (b : Bool). T b) e tt
+-- each of data that are all missing is missing
+pub data-missing : (s : Observation) (ks : List ℕ) (x : ℕ) → dataMissing s ks ≡ true → among x ks ≡ true → isPresent (valueAt s x) ≡ false
+unfolding dataMissing among
+data-missing s [] x m h = absurd (no (sym h))
+data-missing s (k ∷ ks) x m h = go (eqb x k) refl h (isPresent (valueAt s k)) refl m (λ a b. data-missing s ks x a b)
+  where
+    go : (t : Bool) → eqb x k ≡ t → t || among x ks ≡ true → (u : Bool) → isPresent (valueAt s k) ≡ u → not u && dataMissing s ks ≡ true
+        → (dataMissing s ks ≡ true → among x ks ≡ true → isPresent (valueAt s x) ≡ false) → isPresent (valueAt s x) ≡ false
+    go t e a true p b next = absurd (no (sym b))
+    go true e a false p b next = ap (λ (n : ℕ). isPresent (valueAt s n)) (eqb-true x k e) ∙ p
+    go false e a false p b next = next b a
 
 -- an observation that has the value n in each of these fields, and no other
 abbrev holding : ℕ → List ℕ → Observation
 holding n [] = observation 0 (replicate 46 none) []
 holding n (k ∷ ks) = withValue (holding n ks) k (some (scaled (pos n)))
 
--- field i is present before and missing afterwards, though it had to stay
-taken : (k i : ℕ) (before after : List ℕ) → isPresent (valueAt (holding 5 before) i) ≡ true → isPresent (valueAt (holding 5 after) i) ≡ false → (i ≡ k → ⊥)
-    → (among k (dataOf i) ≡ true → SomePresent (holding 5 after) (dataOf i)) → OthersKept k (holding 5 before) (holding 5 after) → ⊥
-taken k i before after present missing other stays kept = no (sym present ∙ sym (ap isPresent (kept i other stays)) ∙ missing)
+-- one field is present, and the other missing
+differ : (e f : Option Scaled) → isPresent e ≡ true → isPresent f ≡ false → f ≡ e → ⊥
+differ e f present missing same = no (sym present ∙ sym (ap isPresent same) ∙ missing)
 
 -- S cleared, and TI with it although A, WB or DPT stands
-ti-beside-a : OthersKept 31 (holding 5 (27 ∷ 28 ∷ 31 ∷ [])) (holding 5 (28 ∷ [])) → ⊥
+ti-beside-a : Clears 31 (holding 5 (27 ∷ 28 ∷ 31 ∷ [])) (holding 5 (28 ∷ [])) → ⊥
 unfolding indicators basisIn dataOf among
-ti-beside-a = taken 31 27 (27 ∷ 28 ∷ 31 ∷ []) (28 ∷ []) refl refl (λ e. omega arith) (λ _. (28, refl, refl))
+ti-beside-a c = differ _ _ refl refl (c .kept 27 (λ e. omega arith) (λ _. (28, refl, refl)))
 
-ti-beside-wb : OthersKept 31 (holding 5 (27 ∷ 29 ∷ 31 ∷ [])) (holding 5 (29 ∷ [])) → ⊥
+ti-beside-wb : Clears 31 (holding 5 (27 ∷ 29 ∷ 31 ∷ [])) (holding 5 (29 ∷ [])) → ⊥
 unfolding indicators basisIn dataOf among
-ti-beside-wb = taken 31 27 (27 ∷ 29 ∷ 31 ∷ []) (29 ∷ []) refl refl (λ e. omega arith) (λ _. (29, refl, refl))
+ti-beside-wb c = differ _ _ refl refl (c .kept 27 (λ e. omega arith) (λ _. (29, refl, refl)))
 
-ti-beside-dpt : OthersKept 31 (holding 5 (27 ∷ 30 ∷ 31 ∷ [])) (holding 5 (30 ∷ [])) → ⊥
+ti-beside-dpt : Clears 31 (holding 5 (27 ∷ 30 ∷ 31 ∷ [])) (holding 5 (30 ∷ [])) → ⊥
 unfolding indicators basisIn dataOf among
-ti-beside-dpt = taken 31 27 (27 ∷ 30 ∷ 31 ∷ []) (30 ∷ []) refl refl (λ e. omega arith) (λ _. (30, refl, refl))
-
--- DI taken, and D left
-di-alone : OthersKept 18 (holding 5 (17 ∷ 18 ∷ [])) (holding 5 (18 ∷ [])) → ⊥
-unfolding indicators basisIn dataOf among
-di-alone = taken 18 17 (17 ∷ 18 ∷ []) (18 ∷ []) refl refl (λ e. omega arith) (λ _. (18, refl, refl))
+ti-beside-dpt c = differ _ _ refl refl (c .kept 27 (λ e. omega arith) (λ _. (30, refl, refl)))
 
 -- D cleared, and with it WI, which had lost its data before; A cleared, and with it BI, which does not rest on it
-wi-with-d : OthersKept 18 (holding 5 (18 ∷ 19 ∷ [])) (holding 5 []) → ⊥
+wi-with-d : Clears 18 (holding 5 (18 ∷ 19 ∷ [])) (holding 5 []) → ⊥
 unfolding indicators basisIn dataOf among
-wi-with-d = taken 18 19 (18 ∷ 19 ∷ []) [] refl refl (λ e. omega arith) (λ e. absurd (no (sym e)))
+wi-with-d c = differ _ _ refl refl (c .kept 19 (λ e. omega arith) (λ e. absurd (no (sym e))))
 
-bi-with-a : OthersKept 28 (holding 5 (28 ∷ 32 ∷ [])) (holding 5 []) → ⊥
+bi-with-a : Clears 28 (holding 5 (28 ∷ 32 ∷ [])) (holding 5 []) → ⊥
 unfolding indicators basisIn dataOf among
-bi-with-a = taken 28 32 (28 ∷ 32 ∷ []) [] refl refl (λ e. omega arith) (λ e. absurd (no (sym e)))
+bi-with-a c = differ _ _ refl refl (c .kept 32 (λ e. omega arith) (λ e. absurd (no (sym e))))
 
--- a field that is no indicator: the first, the last
-first-field : OthersKept 18 (holding 5 (1 ∷ 18 ∷ [])) (holding 5 []) → ⊥
+-- a field that is no indicator: the first, the last; P with another value
+first-field : Clears 18 (holding 5 (1 ∷ 18 ∷ [])) (holding 5 []) → ⊥
 unfolding indicators basisIn dataOf among
-first-field = taken 18 1 (1 ∷ 18 ∷ []) [] refl refl (λ e. omega arith) (λ e. absurd (no (sym e)))
+first-field c = differ _ _ refl refl (c .kept 1 (λ e. omega arith) (λ e. absurd (no (sym e))))
 
-last-field : OthersKept 18 (holding 5 (18 ∷ 46 ∷ [])) (holding 5 []) → ⊥
+last-field : Clears 18 (holding 5 (18 ∷ 46 ∷ [])) (holding 5 []) → ⊥
 unfolding indicators basisIn dataOf among
-last-field = taken 18 46 (18 ∷ 46 ∷ []) [] refl refl (λ e. omega arith) (λ e. absurd (no (sym e)))
+last-field c = differ _ _ refl refl (c .kept 46 (λ e. omega arith) (λ e. absurd (no (sym e))))
 
--- D cleared, and P has another value
-other-value : OthersKept 18 (holding 5 (26 ∷ [])) (holding 6 (26 ∷ [])) → ⊥
+other-value : Clears 18 (holding 5 (26 ∷ [])) (holding 6 (26 ∷ [])) → ⊥
 unfolding indicators basisIn dataOf among
-other-value kept = let e : _≡_ {A = ℕ} 6 5 = ap number (kept 26 (λ e. omega arith) (λ e. absurd (no (sym e)))) in omega arith
+other-value c = let e : _≡_ {A = ℕ} 6 5 = ap number (c .kept 26 (λ e. omega arith) (λ e. absurd (no (sym e)))) in omega arith
   where
     number : Option Scaled → ℕ
     number none = 0
     number (some v) = natAbs (v .0)
+
+-- S left; S cleared, and TI or BI left without data
+s-left : Clears 31 (holding 5 (31 ∷ [])) (holding 5 (31 ∷ [])) → ⊥
+s-left c = differ _ none refl refl (sym (c .named))
+
+ti-left : Clears 31 (holding 5 (27 ∷ 31 ∷ [])) (holding 5 (27 ∷ [])) → ⊥
+unfolding indicators basisIn dataOf dataMissing among
+ti-left c = differ _ none refl refl (sym (c .taken 27 refl (λ p. no (sym (p .2) ∙ data-missing (holding 5 (27 ∷ [])) (dataOf 27) (p .0) refl (p .1)))))
+
+bi-left : Clears 31 (holding 5 (31 ∷ 32 ∷ [])) (holding 5 (32 ∷ [])) → ⊥
+unfolding indicators basisIn dataOf dataMissing among
+bi-left c = differ _ none refl refl (sym (c .taken 32 refl (λ p. no (sym (p .2) ∙ data-missing (holding 5 (32 ∷ [])) (dataOf 32) (p .0) refl (p .1)))))

@@ -3,21 +3,17 @@
 -- Assumes nothing.
 use Prim.Native.Nat.{ℕ}
 use native.Mathlib.Omega.{arith}
-use mathlib.Core.Path.{_≡_, refl, sym, ap, subst}
-use mathlib.Core.Bool.{Bool, true, false}
+use mathlib.Core.Path.{_≡_, refl, sym, ap}
 use mathlib.Core.List.{List, [], _∷_}
 use mathlib.Core.Option.{none, some}
 use lib.ListN.{getD, replicate}
-use lib.Dec.{T}
 use Rattle.format.specs.Order.{Refusal, between, allMarks}
 use Rattle.format.specs.ShipText.{charCode, short, codeNibbles, Symbol, plain, original, symbolOf, symbolsIn, admitted, allAdmitted}
 use Rattle.format.specs.ShipText.{isSpace, symbolNibbles, fulls, rest, spaceRun, writeFrom, writeText, endsInSpace}
 use Rattle.format.specs.Calls.{Answer}
 use Rattle.format.specs.Reply.{refusal}
 use Rattle.format.specs.Costliest.{Costly, WrittenBy, UpTo85, Never12}
-
-no : true ≡ false → ⊥
-no e = subst (λ (b : Bool). T b) e tt
+use Rattle.format.proofs.Test.{no}
 
 numberIn : Answer → ℕ
 numberIn (Answer.refused r) = r .number

@@ -1,9 +1,13 @@
 -- Tests that antt computes over a list.
 -- Assumes nothing.
 use Prim.Native.Nat.{ℕ}
+use mathlib.Core.Path.{_≡_, subst}
 use mathlib.Core.Bool.{Bool, true, false, _&&_}
 use mathlib.Core.List.{List, [], _∷_}
 use lib.Dec.{T, eqb}
+
+pub no : true ≡ false → ⊥
+no e = subst (λ (b : Bool). T b) e tt
 
 pub left : (a b : Bool) → T (a && b) → T a
 left true b t = tt

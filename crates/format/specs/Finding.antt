@@ -59,10 +59,14 @@ clearCalls b k = map (λ (i : ℕ). edits (clearField i)) (clearsOf (observation
 abbrev pub SomePresent : Observation → List ℕ → Type 0
 SomePresent s ks = (k : ℕ) × (among k ks ≡ true) × (isPresent (valueAt s k) ≡ true)
 
--- every field keeps its entry, but for k, and for an indicator that rests on k and of whose data none is present afterwards
-abbrev pub OthersKept : ℕ → Observation → Observation → Type 0
-OthersKept k before after =
-    (i : ℕ) → (i ≡ k → ⊥) → (among k (dataOf i) ≡ true → SomePresent after (dataOf i)) → valueAt after i ≡ valueAt before i
+-- the values after clear k with its indicators, field by field. It is said by each field's own data, without the clears
+pub record Clears (k : ℕ) (before after : Observation) : Type 0 where
+  -- k is missing
+  pub named : valueAt after k ≡ none
+  -- so is an indicator that rests on k, if of its data none is present afterwards
+  pub taken : (i : ℕ) → among k (dataOf i) ≡ true → (SomePresent after (dataOf i) → ⊥) → valueAt after i ≡ none
+  -- every other field keeps its entry
+  pub kept : (i : ℕ) → (i ≡ k → ⊥) → (among k (dataOf i) ≡ true → SomePresent after (dataOf i)) → valueAt after i ≡ valueAt before i
 
 -- its answer and the buffer after it
 pub record AsClears (marks : FlagTable) (b : List ℕ) (k : ℕ) (a : Answer) (b′ : List ℕ) : Type 0 where
@@ -70,11 +74,9 @@ pub record AsClears (marks : FlagTable) (b : List ℕ) (k : ℕ) (a : Answer) (b
   pub answers : a ≡ effect marks b (edits (clearField k)) .answer
   -- it leaves what the clears leave, made one after the other
   pub leaves : b′ ≡ calls marks b (clearCalls b k) .state
-  -- accepted, k is missing
-  pub cleared : (gs : List Given) → a ≡ accepted gs → valueAt (observationOf b′) k ≡ none
-  -- refused or not, it clears no more than that: said without the list of its clears
-  pub others-kept : OthersKept k (observationOf b) (observationOf b′)
-  -- accepted, no indicator that rests on k is left present with its data all missing, whether or not attachment 5 stands
+  -- accepted, these are the values
+  pub values : (gs : List Given) → a ≡ accepted gs → Clears k (observationOf b) (observationOf b′)
+  -- no indicator that rests on k is left present with its data all missing, whether or not attachment 5 stands
   pub none-left : (gs : List Given) → a ≡ accepted gs → (i : ℕ) → among i (restingOn k) ≡ true → among i (lostIndicators (observationOf b′)) ≡ false
   -- and the finding call finds none, whatever output it is lent
   pub none-found : (gs : List Given) → a ≡ accepted gs → (i : ℕ) → among i (restingOn k) ≡ true

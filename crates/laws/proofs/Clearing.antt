@@ -11,7 +11,7 @@ use lib.ListN.{length, take}
 use lib.Seq.{take-at}
 use lib.Dec.{ltb}
 use lib.IntN.{ℤ, natAbs}
-use borrow.Author.Tests.{le-ltb, eq-eqb}
+use borrow.Author.Tests.{le-ltb}
 use Rattle.format.specs.Order.{Refusal, Check, first}
 use Rattle.format.specs.Bits.{Bytes}
 use Rattle.format.specs.Flags.{FlagTable}
@@ -19,18 +19,18 @@ use Rattle.format.specs.Nibbles.{Attachment, tailNibbles, among}
 use Rattle.format.specs.Observation.{Observation, size}
 use Rattle.format.specs.Report.{observationOf, Verdict, judge}
 use Rattle.format.specs.Indicators.{restingOn}
-use Rattle.format.specs.Calls.{Call, edits, clearField, clearWithIndicators, valueAt, withValue, stands, clearsOf, clearEach, made, overfull, writes, outputsOf, Given, gives, counted, count}
+use Rattle.format.specs.Calls.{Call, edits, clearField, clearWithIndicators, withValue, stands, clearsOf, clearEach, made, overfull, writes, outputsOf, Given, gives, counted, count}
 use Rattle.format.specs.Calls.{fieldNumberCheck, requiredCheck, clearChecks, callChecks, roomCheck, checks, Answer, steppedBy, step}
 use Rattle.format.specs.Machine.{Course, course}
 use Rattle.format.specs.Buffer.{layout, bufferAfter, After, after, effectOn, effect, Shown, calls, Standing, standing, stepping, run, claim}
 use Rattle.format.specs.Whole.{wroteBy}
-use Rattle.format.specs.Finding.{lostIndicators, found, findChecks, findOn, find, ascendingFrom, Ascends, clearCalls, OthersKept, AsClears}
+use Rattle.format.specs.Finding.{lostIndicators, found, findChecks, findOn, find, ascendingFrom, Ascends, clearCalls, Clears, AsClears}
 use Rattle.laws.proofs.Sequences.{cond-case}
 use Rattle.laws.proofs.Order.{range-fine, first-nil, no-check, first-append-none}
 use Rattle.laws.proofs.Report.{passes, size-is, size-within}
-use Rattle.laws.proofs.Indicators.{AllOf, Free, clear-free, clears-free, clears-one, cleared-missing, cleared-attachments, none-left, others-kept, found-ascends}
+use Rattle.laws.proofs.Indicators.{AllOf, Free, clear-free, clears-free, clears-one, cleared-attachments, none-left, clears, found-ascends}
 use Rattle.laws.proofs.WholeList.{whole-list}
-use Rattle.laws.proofs.Effects.{refused-accepted, Accepts, accepts, refuses}
+use Rattle.laws.proofs.Effects.{refused-accepted, Accepts, accepts}
 
 -- ---- sizes
 
@@ -182,22 +182,19 @@ made-left : (s : Observation) (k i : ℕ) → among i (restingOn k) ≡ true →
 unfolding made
 made-left s k i r = none-left s k i r
 
--- of an accepted one: the field is missing, and the others are kept
-made-cleared : (s : Observation) (k : ℕ) → valueAt (made s (clearWithIndicators k)) k ≡ none
-unfolding made clearsOf among
-made-cleared s k = cleared-missing s (clearsOf s k) k (rw (eq-eqb k k refl))
-
-made-kept : (marks : FlagTable) (s : Observation) (k : ℕ) → first (callChecks marks s (edits (clearWithIndicators k))) ≡ none → OthersKept k s (made s (clearWithIndicators k))
+made-clears : (marks : FlagTable) (s : Observation) (k : ℕ) → first (callChecks marks s (edits (clearWithIndicators k))) ≡ none → Clears k s (made s (clearWithIndicators k))
 unfolding made callChecks
-made-kept marks s k passed = others-kept s k (clear-free k passed)
+made-clears marks s k passed = clears s k (clear-free k passed)
 
 pub as-clears : (marks : FlagTable) (b : List ℕ) → Bytes b → (k : ℕ) (a : Answer) (d : List ℕ) → after a d [] ≡ effect marks b (edits (clearWithIndicators k)) → AsClears marks b k a d
 as-clears marks b bs k a d e =
     record {
       answers = ap (λ (x : After). x .answer) e ∙ answers-clear marks b k;
       leaves = ap (λ (x : After). x .buffer) e ∙ leaves-clears marks b bs k;
-      cleared = λ gs q. let c = taken gs q in ap (λ (s : Observation). valueAt s k) (c .left) ∙ made-cleared (c .from) k;
-      others-kept = kept a e;
+      values = λ gs q.
+          let c = taken gs q in
+          subst (λ (s : Observation). Clears k s (observationOf d)) (sym (passes marks b (c .from) (c .judges) .1))
+          (subst (λ (s : Observation). Clears k (c .from) s) (sym (c .left)) (made-clears marks (c .from) k (c .passed)));
       none-left = left;
       none-found = λ gs q i r out n f. ap (among i) (found-these marks d out n f) ∙ found-among i (observationOf d) (left gs q i r);
     }
@@ -207,10 +204,3 @@ as-clears marks b bs k a d e =
 
     left : (gs : List Given) → a ≡ Answer.accepted gs → (i : ℕ) → among i (restingOn k) ≡ true → among i (lostIndicators (observationOf d)) ≡ false
     left gs q i r = let c = taken gs q in ap (λ (s : Observation). among i (lostIndicators s)) (c .left) ∙ made-left (c .from) k i r
-
-    kept : (x : Answer) → after x d [] ≡ effect marks b (edits (clearWithIndicators k)) → OthersKept k (observationOf b) (observationOf d)
-    kept (Answer.refused r) q = λ i other stays. ap (λ (l : List ℕ). valueAt (observationOf l) i) (refuses marks b _ r d [] q)
-    kept (Answer.accepted gs) q =
-        let c = accepts marks b bs (edits (clearWithIndicators k)) gs d [] q in
-        subst (λ (s : Observation). OthersKept k s (observationOf d)) (sym (passes marks b (c .from) (c .judges) .1))
-        (subst (λ (s : Observation). OthersKept k (c .from) s) (sym (c .left)) (made-kept marks (c .from) k (c .passed)))

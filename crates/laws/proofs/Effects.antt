@@ -152,19 +152,3 @@ module _ (marks : FlagTable) (b : List ℕ) (bytes : Bytes b) (c : Call) (gs : L
       go : (v : Verdict) → judge marks b ≡ v → after (Answer.accepted gs) b′ os ≡ effectOn marks v b c → Accepts marks b c gs b′
       go (Verdict.refused r) q e = refused-accepted r gs (sym (ap (λ (a : After). a .answer) e))
       go (Verdict.accepted s) q e = by s q (first (checks marks (length b) s c)) refl e
-
--- ---- a call that is refused leaves the buffer
-
-pub refuses : (marks : FlagTable) (b : List ℕ) (c : Call) (r : Refusal) (b′ : List ℕ) (os : List (List ℕ)) → after (Answer.refused r) b′ os ≡ effect marks b c → b′ ≡ b
-unfolding effect step
-refuses marks b c r b′ os = go (judge marks b)
-  where
-    by : (s : Observation) (o : Option Refusal)
-        → after (Answer.refused r) b′ os ≡ after (steppedBy o s c .answer) (bufferAfter (steppedBy o s c .answer) b (size s) (steppedBy o s c .observation)) (steppedBy o s c .outs)
-        → b′ ≡ b
-    by s (some x) e = ap (λ (a : After). a .buffer) e
-    by s none e = refused-accepted r _ (ap (λ (a : After). a .answer) e)
-
-    go : (v : Verdict) → after (Answer.refused r) b′ os ≡ effectOn marks v b c → b′ ≡ b
-    go (Verdict.refused x) e = ap (λ (a : After). a .buffer) e
-    go (Verdict.accepted s) e = by s (first (checks marks (length b) s c)) e

@@ -17,8 +17,9 @@ use Rattle.format.specs.Nibbles.{among}
 use Rattle.format.specs.Observation.{Observation}
 use Rattle.format.specs.Indicators.{Indicator, indicators, fieldsWhere, basisIn, dataOf, restsOn, restingOn}
 use Rattle.format.specs.Calls.{stands, valueAt, withValue, dataMissing, lostOn, clearsOf, clearEach, clearChecks}
-use Rattle.format.specs.Finding.{lostIndicators, found, ascendingFrom, OthersKept}
+use Rattle.format.specs.Finding.{lostIndicators, found, ascendingFrom, SomePresent, Clears}
 use Rattle.format.specs.declared.Scaled.{Scaled}
+use Rattle.format.proofs.Clearing.{data-missing}
 use Rattle.laws.proofs.Sequences.{and-true, or-false, true-false, cond-case, test-case}
 use Rattle.laws.proofs.Order.{between-in, first-none}
 
@@ -103,24 +104,41 @@ passing test (i ∷ more) = (
     here : test i ≡ true → (test i && eqb (i .field) (i .field)) || among (i .field) (fieldsWhere test more) ≡ true
     here e = rw (e, eq-eqb (i .field) (i .field) refl)
 
--- the data of an indicator that passes a test of its data
-passing-data : (f : List ℕ → Bool) (x low : ℕ) (rows : List Indicator) → ascendingFrom low (map (λ (i : Indicator). i .field) rows) ≡ true
-    → among x (fieldsWhere (λ (i : Indicator). f (i .basis)) rows) ≡ true → f (basisIn rows x) ≡ true
+-- ---- the row of an indicator
+
+-- what is among those that pass a test of field and data passes it with its own data
+row-passes : (f : ℕ → List ℕ → Bool) (x low : ℕ) (rows : List Indicator) → ascendingFrom low (map (λ (i : Indicator). i .field) rows) ≡ true
+    → among x (fieldsWhere (λ (i : Indicator). f (i .field) (i .basis)) rows) ≡ true → f x (basisIn rows x) ≡ true
 unfolding ascendingFrom fieldsWhere among basisIn
-passing-data f x low [] a h = absurd (true-false false h refl)
-passing-data f x low (i ∷ more) a h =
+row-passes f x low [] a h = absurd (true-false false h refl)
+row-passes f x low (i ∷ more) a h =
     let s = and-true (ltb low (i .field)) (ascendingFrom (i .field) (map (λ (j : Indicator). j .field) more)) a in
-    go (eqb x (i .field)) refl (s .1) (λ k. passing-data f x (i .field) more (s .1) k) (sym (among-fields x (λ (j : Indicator). f (j .basis)) i more) ∙ h)
+    go (eqb x (i .field)) refl (s .1) (λ k. row-passes f x (i .field) more (s .1) k) (sym (among-fields x (λ (j : Indicator). f (j .field) (j .basis)) i more) ∙ h)
   where
     go : (t : Bool) → eqb x (i .field) ≡ t → ascendingFrom (i .field) (map (λ (j : Indicator). j .field) more) ≡ true
-        → (among x (fieldsWhere (λ (j : Indicator). f (j .basis)) more) ≡ true → f (basisIn more x) ≡ true)
-        → (f (i .basis) && t) || among x (fieldsWhere (λ (j : Indicator). f (j .basis)) more) ≡ true
-        → f (cond t (i .basis) (basisIn more x)) ≡ true
+        → (among x (fieldsWhere (λ (j : Indicator). f (j .field) (j .basis)) more) ≡ true → f x (basisIn more x) ≡ true)
+        → (f (i .field) (i .basis) && t) || among x (fieldsWhere (λ (j : Indicator). f (j .field) (j .basis)) more) ≡ true
+        → f x (cond t (i .basis) (basisIn more x)) ≡ true
     go true e b next k =
         let same = eqb-true x (i .field) e in
-        let none-behind = fields-above x (i .field) (λ (j : Indicator). f (j .basis)) more b (omega arith) in
-        test-case {P = f (i .basis) ≡ true} (f (i .basis)) (λ q. q) (λ q. absurd (true-false _ k (rw (q, none-behind))))
-    go false e b next k = next (rw (and-false (f (i .basis))) at k)
+        let none-behind = fields-above x (i .field) (λ (j : Indicator). f (j .field) (j .basis)) more b (omega arith) in
+        ap (λ (n : ℕ). f n (i .basis)) same
+        ∙ test-case {P = f (i .field) (i .basis) ≡ true} (f (i .field) (i .basis)) (λ q. q) (λ q. absurd (true-false _ k (rw (q, none-behind))))
+    go false e b next k = next (rw (and-false (f (i .field) (i .basis))) at k)
+
+-- and a field that has data is among them, if it passes with these
+passes-row : (f : ℕ → List ℕ → Bool) (x k : ℕ) (rows : List Indicator) → among k (basisIn rows x) ≡ true → f x (basisIn rows x) ≡ true
+    → among x (fieldsWhere (λ (i : Indicator). f (i .field) (i .basis)) rows) ≡ true
+unfolding fieldsWhere among basisIn
+passes-row f x k [] m h = absurd (true-false false m refl)
+passes-row f x k (i ∷ more) m h =
+    among-fields x (λ (j : Indicator). f (j .field) (j .basis)) i more ∙ go (eqb x (i .field)) refl m h (λ a b. passes-row f x k more a b)
+  where
+    go : (t : Bool) → eqb x (i .field) ≡ t → among k (cond t (i .basis) (basisIn more x)) ≡ true → f x (cond t (i .basis) (basisIn more x)) ≡ true
+        → (among k (basisIn more x) ≡ true → f x (basisIn more x) ≡ true → among x (fieldsWhere (λ (j : Indicator). f (j .field) (j .basis)) more) ≡ true)
+        → (f (i .field) (i .basis) && t) || among x (fieldsWhere (λ (j : Indicator). f (j .field) (j .basis)) more) ≡ true
+    go true e a b next = rw (sym (ap (λ (n : ℕ). f n (i .basis)) (eqb-true x (i .field) e)) ∙ b)
+    go false e a b next = rw (and-false (f (i .field) (i .basis))) (next a b)
 
 -- ---- a field that may be cleared
 
@@ -199,19 +217,6 @@ data-kept s ks (r ∷ rs) fs a =
 absent : (e : Option Scaled) → isPresent e ≡ false → e ≡ none
 absent none h = refl
 absent (some v) h = absurd (true-false true refl h)
-
--- each of data that are all missing is missing
-data-missing : (s : Observation) (rs : List ℕ) (x : ℕ) → dataMissing s rs ≡ true → among x rs ≡ true → isPresent (valueAt s x) ≡ false
-unfolding dataMissing among
-data-missing s [] x m h = absurd (true-false false h refl)
-data-missing s (r ∷ rs) x m h =
-    let both = and-true (not (isPresent (valueAt s r))) (dataMissing s rs) m in
-    go (eqb x r) refl h (λ a. data-missing s rs x (both .1) a) (not-true (isPresent (valueAt s r)) (both .0))
-  where
-    go : (t : Bool) → eqb x r ≡ t → t || among x rs ≡ true → (among x rs ≡ true → isPresent (valueAt s x) ≡ false) → isPresent (valueAt s r) ≡ false
-        → isPresent (valueAt s x) ≡ false
-    go true e a next here = ap (λ (k : ℕ). isPresent (valueAt s k)) (eqb-true x r e) ∙ here
-    go false e a next here = next a
 
 -- ---- the table
 
@@ -319,23 +324,46 @@ none-left s k x h = excluded x 0 (λ (i : Indicator). restsOn i k) (λ (i : Indi
         each-two (λ (i : Indicator). test i ≡ true → among (i .field) (fieldsWhere test indicators) ≡ true)
         (λ (i : Indicator). AllOf Apart (i .basis)) _ indicators row (passing test indicators) data-apart
 
--- ---- every other field keeps its entry
+-- ---- the values field by field
 
-pub others-kept : (s : Observation) (k : ℕ) → Free k → OthersKept k s (clearEach s (clearsOf s k))
-unfolding clearsOf lostOn clearEach fields dataOf among
-others-kept s k f i other stays =
-    cleared-other s (clearsOf s k) i (clears-free s k f)
-    (rw (ne-eqb i k other) (test-case {P = among i (lostOn t k) ≡ false} (among i (lostOn t k)) (λ e. absurd (lost e)) (λ e. e)))
+-- where none of these is present, all are missing
+none-present : (s : Observation) (rs : List ℕ) → (SomePresent s rs → ⊥) → dataMissing s rs ≡ true
+unfolding dataMissing among
+none-present s [] h = refl
+none-present s (r ∷ rs) h =
+    test-case {P = not (isPresent (valueAt s r)) && dataMissing s rs ≡ true} (isPresent (valueAt s r))
+    (λ p. absurd (h (r, rw (eq-eqb r r refl), p)))
+    (λ p. rw p (none-present s rs (λ q. h (q .0, rw (q .1, or-true (eqb (q .0) r)), q .2))))
+
+pub clears : (s : Observation) (k : ℕ) → Free k → Clears k s (clearEach s (clearsOf s k))
+unfolding clearsOf lostOn clearEach fields dataOf restingOn lostIndicators among
+clears s k f = record { named = cleared-missing s (clearsOf s k) k (rw (eq-eqb k k refl)); taken = takes; kept = keeps }
   where
     t : Observation
     t = withValue s k none
 
-    lost : among i (lostOn t k) ≡ true → ⊥
-    lost e =
-        let both = and-true (among k (dataOf i)) (dataMissing t (dataOf i)) (passing-data (λ (ks : List ℕ). among k ks && dataMissing t ks) i 0 indicators indicators-ascend e) in
+    u : Observation
+    u = clearEach s (clearsOf s k)
+
+    takes : (i : ℕ) → among k (dataOf i) ≡ true → (SomePresent u (dataOf i) → ⊥) → valueAt u i ≡ none
+    takes i rests none-left-of =
+        let missing = none-present u (dataOf i) none-left-of in
+        let among-it = passes-row (λ (n : ℕ) (ks : List ℕ). among k ks) i k indicators rests rests in
+        test-case {P = valueAt u i ≡ none} (isPresent (valueAt u i))
+        (λ p. absurd (true-false _ (passes-row (λ (n : ℕ) (ks : List ℕ). isPresent (valueAt u n) && dataMissing u ks) i k indicators rests (rw (p, missing))) (none-left s k i among-it)))
+        (λ p. absent (valueAt u i) p)
+
+    lost : (i : ℕ) → (among k (dataOf i) ≡ true → SomePresent u (dataOf i)) → among i (lostOn t k) ≡ true → ⊥
+    lost i stays e =
+        let both = and-true (among k (dataOf i)) (dataMissing t (dataOf i)) (row-passes (λ (n : ℕ) (ks : List ℕ). among k ks && dataMissing t ks) i 0 indicators indicators-ascend e) in
         let left = stays (both .0) in
         let gone = stays-missing t (lostOn t k) (left .0) (absent _ (data-missing t (dataOf i) (left .0) (both .1) (left .1))) in
         true-false _ (left .2) (ap isPresent gone)
+
+    keeps : (i : ℕ) → (i ≡ k → ⊥) → (among k (dataOf i) ≡ true → SomePresent u (dataOf i)) → valueAt u i ≡ valueAt s i
+    keeps i other stays =
+        cleared-other s (clearsOf s k) i (clears-free s k f)
+        (rw (ne-eqb i k other) (test-case {P = among i (lostOn t k) ≡ false} (among i (lostOn t k)) (λ e. absurd (lost i stays e)) (λ e. e)))
 
 -- ---- what is found
 
