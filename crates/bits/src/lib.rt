@@ -1,4 +1,6 @@
 // A bit field within two adjacent bytes of a buffer. Bits are counted from the highest of byte 0 on; a field's highest bit comes first.
+#![tactic(auto)]
+
 ghost use Rattle.std.specs.Prelude.{◌≡◌, ◌+◌, ◌*◌, ◌/◌, ◌%◌, ◌≤◌, ◌<◌, ◌^◌, length, set};
 ghost use Rattle.format.specs.Bits.{bits, bits_of, bit_field, splice};
 ghost use Rattle.bits.specs.Window.{TwoBytes, FieldWritten, pair, patched};

@@ -1,5 +1,7 @@
 // Attachments of the report that a buffer begins with, laid and dropped in place: the call drop, which judges the report
 // first, and a put whose report and content have been judged.
+#![tactic(auto)]
+
 ghost use Rattle.std.specs.Prelude.{◌≡◌, [], ◌+◌, ◌*◌, ◌≤◌, length};
 ghost use Rattle.std.proofs.Math.Seq.{paste};
 ghost use Rattle.format.specs.Nibbles.{nibbles, attachment, attachment_nibbles};

@@ -1,5 +1,7 @@
 // The calls that fetch from the report that a buffer begins with: the nibbles of an attachment, the ship text. Each judges
 // the report first.
+#![tactic(auto)]
+
 ghost use Rattle.std.specs.Prelude.{◌≡◌, [], ◌∷◌};
 ghost use Rattle.format.specs.ShipText.{set_of_source, deck_set, set_number};
 ghost use Rattle.format.specs.Report.{observation_of};

@@ -1,4 +1,6 @@
 // The calls on fields of the report that a buffer begins with: read, set, clear. Each judges the report first.
+#![tactic(auto)]
+
 ghost use Rattle.std.specs.Prelude.{◌≡◌, [], ◌∷◌, ◌-◌, ◌≤◌, length, get_or, set};
 ghost use Rattle.format.specs.Field.{field_at, entry_of};
 ghost use Rattle.format.specs.Report.{numbers_of, codes_of};

@@ -1,4 +1,6 @@
 // The calls on flags of the report that a buffer begins with: read, set, clear. Each judges the report first.
+#![tactic(auto)]
+
 ghost use Rattle.std.specs.Prelude.{◌≡◌, [], ◌∷◌, ◌+◌, ◌-◌, ◌*◌, ◌≤◌, ◌<◌, ◌^◌, length, get_or, set};
 ghost use Rattle.format.specs.Nibbles.{nibbles};
 ghost use Rattle.format.specs.Calls.{reads, edits, read_flag, set_flag, clear_flag, flag_given, accepted};

@@ -1,5 +1,7 @@
 // Indicators and the data that they rest on: those that have lost their data, found; a field cleared with its indicators. Each call
 // judges the report first.
+#![tactic(auto)]
+
 ghost use Rattle.std.specs.Prelude.{◌≡◌, false, cond, not, ◌&&◌, [], ◌∷◌, ◌++◌, ◌+◌, ◌-◌, ◌*◌, ◌≤◌, ◌<◌, ◌^◌, length, get_or};
 ghost use Rattle.format.specs.Field.{required, is_present};
 ghost use Rattle.format.specs.Observation.{card_numbers};

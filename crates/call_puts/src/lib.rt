@@ -1,5 +1,7 @@
 // The calls that put to the report that a buffer begins with: a content, the ship text. Each judges the report first, then
 // what is put.
+#![tactic(auto)]
+
 ghost use Rattle.std.specs.Prelude.{◌≡◌, cond, ◌&&◌, [], ◌≤◌, length, take};
 ghost use Rattle.format.specs.Report.{body_valid};
 ghost use Rattle.format.specs.Calls.{all_nibbles};

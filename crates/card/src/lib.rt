@@ -1,4 +1,6 @@
 // The card field by field: read and written; a field's coded number and its scaled value.
+#![tactic(auto)]
+
 ghost use Rattle.std.specs.Prelude.{◌≡◌, true, false, ◌+◌, ◌-◌, ◌*◌, ◌/◌, ◌%◌, ◌≤◌, ◌<◌, ◌^◌, length, get_or, set, eqb};
 ghost use Rattle.format.specs.Bits.{bits, bits_of, bit_field, splice};
 ghost use Rattle.format.specs.Field.{field_at, required, scaled_of};

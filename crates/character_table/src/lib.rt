@@ -1,4 +1,6 @@
 // The table of the characters of the ship text: the constant, which the writer reads.
+#![tactic(auto)]
+
 ghost use Rattle.std.specs.Prelude.{◌≡◌};
 ghost use Rattle.format.specs.ShipText.{char_table};
 ghost use Rattle.characters.specs.Table.{Formed};

@@ -1,4 +1,6 @@
 // The table of the characters of the ship text: the generator, which gives it from the rules.
+#![tactic(auto)]
+
 ghost use Rattle.std.specs.Prelude.{◌+◌, ◌≤◌, ◌≡◌, length};
 ghost use Rattle.std.proofs.lemmas.List.Edits.{sets};
 ghost use Rattle.format.specs.ShipText.{up_from, char_table};

@@ -1,4 +1,6 @@
 // The fields of a card checked, and their checksum worked out: in five words of eight bytes, all fields of a word at once.
+#![tactic(auto)]
+
 ghost use Rattle.std.specs.Prelude.{◌≡◌, ◌+◌, ◌%◌, ◌≤◌, ◌<◌, length};
 ghost use Rattle.std.specs.Int.Bits.{bit_and, bit_xor};
 ghost use Rattle.checks.specs.Answers.{card_check};

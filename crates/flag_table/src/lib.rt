@@ -1,4 +1,6 @@
 // A library's own table of permitted flags: the one that holds before any is loaded, and loading.
+#![tactic(auto)]
+
 ghost use Rattle.std.specs.Prelude.{◌≡◌, ◌&&◌, ◌+◌, ◌≤◌, length, take, drop};
 ghost use Rattle.format.specs.Flags.{all_yes};
 ghost use Rattle.format.specs.Order.{all_marks};

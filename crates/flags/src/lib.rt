@@ -1,4 +1,6 @@
 // The flags of attachment 1: whether a body is valid under a table of permitted flags, and the quality code of fourteen flags.
+#![tactic(auto)]
+
 ghost use Rattle.std.specs.Prelude.{◌≡◌, ◌+◌, ◌*◌, ◌≤◌, ◌<◌, ◌^◌, length, take, drop};
 ghost use Rattle.format.specs.Nibbles.{nibbles, Nibbles};
 ghost use Rattle.format.specs.Flags.{total_weight, flag_in_range, flags_fit, flags_valid, quality_code};

@@ -1,4 +1,5 @@
 // The types that the definitions share with the code. No function.
+#![tactic(auto)]
 
 // A field's coded number as the card holds it. 0 is missing.
 #[derive(Drop)]

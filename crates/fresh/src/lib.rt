@@ -1,4 +1,6 @@
 // Starts a report of the five required values.
+#![tactic(auto)]
+
 ghost use Rattle.std.specs.Prelude.{◌≡◌, ◌≤◌, length};
 ghost use Rattle.format.specs.Field.{field_at};
 ghost use Rattle.format.specs.Whole as spec;

@@ -278,6 +278,8 @@ pub fair_checks : (k : ℕ) (fs : List Field) (es : List (Option Scaled)) → Fa
     → first (field_checks k fs (codes fs es)) ≡ none
 unfolding field_checks codes first
 fair_checks k [] [] nil p = refl
+fair_checks k [] (e ∷ es) h p = elim h [ ]
+fair_checks k (f ∷ fs) [] h p = elim h [ ]
 fair_checks k (f ∷ fs) (e ∷ es) (cons h t) p =
     rw (le-ltb f.highest (code_of f e).0 h.low, missing (required k) refl) (fair_checks (suc k) fs es t (present_tail k e es p))
   where

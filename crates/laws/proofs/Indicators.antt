@@ -4,7 +4,7 @@ use Prim.{Unit, tt}
 use Prim.Native.Nat.{ℕ, zero, suc, ◌-◌, ◌≤◌}
 use native.Mathlib.Omega.{arith}
 use mathlib.Core.Path.{◌≡◌, refl, sym, ap, ap₂, subst, ◌∙◌}
-use mathlib.Core.Bool.{Bool, true, false, cond, not, ◌&&◌, ◌||◌, and-false, or_true}
+use mathlib.Core.Bool.{Bool, true, false, cond, not, ◌&&◌, ◌||◌, and-false, or-true}
 use mathlib.Core.List.{List, [], ◌∷◌, ◌++◌, map}
 use mathlib.Core.Option.{Option, none, some}
 use lib.ListN.{length, get_or, set}
@@ -97,7 +97,7 @@ passing test [] = tt
 passing test (i ∷ more) = (
   λ e. among_fields i.field test i more ∙ here e,
   each (λ (j : Indicator). test j ≡ true → among j.field (fields_where test more) ≡ true) (λ (j : Indicator). test j ≡ true → among j.field (fields_where test (i ∷ more)) ≡ true) more
-      (λ j h e. among_fields j.field test i more ∙ ap (λ (t : Bool). (test i && eqb j.field i.field) || t) (h e) ∙ or_true (test i && eqb j.field i.field))
+      (λ j h e. among_fields j.field test i more ∙ ap (λ (t : Bool). (test i && eqb j.field i.field) || t) (h e) ∙ or-true (test i && eqb j.field i.field))
       (passing test more),
 )
   where
@@ -333,7 +333,7 @@ none_present s [] h = refl
 none_present s (r ∷ rs) h =
     test_case {P = not (is_present (value_at s r)) && data_missing s rs ≡ true} (is_present (value_at s r))
     (λ p. absurd (h (r, rw (eq-eqb r r refl), p)))
-    (λ p. rw p (none_present s rs (λ q. h (q.0, rw (q.1, or_true (eqb q.0 r)), q.2))))
+    (λ p. rw p (none_present s rs (λ q. h (q.0, rw (q.1, or-true (eqb q.0 r)), q.2))))
 
 pub clears : (s : Observation) (k : ℕ) → Free k → Clears k s (clear_each s (clears_of s k))
 unfolding clears_of lost_on clear_each fields data_of resting_on lost_indicators among

@@ -1,1 +1,2 @@
 // The laws of the definitions stand in proofs/. No function.
+#![tactic(auto)]

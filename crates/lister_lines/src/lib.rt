@@ -1,4 +1,6 @@
 // The lister's lines: those of the present fields, of CK and of AC; or that of a refusal.
+#![tactic(auto)]
+
 ghost use Rattle.std.specs.Prelude.{◌≡◌, [], ◌∷◌, ◌++◌, ◌+◌, ◌≤◌, ◌<◌, length};
 ghost use Rattle.format.specs.Field.{field_at, entry_of};
 ghost use Rattle.format.specs.Calls.{over};

@@ -1,4 +1,6 @@
 // The calls for programs in C and other languages, over pointers and lengths. Each is one call of the crates below.
+#![tactic(auto)]
+
 ghost use Rattle.std.specs.Prelude.{◌<◌, ◌^◌, ◌≡◌, [], ◌∷◌, map, length, pos};
 ghost use Rattle.format.specs.Field.{scaled};
 ghost use Rattle.format.specs.Report.{judge};

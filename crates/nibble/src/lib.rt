@@ -1,4 +1,6 @@
 // Nibbles of a buffer, the high half of each byte first, read by a cursor.
+#![tactic(auto)]
+
 ghost use Rattle.std.specs.Prelude.{◌≡◌, ◌+◌, ◌*◌, ◌≤◌, ◌<◌, ◌^◌, ltb, length, get_or};
 ghost use Rattle.format.specs.Nibbles.{nibbles};
 ghost use Rattle.format.specs.Calls.{all_nibbles};

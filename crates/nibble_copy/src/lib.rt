@@ -1,4 +1,6 @@
 // Nibbles between a packed buffer, where places are counted in nibbles, and a buffer of one nibble a byte.
+#![tactic(auto)]
+
 ghost use Rattle.std.specs.Prelude.{◌≡◌, ◌+◌, ◌*◌, ◌/◌, ◌%◌, ◌≤◌, ◌<◌, ◌^◌, ◌++◌, length, get_or, take, drop};
 ghost use Rattle.std.proofs.Math.Seq.{paste};
 ghost use Rattle.format.specs.Nibbles.{nibbles, Nibbles};

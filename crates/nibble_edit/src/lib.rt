@@ -1,4 +1,6 @@
 // Nibbles of a packed buffer stored, moved and cleared in place. Places are counted in nibbles.
+#![tactic(auto)]
+
 ghost use Rattle.std.specs.Prelude.{◌≡◌, ℕ, ◌+◌, ◌*◌, ◌%◌, ◌≤◌, ◌<◌, ◌^◌, length, drop, set, replicate};
 ghost use Rattle.std.proofs.Math.Seq.{paste};
 ghost use Rattle.format.specs.Nibbles.{nibbles};

@@ -1,5 +1,7 @@
 // Small numbers: a byte widened, the larger and the lesser of two, a number between two ends, a remainder; and a word of 64 bits as a signed
 // number in two's complement, and back.
+#![tactic(auto)]
+
 ghost use Rattle.std.specs.Prelude.{◌≡◌, ◌%◌, ◌<◌, max, min};
 ghost use Rattle.format.specs.Order.{between};
 ghost use Rattle.numbers.specs.Folding.{fold_once, folding};

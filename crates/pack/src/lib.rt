@@ -1,4 +1,6 @@
 // Packs values and a tail to a report.
+#![tactic(auto)]
+
 ghost use Rattle.std.specs.Prelude.{◌≡◌, cond, ◌*◌, ◌≤◌, ◌^◌, length, set};
 ghost use Rattle.format.specs.Nibbles.{nibbles, odd};
 ghost use Rattle.format.specs.Whole.{count_in};

@@ -1,4 +1,6 @@
 // The values of a whole card and their presence word, shown. The 46 fields stand in straight lines, each with its row.
+#![tactic(auto)]
+
 ghost use Rattle.std.specs.Prelude.{◌≡◌, cond, map, ◌≤◌, ◌<◌, ◌^◌, length};
 ghost use Rattle.format.specs.Field.{table, field_at, entry_of, is_present, entries};
 ghost use Rattle.format.specs.Report.{codes_of};

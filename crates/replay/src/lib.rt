@@ -1,4 +1,6 @@
 // A replay: a script of calls performed on one buffer under one table of permitted flags, and the log of their answers.
+#![tactic(auto)]
+
 ghost use Rattle.std.specs.Prelude.{◌≡◌, ◌+◌, ◌≤◌, length, take, drop, [], ◌∷◌};
 ghost use Rattle.format.specs.Calls as call;
 ghost use Rattle.format.specs.Calls.{over};

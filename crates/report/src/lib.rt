@@ -1,4 +1,6 @@
 // A report judged under a table of permitted flags: its length, fields, checksum, attachments and padding nibble, in one walk.
+#![tactic(auto)]
+
 ghost use Rattle.std.specs.Prelude.{◌≡◌, true, ◌*◌, ◌≤◌, ◌^◌, length};
 ghost use Rattle.format.specs.Report.{judge};
 ghost use Rattle.report.specs.Answers.{judged_of, Sizes, Front, FrontPasses, inspected, last_of, Takes, comparison, Compares, FrontCompared};

@@ -1,4 +1,6 @@
 // Bytes of a script and of its log: numbers read and written, answers written, outputs copied.
+#![tactic(auto)]
+
 ghost use Rattle.std.specs.Prelude.{◌≡◌, ◌+◌, ◌≤◌, ◌<◌, [], ◌∷◌, ◌++◌, length};
 ghost use Rattle.format.specs.Calls.{accepted, over};
 ghost use Rattle.format.specs.Buffer.{zeros};

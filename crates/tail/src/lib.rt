@@ -1,4 +1,6 @@
 // The attachments behind the card: a walk that checks each under a table of permitted flags, and says where they end and where one id stands, or how many there are.
+#![tactic(auto)]
+
 ghost use Rattle.std.specs.Prelude.{◌≡◌, ◌+◌, ◌≤◌, ◌<◌, ◌^◌, length};
 ghost use Rattle.format.specs.Nibbles.{Nibbles};
 ghost use Rattle.format.specs.Report.{body_valid};

@@ -1,4 +1,6 @@
 // Numbers and answers of the test vectors, over standard input and output. Numbers stand highest byte first.
+#![tactic(auto)]
+
 ghost use Rattle.std.specs.Prelude.{◌≤◌};
 
 use flag_table::Loading;

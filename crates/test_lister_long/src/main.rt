@@ -1,4 +1,6 @@
 // Lists the report that standard input begins with.
+#![tactic(auto)]
+
 use libc::{STDIN_FILENO, STDOUT_FILENO};
 
 fn main() {

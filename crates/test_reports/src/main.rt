@@ -1,4 +1,6 @@
 // Runs the calls outside the list over vectors of the independent implementation.
+#![tactic(auto)]
+
 ghost use Rattle.std.specs.Prelude.{◌≡◌};
 ghost use Rattle.test_reports.specs.FirstThree.{stands_behind, InTurn};
 

@@ -1,4 +1,6 @@
 // Runs lists of calls as scripts over vectors of the independent implementation.
+#![tactic(auto)]
+
 ghost use Rattle.std.specs.Prelude.{◌≤◌, ◌<◌};
 
 use format::FlagTable;

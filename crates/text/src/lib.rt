@@ -1,4 +1,6 @@
 // The ship text of attachment 4: whether a body is valid.
+#![tactic(auto)]
+
 ghost use Rattle.std.specs.Prelude.{◌≡◌, ◌+◌, ◌≤◌, ◌<◌, ◌^◌, eqb, length, get_or, take, drop};
 ghost use Rattle.format.specs.Nibbles.{nibbles};
 ghost use Rattle.format.specs.ShipText.{text_valid};

@@ -1,4 +1,6 @@
 // The costliest text of so many symbols.
+#![tactic(auto)]
+
 ghost use Rattle.std.specs.Prelude.{◌≡◌};
 ghost use Rattle.format.specs.Calls.{done_by};
 ghost use Rattle.format.specs.Reply.{answer_of};

@@ -1,4 +1,6 @@
 // The ship text for display: a reader that holds the slice of the report, and gives a symbol at each step.
+#![tactic(auto)]
+
 ghost use Rattle.std.specs.Prelude.{◌≡◌, [], ◌∷◌, ◌*◌, min, length};
 ghost use Rattle.format.specs.Bits.{Bytes};
 ghost use Rattle.format.specs.Calls as call;

@@ -1,5 +1,7 @@
 // The two round trips of running code: pack after unpack, and unpack after pack, each under one table of permitted flags. A
 // refused trip changes nothing.
+#![tactic(auto)]
+
 ghost use Rattle.std.specs.Prelude.{◌≡◌, cond, ◌||◌, ltb};
 ghost use Rattle.unpack.specs.Answers.{unpack_answer};
 ghost use Rattle.pack.specs.Answers.{pack_answer};

@@ -1,4 +1,6 @@
 // Unpacks a report to its values and its tail.
+#![tactic(auto)]
+
 ghost use Rattle.std.specs.Prelude.{◌≡◌};
 ghost use Rattle.format.specs.Whole.{unpacked};
 ghost use Rattle.format.specs.Whole as spec;

@@ -1,5 +1,7 @@
 // Eight bytes of a buffer as one number, the first byte highest: loaded with the first lowest, then turned. The compiler makes one
 // instruction of each.
+#![tactic(auto)]
+
 ghost use Rattle.std.specs.Prelude.{◌≡◌, ◌+◌, ◌*◌, ◌≤◌, ◌<◌, length};
 ghost use Rattle.format.specs.Bits.{bit_field};
 ghost use Rattle.words.specs.Turned.{little2, little4, little8, turned2, turned4};

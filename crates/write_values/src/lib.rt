@@ -1,5 +1,7 @@
 // The values that a caller gives with a presence word: refused, and written to a card. The 46 fields stand in straight lines,
 // each with its row.
+#![tactic(auto)]
+
 ghost use Rattle.std.specs.Prelude.{◌≡◌, cond, not, false, ◌&&◌, [], ◌∷◌, ◌++◌, ◌+◌, ◌≤◌, ◌<◌, length};
 ghost use Rattle.std.proofs.Math.Option.{none, some};
 ghost use Rattle.format.specs.Bits.{total};

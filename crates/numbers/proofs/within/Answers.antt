@@ -1,0 +1,11 @@
+-- `numbers::within` meets its contract.
+-- Assumes nothing.
+use borrow.Author.Tests.{le-leb, lt-leb}
+use native.Mathlib.Omega.{arith}
+use Rattle.numbers.proofs.within.Goals as goal
+
+pub returns-then-x-low : goal.returns-then-x-low
+returns-then-x-low c = rw (lt-leb c.args.low c.args.x c.if-x-low.true)
+
+pub returns : goal.returns
+returns c = rw (le-leb c.args.low c.args.x (omega arith))
