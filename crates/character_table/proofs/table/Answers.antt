@@ -3,12 +3,8 @@
 use mathlib.Core.Path.{refl}
 use Rattle.format.specs.ShipText.{char_code, code_nibbles, up_from, entry, char_table}
 use Rattle.characters.proofs.Entries.{formed}
-use Rattle.character_table.proofs.table.Statement.{statement}
-use Rattle.character_table.proofs.table.Tie as tie
+use Rattle.character_table.proofs.table.Goals as goal
 
-returns : tie.Need-returns
+pub returns : goal.returns
 unfolding char_table up_from entry code_nibbles char_code
 returns c = (refl, formed _ refl)
-
-pub table-spec : {M : Type 1} → statement M
-table-spec = tie.close (tie.spec returns)
