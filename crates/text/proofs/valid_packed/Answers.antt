@@ -1,0 +1,30 @@
+-- `text::valid_packed` meets its contract.
+-- Assumes nothing.
+use native.Mathlib.Omega.{arith}
+use Rattle.format.specs.ShipText.{end_from, at_end, text_valid}
+use Rattle.text.proofs.Bodies.{left_valid, left-even, odd_inside, left-odd}
+use Rattle.text.proofs.valid_packed.Goals as goal
+
+pub valid_from-requires : goal.valid_from-requires
+valid_from-requires c = let l = left-even _ _ _ c.requires c.if-at-eq0.true in (l.inside, l.place)
+
+pub returns-then-at-eq0 : goal.returns-then-at-eq0
+returns-then-at-eq0 c = left_valid _ _ _ _ (left-even _ _ _ c.requires c.if-at-eq0.true) _ c.valid_from.ensures
+
+pub returns-then-len-eq0 : goal.returns-then-len-eq0
+unfolding text_valid end_from at_end
+returns-then-len-eq0 c = rw c.if-len-eq0.true
+
+pub bounds-s-at : goal.bounds-s-at
+bounds-s-at c = odd_inside _ _ _ c.requires (omega arith)
+
+pub valid_from-requires-2 : goal.valid_from-requires-2
+valid_from-requires-2 c =
+    let l = left-odd _ _ _ c.requires c.if-at-eq0.false (omega arith) _ c.after.ensures in
+    (l.inside, l.place)
+
+pub returns : goal.returns
+returns c =
+    left_valid _ _ _ _
+    (left-odd _ _ _ c.requires c.if-at-eq0.false (omega arith) _ c.after.ensures)
+    _ c.valid_from-2.ensures
