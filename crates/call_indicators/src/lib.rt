@@ -44,7 +44,7 @@ fn temperatures_missing(s: &[u8]) -> bool
 // ---- the indicators that have lost their data
 
 // Indicators that were found: their fields as digits of 256, the first one lowest, and how many they are.
-#[derive(Drop)]
+#[derive(Clone, Copy)]
 pub struct Lost {
     pub fields: u64,
     pub count: usize,

@@ -12,7 +12,7 @@ ghost use Rattle.card.specs.Rows.{rows, base_of, field_in, Row};
 use format::{Coded, Scaled};
 
 // The coded number of a scaled value, or that the value is out of range.
-#[derive(Drop)]
+#[derive(Clone, Copy)]
 pub enum Coding {
     Outside,
     Code(Coded),

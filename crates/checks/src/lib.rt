@@ -10,7 +10,7 @@ ghost use Rattle.checks.specs.Walk.{code_refusal};
 use format::Coded;
 
 // The first refusal's number and field, or the checksum of the fields.
-#[derive(Drop)]
+#[derive(Clone, Copy)]
 pub enum CardCheck {
     Refused(u8, usize),
     Checksum(u64),

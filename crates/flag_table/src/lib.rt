@@ -10,7 +10,7 @@ ghost use Rattle.flag_table.specs.Claims.{AnyValue, RowByRow};
 
 use format::FlagTable;
 
-#[derive(Drop)]
+#[derive(Clone, Copy)]
 pub enum Loading {
     // The refusal's number and place.
     Refused(u8, usize),

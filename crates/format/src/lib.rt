@@ -2,11 +2,11 @@
 #![tactic(auto)]
 
 // A field's coded number as the card holds it. 0 is missing.
-#[derive(Drop)]
+#[derive(Clone, Copy)]
 pub struct Coded(pub u16);
 
 // A field's scaled value, in the field's unit: the coded number plus the base.
-#[derive(Drop)]
+#[derive(Clone, Copy)]
 pub struct Scaled(pub i64);
 
 // A library's own table of permitted flags: for flag j and value v the mark at [j - 1][v - 1], where 1 is yes and any other
@@ -14,7 +14,7 @@ pub struct Scaled(pub i64);
 pub type FlagTable = [[u8; 10]; 14];
 
 // What a call on a buffer answers.
-#[derive(Drop)]
+#[derive(Clone, Copy)]
 pub enum Reply {
     // The refusal's number and place.
     Refused(u8, usize),

@@ -11,7 +11,7 @@ ghost use Rattle.fresh.specs.Steps.{CodeOrZero, FiveFit, five_numbers, cleared};
 use card::Coding;
 use format::{Coded, Scaled};
 
-#[derive(Drop)]
+#[derive(Clone, Copy)]
 pub enum Started {
     // The refusal's number and place.
     Refused(u8, usize),

@@ -33,7 +33,7 @@ use unpack::{Contents, Unpacked};
 // What a call answers: the refusal's number and place, both 0 where it is accepted; the labels of the numbers that it gives, the
 // first in the lowest byte, 0 where it gives none; and the numbers, 0 where one is missing or not given.
 #[repr(C)]
-#[derive(Drop)]
+#[derive(Clone, Copy)]
 pub struct Answer {
     pub refusal: u32,
     pub given: u32,
@@ -45,7 +45,7 @@ pub struct Answer {
 
 // How many calls of a script were performed, and how many bytes of script and log they took.
 #[repr(C)]
-#[derive(Drop)]
+#[derive(Clone, Copy)]
 pub struct Performed {
     pub calls: u64,
     pub taken: u64,
@@ -377,7 +377,7 @@ pub extern "C" fn lmr5_costliest_text(symbols: usize, text: &mut [u8], origins: 
 
 // A step's symbol: 0 at the end, 1 plain, 2 original; and its byte, 0 at the end.
 #[repr(C)]
-#[derive(Drop)]
+#[derive(Clone, Copy)]
 pub struct Symbol {
     pub kind: u32,
     pub byte: u32,

@@ -7,20 +7,20 @@ ghost use Rattle.format.specs.Calls.{all_nibbles};
 ghost use Rattle.nibble.specs.View.{view, step_at, header_at, moved};
 
 // A place, counted in nibbles. Packed: two nibbles a byte; else one a byte.
-#[derive(Drop)]
+#[derive(Clone, Copy)]
 pub struct Cursor {
     pub at: usize,
     pub packed: bool,
 }
 
-#[derive(Drop)]
+#[derive(Clone, Copy)]
 pub enum Step {
     // A nibble, and the place behind it.
     Nibble(u8, Cursor),
     End,
 }
 
-#[derive(Drop)]
+#[derive(Clone, Copy)]
 pub enum Header {
     // AL, AID, and the place of the data.
     Head(usize, usize, Cursor),

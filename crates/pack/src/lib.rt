@@ -11,7 +11,7 @@ ghost use Rattle.pack.specs.Steps.{fields_checked, FieldsPass, TailPassesBySome,
 use format::FlagTable;
 use tail::Counted;
 
-#[derive(Drop)]
+#[derive(Clone, Copy)]
 pub enum Packed {
     // The refusal's number and place.
     Refused(u8, usize),
@@ -20,7 +20,7 @@ pub enum Packed {
 }
 
 // What checking the fields to be packed answers: the first refusal's number and field, or that there is none.
-#[derive(Drop)]
+#[derive(Clone, Copy)]
 enum Checked {
     Refused(u8, usize),
     Passed,

@@ -12,7 +12,7 @@ ghost use Rattle.replay.specs.Counts.{leaves, nothing, one, Begun, fronted};
 use format::{FlagTable, Reply, Scaled};
 
 // How many calls were performed, and how many bytes of script and log they took.
-#[derive(Drop)]
+#[derive(Clone, Copy)]
 pub struct Performed {
     pub calls: usize,
     pub taken: usize,

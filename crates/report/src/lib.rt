@@ -10,7 +10,7 @@ use format::FlagTable;
 use nibble::{Cursor, Step};
 use tail::{Tail, Walked};
 
-#[derive(Drop)]
+#[derive(Clone, Copy)]
 pub enum Judged {
     // The refusal's number and place.
     Refused(u8, usize),
@@ -20,7 +20,7 @@ pub enum Judged {
 
 // What an accepted report shows on the way: AC, its end in nibbles, and for the id asked for
 // the place of its header and its AL, both 0 where it does not stand.
-#[derive(Drop)]
+#[derive(Clone, Copy)]
 pub struct Report {
     pub count: usize,
     pub end: usize,
@@ -28,7 +28,7 @@ pub struct Report {
     pub al: usize,
 }
 
-#[derive(Drop)]
+#[derive(Clone, Copy)]
 pub enum Inspected {
     Refused(u8, usize),
     Fine(Report),
@@ -144,7 +144,7 @@ pub fn judge(s: &[u8], marks: FlagTable) -> Judged
 
 // ---- two reports
 
-#[derive(Drop)]
+#[derive(Clone, Copy)]
 pub enum Compared {
     // The refusal's number and place, of the first that is refused.
     Refused(u8, usize),

@@ -12,14 +12,14 @@ use format::FlagTable;
 use nibble::{Cursor, Header};
 
 // Where attachments end, and the place of the header of an id and its AL, both 0 where the id does not stand.
-#[derive(Drop)]
+#[derive(Clone, Copy)]
 pub struct Tail {
     pub end: usize,
     pub place: usize,
     pub al: usize,
 }
 
-#[derive(Drop)]
+#[derive(Clone, Copy)]
 pub enum Walked {
     // The refusal's number, and the attachment's position from 1.
     Refused(u8, usize),
@@ -27,7 +27,7 @@ pub enum Walked {
 }
 
 // What a walk to a tail's end answers.
-#[derive(Drop)]
+#[derive(Clone, Copy)]
 pub enum Counted {
     // The refusal's number, and the attachment's position from 1.
     Refused(u8, usize),
@@ -36,7 +36,7 @@ pub enum Counted {
 }
 
 // What a look at one attachment finds.
-#[derive(Drop)]
+#[derive(Clone, Copy)]
 enum Looked {
     // The refusal's number.
     Fault(u8),
@@ -45,7 +45,7 @@ enum Looked {
 }
 
 // A walk's cursor, the ids seen, and the place of the header of an id and its AL.
-#[derive(Drop)]
+#[derive(Clone, Copy)]
 struct State {
     cursor: Cursor,
     mask: u64,

@@ -8,7 +8,7 @@ use format::FlagTable;
 use libc::{STDIN_FILENO, STDOUT_FILENO};
 
 // What stands next on the input.
-#[derive(Drop)]
+#[derive(Clone, Copy)]
 pub enum Kind {
     Byte(u8),
     End,

@@ -202,7 +202,7 @@ fn find_in(s: &[u8], marks: &FlagTable) {
 }
 
 // A place in nibbles, and the spaces of a run that are still to give there.
-#[derive(Drop)]
+#[derive(Clone, Copy)]
 struct Standing {
     at: usize,
     spaces: usize,
@@ -219,7 +219,7 @@ fn behind(step: Step, at: usize) -> Standing
 }
 
 // The first three steps of a reader for display, with the number and the place of its refusal, 0 where it has none.
-#[derive(Drop)]
+#[derive(Clone, Copy)]
 struct FirstSteps {
     number: u8,
     place: usize,

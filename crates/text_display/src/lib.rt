@@ -16,14 +16,14 @@ use report::{Inspected, Report};
 // ---- the core, over a slice and numbers
 
 // A symbol's byte and its mark of origin, with the place and the spaces after it; or the end.
-#[derive(Drop)]
+#[derive(Clone, Copy)]
 pub enum Step {
     Given(u8, u8, usize, usize),
     End,
 }
 
 // The place and the end of a reader that is opened, in nibbles; and its refusal's number and place, 0 where it has none.
-#[derive(Drop)]
+#[derive(Clone, Copy)]
 pub struct Opening {
     pub at: usize,
     pub end: usize,

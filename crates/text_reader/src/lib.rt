@@ -43,7 +43,7 @@ fn pair_byte(z: u8, n: u8) -> u8
 }
 
 // How many nibbles, and the symbols that they stand for: so many times one byte of one origin, 0 plain and 1 original.
-#[derive(Drop)]
+#[derive(Clone, Copy)]
 pub struct Code {
     pub nibbles: usize,
     pub count: usize,

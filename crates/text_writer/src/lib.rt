@@ -84,7 +84,7 @@ fn put_entry(out: &mut [u8], at: usize, w: u16) -> usize
     e
 }
 
-#[derive(Drop)]
+#[derive(Clone, Copy)]
 struct Placed {
     at: usize,
     // The spaces that wait, and one.
@@ -124,7 +124,7 @@ fn put_symbol(codes: &[u16], out: &mut [u8], at: usize, s: usize, b: u8, o: u8) 
     Placed { at: e, next: 1 }
 }
 
-#[derive(Drop)]
+#[derive(Clone, Copy)]
 pub enum Written {
     // So many nibbles.
     Fits(usize),

@@ -12,7 +12,7 @@ use report::{Inspected, Report};
 
 // What unpacking gives beside the values and the tail: the presence word, how many fields are present, RPTIN, AC, the
 // report's size in bytes, and the tail's length in nibbles.
-#[derive(Drop)]
+#[derive(Clone, Copy)]
 pub struct Contents {
     pub word: u64,
     pub present: u32,
@@ -22,7 +22,7 @@ pub struct Contents {
     pub nibbles: usize,
 }
 
-#[derive(Drop)]
+#[derive(Clone, Copy)]
 pub enum Unpacked {
     // The refusal's number and place.
     Refused(u8, usize),
