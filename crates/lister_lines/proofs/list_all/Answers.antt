@@ -1,6 +1,5 @@
 -- `lister_lines::list_all` meets its contract: the lines of each outcome have room.
 -- Assumes nothing.
--- what inspecting found, under the table of every value
 use Prim.Native.Nat.{ℕ, ◌<◌, ◌≤◌, ◌^◌}
 use native.Mathlib.Omega.{arith}
 use mathlib.Core.Path.{◌≡◌, refl, ap, ◌∙◌}
