@@ -39,7 +39,7 @@ use Rattle.unpack.specs.declared.Contents.{Contents}
 use Rattle.pack.specs.Answers.{pack_answer}
 use Rattle.pack.specs.declared.Packed.{Packed}
 use Rattle.lmr5.specs.declared.Answer.{Answer}
-use Rattle.lmr5.specs.Numbered.{answer, numbered, single, left, numbered_after, judging, numbered_wrote, Opened, opening, opened_by, numbered_unpacked, word}
+use Rattle.lmr5.specs.Numbered.{numbered, single, left, numbered_after, judging, numbered_wrote, Opened, opening, opened_by, numbered_unpacked, word}
 
 -- a number that 64 bits hold is given as it is
 pub number-given : (label : ℕ) (z : ℤ) → SFits w64 z → single label (to_z w64 (of_z w64 z)) ≡ single label z
