@@ -1,4 +1,4 @@
-// The calls for programs in C and other languages, over pointers and lengths. Each is one call of the crates below.
+// The calls for programs in C and other languages, over slices. Each is one call of the crates below; crate lmr5_c exports them.
 #![tactic(auto)]
 
 ghost use Rattle.std.specs.Prelude.{◌<◌, ◌^◌, ◌≡◌, [], ◌∷◌, map, length, pos};
@@ -129,15 +129,13 @@ fn answer_of(r: Reply) -> Answer
 
 // ---- the table of permitted flags
 
-#[unsafe(no_mangle)]
-pub extern "C" fn lmr5_all_flags(table: &mut FlagTable)
+pub fn lmr5_all_flags(table: &mut FlagTable)
     ensures { (table.new ≡ all_yes) × AnyValue table.new }
 {
     *table = flag_table::all_yes();
 }
 
-#[unsafe(no_mangle)]
-pub extern "C" fn lmr5_load_flags(marks: &[u8], table: &mut FlagTable) -> Answer
+pub fn lmr5_load_flags(marks: &[u8], table: &mut FlagTable) -> Answer
     ensures { (result ≡ numbered (load_answer marks.now)) × (table.new ≡ in_force table.old marks.now) }
 {
     *table = flag_table::load(marks, *table);
@@ -150,8 +148,7 @@ pub extern "C" fn lmr5_load_flags(marks: &[u8], table: &mut FlagTable) -> Answer
 
 // ---- whole reports
 
-#[unsafe(no_mangle)]
-pub extern "C" fn lmr5_judge(report: &[u8], table: &FlagTable) -> Answer
+pub fn lmr5_judge(report: &[u8], table: &FlagTable) -> Answer
     ensures { result ≡ numbered (judging (judge table.now report.now)) }
 {
     let j = report::judge(&*report, *table);
@@ -161,15 +158,7 @@ pub extern "C" fn lmr5_judge(report: &[u8], table: &FlagTable) -> Answer
     }
 }
 
-#[unsafe(no_mangle)]
-pub extern "C" fn lmr5_fresh(
-    box10: i64,
-    year: i64,
-    month: i64,
-    x: i64,
-    y: i64,
-    out: &mut [u8],
-) -> Answer
+pub fn lmr5_fresh(box10: i64, year: i64, month: i64, x: i64, y: i64, out: &mut [u8]) -> Answer
     ensures { record { answer = result; out = out.new } ≡ numbered_wrote (spec.fresh (scaled box10) (scaled year) (scaled month) (scaled x) (scaled y) out.old) }
 {
     let f = fresh::fresh(
@@ -200,8 +189,7 @@ fn store(c: Contents, contents: &mut [u64])
     contents[5] = c.nibbles as u64;
 }
 
-#[unsafe(no_mangle)]
-pub extern "C" fn lmr5_unpack(
+pub fn lmr5_unpack(
     report: &[u8],
     values: &mut [i64],
     tail: &mut [u8],
@@ -221,8 +209,7 @@ pub extern "C" fn lmr5_unpack(
     }
 }
 
-#[unsafe(no_mangle)]
-pub extern "C" fn lmr5_pack(
+pub fn lmr5_pack(
     values: &[i64],
     word: u64,
     rptin: u16,
@@ -241,71 +228,49 @@ pub extern "C" fn lmr5_pack(
 
 // ---- fields and flags
 
-#[unsafe(no_mangle)]
-pub extern "C" fn lmr5_read_field(report: &[u8], field: usize, table: &FlagTable) -> Answer
+pub fn lmr5_read_field(report: &[u8], field: usize, table: &FlagTable) -> Answer
     ensures { left result report.now [] ≡ numbered_after (effect table.now report.now (call.reads (call.read_field field))) }
 {
     answer_of(call_fields::read_field(&*report, field, table))
 }
 
-#[unsafe(no_mangle)]
-pub extern "C" fn lmr5_set_field(
-    report: &mut [u8],
-    field: usize,
-    value: i64,
-    table: &FlagTable,
-) -> Answer
+pub fn lmr5_set_field(report: &mut [u8], field: usize, value: i64, table: &FlagTable) -> Answer
     ensures { left result report.new [] ≡ numbered_after (effect table.now report.old (call.edits (call.set_field field (scaled value)))) }
 {
     answer_of(call_fields::set_field(report, field, Scaled(value), table))
 }
 
-#[unsafe(no_mangle)]
-pub extern "C" fn lmr5_clear_field(report: &mut [u8], field: usize, table: &FlagTable) -> Answer
+pub fn lmr5_clear_field(report: &mut [u8], field: usize, table: &FlagTable) -> Answer
     ensures { left result report.new [] ≡ numbered_after (effect table.now report.old (call.edits (call.clear_field field))) }
 {
     answer_of(call_fields::clear_field(report, field, table))
 }
 
-#[unsafe(no_mangle)]
-pub extern "C" fn lmr5_clear_with_indicators(
-    report: &mut [u8],
-    field: usize,
-    table: &FlagTable,
-) -> Answer
+pub fn lmr5_clear_with_indicators(report: &mut [u8], field: usize, table: &FlagTable) -> Answer
     ensures { left result report.new [] ≡ numbered_after (effect table.now report.old (call.edits (call.clear_with_indicators field))) }
 {
     answer_of(call_indicators::clear(report, field, table))
 }
 
-#[unsafe(no_mangle)]
-pub extern "C" fn lmr5_find_indicators(report: &[u8], out: &mut [u8], table: &FlagTable) -> Answer
+pub fn lmr5_find_indicators(report: &[u8], out: &mut [u8], table: &FlagTable) -> Answer
     ensures { record { answer = result; out = out.new } ≡ numbered_wrote (find table.now report.now out.old) }
 {
     answer_of(call_indicators::find(&*report, out, table))
 }
 
-#[unsafe(no_mangle)]
-pub extern "C" fn lmr5_read_flag(report: &[u8], flag: usize, table: &FlagTable) -> Answer
+pub fn lmr5_read_flag(report: &[u8], flag: usize, table: &FlagTable) -> Answer
     ensures { left result report.now [] ≡ numbered_after (effect table.now report.now (call.reads (call.read_flag flag))) }
 {
     answer_of(call_flags::read_flag(&*report, flag, table))
 }
 
-#[unsafe(no_mangle)]
-pub extern "C" fn lmr5_set_flag(
-    report: &mut [u8],
-    flag: usize,
-    value: usize,
-    table: &FlagTable,
-) -> Answer
+pub fn lmr5_set_flag(report: &mut [u8], flag: usize, value: usize, table: &FlagTable) -> Answer
     ensures { left result report.new [] ≡ numbered_after (effect table.now report.old (call.edits (call.set_flag flag value))) }
 {
     answer_of(call_flags::set_flag(report, flag, value, table))
 }
 
-#[unsafe(no_mangle)]
-pub extern "C" fn lmr5_clear_flag(report: &mut [u8], flag: usize, table: &FlagTable) -> Answer
+pub fn lmr5_clear_flag(report: &mut [u8], flag: usize, table: &FlagTable) -> Answer
     ensures { left result report.new [] ≡ numbered_after (effect table.now report.old (call.edits (call.clear_flag flag))) }
 {
     answer_of(call_flags::clear_flag(report, flag, table))
@@ -313,47 +278,32 @@ pub extern "C" fn lmr5_clear_flag(report: &mut [u8], flag: usize, table: &FlagTa
 
 // ---- attachments and the ship text
 
-#[unsafe(no_mangle)]
-pub extern "C" fn lmr5_put(
-    report: &mut [u8],
-    id: usize,
-    content: &[u8],
-    table: &FlagTable,
-) -> Answer
+pub fn lmr5_put(report: &mut [u8], id: usize, content: &[u8], table: &FlagTable) -> Answer
     ensures { left result report.new [] ≡ numbered_after (effect table.now report.old (call.edits (call.put id content.now))) }
 {
     answer_of(call_puts::put(report, id, content, table))
 }
 
-#[unsafe(no_mangle)]
-pub extern "C" fn lmr5_fetch(report: &[u8], id: usize, out: &mut [u8], table: &FlagTable) -> Answer
+pub fn lmr5_fetch(report: &[u8], id: usize, out: &mut [u8], table: &FlagTable) -> Answer
     ensures { left result report.now (out.new ∷ []) ≡ numbered_after (effect table.now report.now (call.fetches (call.fetch id out.old))) }
 {
     answer_of(call_fetches::fetch(&*report, id, out, table))
 }
 
-#[unsafe(no_mangle)]
-pub extern "C" fn lmr5_drop(report: &mut [u8], id: usize, table: &FlagTable) -> Answer
+pub fn lmr5_drop(report: &mut [u8], id: usize, table: &FlagTable) -> Answer
     ensures { left result report.new [] ≡ numbered_after (effect table.now report.old (call.edits (call.remove id))) }
 {
     answer_of(call_attachments::remove(report, id, table))
 }
 
-#[unsafe(no_mangle)]
-pub extern "C" fn lmr5_put_text(
-    report: &mut [u8],
-    text: &[u8],
-    origins: &[u8],
-    table: &FlagTable,
-) -> Answer
+pub fn lmr5_put_text(report: &mut [u8], text: &[u8], origins: &[u8], table: &FlagTable) -> Answer
     ensures { left result report.new []
         ≡ numbered_after (effect table.now report.old (call.edits (call.put_text text.now origins.now))) }
 {
     answer_of(call_puts::put_text(report, text, origins, table))
 }
 
-#[unsafe(no_mangle)]
-pub extern "C" fn lmr5_fetch_text(
+pub fn lmr5_fetch_text(
     report: &[u8],
     text: &mut [u8],
     origins: &mut [u8],
@@ -365,8 +315,7 @@ pub extern "C" fn lmr5_fetch_text(
     answer_of(call_fetches::fetch_text(&*report, text, origins, table))
 }
 
-#[unsafe(no_mangle)]
-pub extern "C" fn lmr5_costliest_text(symbols: usize, text: &mut [u8], origins: &mut [u8]) -> Answer
+pub fn lmr5_costliest_text(symbols: usize, text: &mut [u8], origins: &mut [u8]) -> Answer
     ensures { (result ≡ numbered (call.done_by (costliest_refusal symbols text.old origins.old)))
         × CostliestLeaves symbols text.old origins.old text.new origins.new }
 {
@@ -395,8 +344,7 @@ fn store_reader(reader: &mut [u64], o: Opening)
     reader[4] = o.place as u64;
 }
 
-#[unsafe(no_mangle)]
-pub extern "C" fn lmr5_open_text(report: &[u8], reader: &mut [u64; 5], table: &FlagTable) -> Answer
+pub fn lmr5_open_text(report: &[u8], reader: &mut [u64; 5], table: &FlagTable) -> Answer
     ensures { ReaderOpened table.now report.now reader.new result }
 {
     let o = text_display::opened(report, table);
@@ -431,8 +379,7 @@ fn step(report: &[u8], reader: &mut [u64]) -> Symbol
     }
 }
 
-#[unsafe(no_mangle)]
-pub extern "C" fn lmr5_next_symbol(report: &[u8], reader: &mut [u64; 5]) -> Symbol
+pub fn lmr5_next_symbol(report: &[u8], reader: &mut [u64; 5]) -> Symbol
     ensures { Stepped report.now reader.old reader.new result }
 {
     step(report, reader)
@@ -440,8 +387,7 @@ pub extern "C" fn lmr5_next_symbol(report: &[u8], reader: &mut [u64; 5]) -> Symb
 
 // ---- the table of the characters
 
-#[unsafe(no_mangle)]
-pub extern "C" fn lmr5_character_table(table: &mut [u16; 256])
+pub fn lmr5_character_table(table: &mut [u16; 256])
     ensures { (table.new ≡ char_table) × ReadBack table.new }
 {
     characters::generate(table);
@@ -449,13 +395,7 @@ pub extern "C" fn lmr5_character_table(table: &mut [u16; 256])
 
 // ---- a script of calls
 
-#[unsafe(no_mangle)]
-pub extern "C" fn lmr5_replay(
-    report: &mut [u8],
-    script: &[u8],
-    log: &mut [u8],
-    table: &FlagTable,
-) -> Performed
+pub fn lmr5_replay(report: &mut [u8], script: &[u8], log: &mut [u8], table: &FlagTable) -> Performed
     ensures { Performs table.now (record { buffer = report.new; log = log.new; calls = result.calls; taken = result.taken; written = result.written })
         report.old script.now log.old }
 {

@@ -1,6 +1,5 @@
 -- `trips::recover` meets its contract: unpack after pack.
 -- Assumes nothing.
--- what pack is lent is a part of the output
 use Prim.Native.Nat.{◌≤◌}
 use native.Mathlib.Omega.{arith}
 use mathlib.Core.Path.{sym}

@@ -1,6 +1,5 @@
 -- `trips::restore_to` meets its contract: pack after unpack.
 -- Assumes nothing.
--- what unpack gave
 use native.Mathlib.Omega.{arith}
 use mathlib.Core.Path.{◌≡◌, sym}
 use lib.Seq.{length-take-le}

@@ -1,6 +1,5 @@
 -- `write_values::write_field` meets its contract.
 -- Assumes nothing.
--- the value at place i, also as a local holds it
 use Prim.Native.Nat.{ℕ, ◌+◌, ◌<◌}
 use native.Mathlib.Omega.{arith}
 use mathlib.Core.Path.{◌≡◌, sym, ap, subst, ◌∙◌}
