@@ -588,12 +588,10 @@ fn next(rt: &HostRuntime, marks: &mut FlagTable) -> io::Result<bool> {
 
 fn main(rt: HostRuntime) -> io::Result<()> {
     let mut marks = flag_table::all_yes();
-    let mut left: usize = 100000;
-    while 0 < left {
+    for _ in 0..100000u32 {
         if !next(&rt, &mut marks)? {
-            return Ok(());
+            break;
         }
-        left -= 1;
     }
     Ok(())
 }
