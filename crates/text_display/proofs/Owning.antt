@@ -11,10 +11,10 @@ use base.Logic.{ent, sep}
 use base.Fml.{Lft, Fml}
 use types.Logic.{Logic, sem}
 use types.Kit.{‵, ◌⊛◌, ◌$◌, ◌∵◌, !, qed, by, move, use1, split, fsplit, fjoin, frame, done}
-use denote.RattleType.{RattleType, owns}
+use denote.RattleType.{RattleType, RowLaws, owns}
 use denote.Laws.{Is}
-use denote.Plain.{uint_Makes}
-use denote.Array.{Array}
+use denote.Plain.{uint_Makes, uint_row_laws}
+use denote.Array.{Array, Array-row_laws}
 use denote.Builtin.{u8, usize}
 use denote.Ref.{Bor, ShrRef, shr_copy}
 use denote.Slice.{slice_val, ShrSlice, shr_slice_copy}
@@ -28,12 +28,15 @@ use Rattle.text_display.proofs.Reader.TheLaws as T'
 abbrev pub Table : RattleType
 Table = Array (Array u8 10) 14
 
+table_laws : RowLaws Table
+table_laws = Array-row_laws (Array u8 10) (Array-row_laws u8 (uint_row_laws w8) 10) 14
+
 -- the machine values of a slice and of a table's reference
 abbrev pub slice_at : Bor (List ℕ) → Val
 slice_at s = slice_val s.ref_ptr (length s.now)
 
 abbrev pub table_at : Bor (List (List ℕ)) → Val
-table_at m = vptr m.ptr.0 m.ptr.1
+table_at m = vptr m.ref_ptr.0 m.ref_ptr.1
 
 -- what a slice owns, what a table's reference owns, and the two together
 abbrev pub SliceOwn : Lft → Bor (List ℕ) → Fml
@@ -58,9 +61,9 @@ module _ {M : Type 1} {𝓤 : Ura M} (𝓛 : Logic 𝓤) where
       → ent 𝓤 (sem 𝓛 (BothOwn κ κ' s m)) (sep 𝓤 (sem 𝓛 (BothOwn κ κ' s m)) (sem 𝓛 (BothOwn κ κ' s m)))
   both_twice κ κ' s m =
       qed 𝓛 (‵ (BothOwn κ κ' s m) ∷ []) ∵ fsplit ! $
-      use1 𝓛 (‵ (SliceOwn κ s) ⊛ ‵ (SliceOwn κ s)) ((shr_slice_copy 𝓛 (named 0) κ u8).twice s (slice_at s ∷ [])) $ split ! $
+      use1 𝓛 (‵ (SliceOwn κ s) ⊛ ‵ (SliceOwn κ s)) ((shr_slice_copy 𝓛 (named 0) κ u8 (uint_row_laws w8)).twice s (slice_at s ∷ [])) $ split ! $
       move ! (2 ∷ []) $ fsplit ! $
-      use1 𝓛 (‵ (TableOwn κ' m) ⊛ ‵ (TableOwn κ' m)) ((shr_copy 𝓛 (named 1) κ' Table).twice m (table_at m ∷ [])) $ split ! $
+      use1 𝓛 (‵ (TableOwn κ' m) ⊛ ‵ (TableOwn κ' m)) ((shr_copy 𝓛 (named 1) κ' Table table_laws).twice m (table_at m ∷ [])) $ split ! $
       -- [the table's; the table's; true; the slice's; the slice's]
       move ! (0 ∷ 2 ∷ []) $ fjoin ! $ move ! (2 ∷ 0 ∷ []) $ fjoin ! $ nothing ! $ move ! (2 ∷ 0 ∷ []) $ fjoin ! $ move ! (2 ∷ 0 ∷ []) $ fjoin ! $
       frame ! $ done !

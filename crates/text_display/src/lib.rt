@@ -98,7 +98,7 @@ fn numbers(s: &[u8], marks: &FlagTable) -> Opening
 
 // It stands at a place in nibbles, with the body's end, and has so many spaces of a run still to give. Where opening was refused
 // it has the refusal's number and place, and stands at its end.
-#[derive(Drop)]
+#[derive(Clone, Copy)]
 pub struct Reader<'a> {
     pub report: &'a [u8],
     pub at: usize,
