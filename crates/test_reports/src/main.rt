@@ -76,19 +76,15 @@ fn fresh_one(rt: &HostRuntime) -> io::Result<()> {
 }
 
 fn get_values(rt: &HostRuntime, values: &mut [i64]) -> io::Result<()> {
-    let mut i = 0;
-    while i < values.len() {
-        values[i] = test_io::get_signed(rt)?;
-        i += 1;
+    for value in values {
+        *value = test_io::get_signed(rt)?;
     }
     Ok(())
 }
 
 fn put_values(rt: &HostRuntime, values: &[i64]) -> io::Result<()> {
-    let mut i = 0;
-    while i < values.len() {
-        test_io::put_signed(rt, values[i])?;
-        i += 1;
+    for value in values {
+        test_io::put_signed(rt, *value)?;
     }
     Ok(())
 }
@@ -455,19 +451,15 @@ fn pack_one(rt: &HostRuntime, trip: bool, marks: &FlagTable) -> io::Result<()> {
 }
 
 fn get_entries(rt: &HostRuntime, table: &mut [u16]) -> io::Result<()> {
-    let mut i = 0;
-    while i < table.len() {
-        table[i] = (test_io::get2(rt)? % 65536) as u16;
-        i += 1;
+    for entry in table {
+        *entry = (test_io::get2(rt)? % 65536) as u16;
     }
     Ok(())
 }
 
 fn put_entries(rt: &HostRuntime, table: &[u16]) -> io::Result<()> {
-    let mut i = 0;
-    while i < table.len() {
-        test_io::put2(rt, table[i] as u64)?;
-        i += 1;
+    for entry in table {
+        test_io::put2(rt, *entry as u64)?;
     }
     Ok(())
 }
