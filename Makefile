@@ -22,17 +22,21 @@ needs = @for tool in $(2); do command -v $$tool >/dev/null || { echo "make $(1):
 # Every program in C is compiled so.
 c99 = gcc -std=c99 -Wall -Wextra -pedantic -Werror
 
+# What rt builds for use runs on every x86-64 processor; with no such flag it would need one of x86-64-v2.
+cpu = --cpu x86-64
+
 # The same as the gate, with how far it is on standard error.
 test:
 	$(call needs,test,rt)
 	@scripts/progress 'make test' all .ci/run
 
 # Lists the report that standard input begins with: make list < report
+# `rt run` proves and builds the lister and runs it, here on the report that the gate runs it on.
 list:
 	$(call needs,list,rt)
 	@[ ! -t 0 ] || { echo 'make list: no report on standard input; try: make list < crates/lister/stdin' >&2; exit 2; }
-	@scripts/progress 'make list' lister rt check lister >/dev/null
-	@target/bin/lister
+	@scripts/progress 'make list' lister sh -c 'cd crates/lister && mkdir -p out && rt run $(cpu) <stdin >out/listed && cmp out/listed stdout' >/dev/null
+	@crates/lister/out/lister
 
 # The name under which a program loads the shared library: it has the major number of the version.
 soname := liblmr5.so.$(shell awk '$$2 == "LMR5_VERSION_MAJOR" { print $$3 }' include/lmr5.h)
@@ -44,21 +48,21 @@ library = lib/liblmr5.a lib/$(soname) lib/liblmr5.so
 lib: $(library)
 	@echo 'make lib: lib/liblmr5.a and lib/liblmr5.so are up to date' >&2
 
-sources = crates.txt include/lmr5.h header/declarations CHANGELOG.md docs/FORMAT.md $(shell find crates header/src header/refusals.c -name '*.rt' -o -name '*.antt' -o -name '*.rs' -o -name '*.c')
+sources = crates.txt include/lmr5.h header/declarations CHANGELOG.md docs/FORMAT.md $(shell find crates header/src header/refusals.c -name out -prune -o '(' -name '*.rt' -o -name '*.antt' -o -name '*.rs' -o -name '*.c' ')' -print)
 
 $(library) &: $(sources)
 	$(call needs,lib,rt gcc cargo)
-	@scripts/progress 'make lib' lmr5 sh -c 'rt check $(shell sed -n 's/^lmr5://p' crates.txt) && rt staticlib lmr5' >/dev/null
+	@scripts/progress 'make lib' lmr5_c sh -c 'cd crates/lmr5_c && rt lib $(cpu)' >/dev/null
 	@echo 'make lib: linking, and comparing the header with the code' >&2
 	@mkdir -p lib
-	@cp target/staticlib/liblmr5.a lib/made.a
+	@cp crates/lmr5_c/out/liblmr5_c.a lib/made.a
 	gcc -shared -Wl,-soname,$(soname) -o lib/made.so -Wl,--whole-archive lib/made.a -Wl,--no-whole-archive
 	@$(MAKE) --no-print-directory header-test
 	$(c99) -Iinclude -o lib/refusals header/refusals.c lib/made.a
 	lib/refusals
 	@mv lib/made.a lib/liblmr5.a && mv lib/made.so lib/$(soname) && echo 'INPUT($(soname))' >lib/liblmr5.so
 
-# Compares the header with what crates/lmr5 exports, with the definitions and with the record of its declarations, and compiles
+# Compares the header with what crates/lmr5_c exports, with the definitions and with the record of its declarations, and compiles
 # it as C99 and, with g++, as C++.
 header-test:
 	$(call needs,header-test,gcc cargo)

@@ -2,7 +2,7 @@
  * Packed LMR.5 marine reports: judged, read and corrected in place.
  *
  * Link lib/liblmr5.a or lib/liblmr5.so, which `make lib` gives. Each function of the library is proved, on every input, to meet
- * its promise in crates/lmr5/src/lib.rt. This header says the same in words, and docs/FORMAT.md in full; its signatures and
+ * its promise in crates/lmr5_c/src/lib.rt. This header says the same in words, and docs/FORMAT.md in full; its signatures and
  * numbers are tested against the code. The two functions that are defined here are tested. CHANGELOG.md has the versions.
  *
  * WHAT A CALL GETS
