@@ -9,6 +9,7 @@ use Rattle.format.specs.Flags.{FlagTable}
 use Rattle.text_display.specs.declared.Step.{Step}
 use Rattle.text_display.specs.declared.Step.TheVariants.{Given, End}
 use Rattle.text_display.specs.Steps.{step_at, symbol_given, step_number, numbers_of, Opens}
+use Rattle.test_reports.specs.declared.FirstSteps.{FirstSteps}
 use Rattle.test_reports.specs.declared.Standing.{Standing}
 use Rattle.test_reports.specs.FirstThree.{stands_behind, InTurn}
 
@@ -58,3 +59,24 @@ module _ (marks : FlagTable) (b : List ℕ) (at end number place : ℕ) (opens :
     second = ap symbol_given (behind-step b at end 0 0) ∙ opens.gives 1;
     third = ap symbol_given (behind-step b once.at end once.spaces 0 ∙ behind-step b at end 0 1) ∙ opens.gives 2;
   }
+
+-- three steps, each of a reader that stands behind the step before, of a reader that was opened
+pub three_in_turn : (marks : FlagTable) (b : List ℕ) (at end number place : ℕ) → Opens marks b (numbers_of at end number place)
+    → (r : FirstSteps) (first second : Standing) → r.number ≡ number → r.place ≡ place
+    → r.first ≡ step_at b at end 0 → first ≡ stands_behind r.first at
+    → r.second ≡ step_at b first.at end first.spaces → second ≡ stands_behind r.second first.at
+    → r.third ≡ step_at b second.at end second.spaces → InTurn marks b r
+three_in_turn marks b at end number place opens r first second n p e1 f1 e2 f2 e3 =
+    let told = in_turn marks b at end number place opens in
+    let behind1 : first ≡ stands_behind (step_at b at end 0) at = f1 ∙ ap (λ s. stands_behind s at) e1 in
+    let step2 : r.second ≡ two marks b at end number place opens = e2 ∙ ap (λ (s : Standing). step_at b s.at end s.spaces) behind1 in
+    let behind2 : second ≡ twice marks b at end number place opens =
+    f2 ∙ ap (λ s. stands_behind s first.at) step2 ∙ ap (λ (s : Standing). stands_behind (two marks b at end number place opens) s.at) behind1 in
+    let step3 : r.third ≡ three marks b at end number place opens = e3 ∙ ap (λ (s : Standing). step_at b s.at end s.spaces) behind2 in
+    record {
+      number = n ∙ told.number;
+      place = p ∙ told.place;
+      first = ap symbol_given e1 ∙ told.first;
+      second = ap symbol_given step2 ∙ told.second;
+      third = ap symbol_given step3 ∙ told.third;
+    }

@@ -8,197 +8,235 @@ use format::{FlagTable, Reply, Scaled};
 use fresh::Started;
 use pack::Packed;
 use report::{Compared, Judged};
+use std::io;
 use test_io::Kind;
 use text_display::Step;
 use unpack::Unpacked;
 
-fn judge_in(s: &[u8], marks: &FlagTable) {
+fn judge_in(rt: &HostRuntime, s: &[u8], marks: &FlagTable) -> io::Result<()> {
     let j = report::judge(s, *marks);
     match j {
-        Judged::Refused(number, place) => test_io::put_refused(number, place),
-        Judged::Accepted(size) => test_io::put_head(2, 0, size as u64),
+        Judged::Refused(number, place) => test_io::put_refused(rt, number, place),
+        Judged::Accepted(size) => test_io::put_head(rt, 2, 0, size as u64),
     }
 }
 
-fn list_in(s: &[u8]) {
+fn list_in(rt: &HostRuntime, s: &[u8]) -> io::Result<()> {
     let mut lines = [0u8; 512];
     let n = lister_lines::list(s, &mut lines);
-    test_io::put_bytes(&lines[..n]);
+    test_io::put_bytes(rt, &lines[..n])
 }
 
-fn same_second(a: &[u8], b: &mut [u8], marks: &FlagTable) {
-    test_io::get_bytes(b);
+fn same_second(rt: &HostRuntime, a: &[u8], b: &mut [u8], marks: &FlagTable) -> io::Result<()> {
+    test_io::get_bytes(rt, b)?;
     let c = report::same(a, b, marks);
     match c {
-        Compared::Refused(number, place) => test_io::put_refused(number, place),
-        Compared::Same => test_io::put_head(2, 0, 1),
-        Compared::Different => test_io::put_head(2, 0, 0),
+        Compared::Refused(number, place) => test_io::put_refused(rt, number, place),
+        Compared::Same => test_io::put_head(rt, 2, 0, 1),
+        Compared::Different => test_io::put_head(rt, 2, 0, 0),
     }
 }
 
-fn same_in(a: &[u8], marks: &FlagTable) {
+fn same_in(rt: &HostRuntime, a: &[u8], marks: &FlagTable) -> io::Result<()> {
     let mut b = [0u8; 2000];
-    let n = test_io::get_length(2000);
-    same_second(a, &mut b[..n], marks);
+    let n = test_io::get_length(rt, 2000)?;
+    same_second(rt, a, &mut b[..n], marks)
 }
 
-fn put_started(r: Started) {
+fn put_started(rt: &HostRuntime, r: Started) -> io::Result<()> {
     match r {
-        Started::Refused(number, place) => test_io::put_refused(number, place),
-        Started::Written => test_io::put_head(1, 0, 0),
+        Started::Refused(number, place) => test_io::put_refused(rt, number, place),
+        Started::Written => test_io::put_head(rt, 1, 0, 0),
     }
 }
 
-fn fresh_in(box10: Scaled, year: Scaled, month: Scaled, x: Scaled, y: Scaled, out: &mut [u8]) {
-    test_io::get_bytes(out);
-    put_started(fresh::fresh(box10, year, month, x, y, out));
-    test_io::put_bytes(out);
+fn fresh_in(
+    rt: &HostRuntime,
+    box10: Scaled,
+    year: Scaled,
+    month: Scaled,
+    x: Scaled,
+    y: Scaled,
+    out: &mut [u8],
+) -> io::Result<()> {
+    test_io::get_bytes(rt, out)?;
+    put_started(rt, fresh::fresh(box10, year, month, x, y, out))?;
+    test_io::put_bytes(rt, out)
 }
 
-fn fresh_one() {
-    let box10 = Scaled(test_io::get_signed());
-    let year = Scaled(test_io::get_signed());
-    let month = Scaled(test_io::get_signed());
-    let x = Scaled(test_io::get_signed());
-    let y = Scaled(test_io::get_signed());
+fn fresh_one(rt: &HostRuntime) -> io::Result<()> {
+    let box10 = Scaled(test_io::get_signed(rt)?);
+    let year = Scaled(test_io::get_signed(rt)?);
+    let month = Scaled(test_io::get_signed(rt)?);
+    let x = Scaled(test_io::get_signed(rt)?);
+    let y = Scaled(test_io::get_signed(rt)?);
     let mut out = [0u8; 2000];
-    let n = test_io::get_length(2000);
-    fresh_in(box10, year, month, x, y, &mut out[..n]);
+    let n = test_io::get_length(rt, 2000)?;
+    fresh_in(rt, box10, year, month, x, y, &mut out[..n])
 }
 
-fn get_values(values: &mut [i64]) {
-    let mut i = 0;
-    while i < values.len() {
-        values[i] = test_io::get_signed();
-        i += 1;
+fn get_values(rt: &HostRuntime, values: &mut [i64]) -> io::Result<()> {
+    for value in values {
+        *value = test_io::get_signed(rt)?;
     }
+    Ok(())
 }
 
-fn put_values(values: &[i64]) {
-    let mut i = 0;
-    while i < values.len() {
-        test_io::put_signed(values[i]);
-        i += 1;
+fn put_values(rt: &HostRuntime, values: &[i64]) -> io::Result<()> {
+    for value in values {
+        test_io::put_signed(rt, *value)?;
     }
+    Ok(())
 }
 
-fn put_unpacked(r: Unpacked) {
+fn put_unpacked(rt: &HostRuntime, r: Unpacked) -> io::Result<()> {
     match r {
-        Unpacked::Refused(number, place) => test_io::put_refused(number, place),
+        Unpacked::Refused(number, place) => test_io::put_refused(rt, number, place),
         Unpacked::Given(c) => {
-            test_io::put_head(1, 0, 0);
-            test_io::put8(c.word);
-            test_io::put8(c.present as u64);
-            test_io::put8(c.rptin as u64);
-            test_io::put8(c.attachments as u64);
-            test_io::put8(c.bytes as u64);
-            test_io::put8(c.nibbles as u64);
+            test_io::put_head(rt, 1, 0, 0)?;
+            test_io::put8(rt, c.word)?;
+            test_io::put8(rt, c.present as u64)?;
+            test_io::put8(rt, c.rptin as u64)?;
+            test_io::put8(rt, c.attachments as u64)?;
+            test_io::put8(rt, c.bytes as u64)?;
+            test_io::put8(rt, c.nibbles as u64)
         }
     }
 }
 
-fn put_packed(r: Packed) {
+fn put_packed(rt: &HostRuntime, r: Packed) -> io::Result<()> {
     match r {
-        Packed::Refused(number, place) => test_io::put_refused(number, place),
-        Packed::Written(size) => test_io::put_head(2, 0, size as u64),
+        Packed::Refused(number, place) => test_io::put_refused(rt, number, place),
+        Packed::Written(size) => test_io::put_head(rt, 2, 0, size as u64),
     }
 }
 
-fn put_lent(values: &[i64], tail: &[u8], out: &[u8]) {
-    put_values(values);
-    test_io::put_bytes(tail);
-    test_io::put_bytes(out);
+fn put_lent(rt: &HostRuntime, values: &[i64], tail: &[u8], out: &[u8]) -> io::Result<()> {
+    put_values(rt, values)?;
+    test_io::put_bytes(rt, tail)?;
+    test_io::put_bytes(rt, out)
 }
 
-fn restore_out(s: &[u8], values: &mut [i64], tail: &mut [u8], out: &mut [u8], marks: &FlagTable) {
-    test_io::get_bytes(out);
-    put_packed(trips::restore(s, values, tail, out, marks));
-    put_lent(values, tail, out);
+fn restore_out(
+    rt: &HostRuntime,
+    s: &[u8],
+    values: &mut [i64],
+    tail: &mut [u8],
+    out: &mut [u8],
+    marks: &FlagTable,
+) -> io::Result<()> {
+    test_io::get_bytes(rt, out)?;
+    put_packed(rt, trips::restore(s, values, tail, out, marks))?;
+    put_lent(rt, values, tail, out)
 }
 
-fn restore_tail(s: &[u8], values: &mut [i64], tail: &mut [u8], marks: &FlagTable) {
+fn restore_tail(
+    rt: &HostRuntime,
+    s: &[u8],
+    values: &mut [i64],
+    tail: &mut [u8],
+    marks: &FlagTable,
+) -> io::Result<()> {
     let mut out = [0u8; 2000];
-    let n = test_io::get_length(2000);
-    restore_out(s, values, tail, &mut out[..n], marks);
+    let n = test_io::get_length(rt, 2000)?;
+    restore_out(rt, s, values, tail, &mut out[..n], marks)
 }
 
-fn unpack_tail(s: &[u8], values: &mut [i64], tail: &mut [u8], trip: bool, marks: &FlagTable) {
-    test_io::get_bytes(tail);
+fn unpack_tail(
+    rt: &HostRuntime,
+    s: &[u8],
+    values: &mut [i64],
+    tail: &mut [u8],
+    trip: bool,
+    marks: &FlagTable,
+) -> io::Result<()> {
+    test_io::get_bytes(rt, tail)?;
     if trip {
-        restore_tail(s, values, tail, marks);
-        return;
+        return restore_tail(rt, s, values, tail, marks);
     }
-    put_unpacked(unpack::unpack(s, values, tail, marks));
-    put_values(values);
-    test_io::put_bytes(tail);
+    put_unpacked(rt, unpack::unpack(s, values, tail, marks))?;
+    put_values(rt, values)?;
+    test_io::put_bytes(rt, tail)
 }
 
-fn unpack_values(s: &[u8], values: &mut [i64], trip: bool, marks: &FlagTable) {
-    get_values(values);
+fn unpack_values(
+    rt: &HostRuntime,
+    s: &[u8],
+    values: &mut [i64],
+    trip: bool,
+    marks: &FlagTable,
+) -> io::Result<()> {
+    get_values(rt, values)?;
     let mut tail = [0u8; 4200];
-    let n = test_io::get_length(4200);
-    unpack_tail(s, values, &mut tail[..n], trip, marks);
+    let n = test_io::get_length(rt, 4200)?;
+    unpack_tail(rt, s, values, &mut tail[..n], trip, marks)
 }
 
 // A report unpacked; with trip, packed again.
-fn unpack_in(s: &[u8], trip: bool, marks: &FlagTable) {
+fn unpack_in(rt: &HostRuntime, s: &[u8], trip: bool, marks: &FlagTable) -> io::Result<()> {
     let mut values = [0i64; 60];
-    let n = test_io::get_length(60);
-    unpack_values(s, &mut values[..n], trip, marks);
+    let n = test_io::get_length(rt, 60)?;
+    unpack_values(rt, s, &mut values[..n], trip, marks)
 }
 
-fn put_read(r: Reply) {
+fn put_read(rt: &HostRuntime, r: Reply) -> io::Result<()> {
     match r {
-        Reply::Refused(number, place) => test_io::put_refused(number, place),
+        Reply::Refused(number, place) => test_io::put_refused(rt, number, place),
         Reply::Text(n, set, nibbles) => {
-            test_io::put_head(2, 0, n as u64);
-            test_io::put8(set as u64);
-            test_io::put8(nibbles as u64);
+            test_io::put_head(rt, 2, 0, n as u64)?;
+            test_io::put8(rt, set as u64)?;
+            test_io::put8(rt, nibbles as u64)
         }
-        _ => (),
+        _ => Ok(()),
     }
 }
 
-fn read_origins(s: &[u8], out: &mut [u8], origins: &mut [u8], marks: &FlagTable) {
-    test_io::get_bytes(origins);
-    put_read(text_display::read_out(s, out, origins, marks));
-    test_io::put_bytes(out);
-    test_io::put_bytes(origins);
+fn read_origins(
+    rt: &HostRuntime,
+    s: &[u8],
+    out: &mut [u8],
+    origins: &mut [u8],
+    marks: &FlagTable,
+) -> io::Result<()> {
+    test_io::get_bytes(rt, origins)?;
+    put_read(rt, text_display::read_out(s, out, origins, marks))?;
+    test_io::put_bytes(rt, out)?;
+    test_io::put_bytes(rt, origins)
 }
 
-fn read_text(s: &[u8], out: &mut [u8], marks: &FlagTable) {
-    test_io::get_bytes(out);
+fn read_text(rt: &HostRuntime, s: &[u8], out: &mut [u8], marks: &FlagTable) -> io::Result<()> {
+    test_io::get_bytes(rt, out)?;
     let mut origins = [0u8; 2400];
-    let n = test_io::get_length(2400);
-    read_origins(s, out, &mut origins[..n], marks);
+    let n = test_io::get_length(rt, 2400)?;
+    read_origins(rt, s, out, &mut origins[..n], marks)
 }
 
 // The ship text of a report, read out.
-fn read_in(s: &[u8], marks: &FlagTable) {
+fn read_in(rt: &HostRuntime, s: &[u8], marks: &FlagTable) -> io::Result<()> {
     let mut out = [0u8; 2400];
-    let n = test_io::get_length(2400);
-    read_text(s, &mut out[..n], marks);
+    let n = test_io::get_length(rt, 2400)?;
+    read_text(rt, s, &mut out[..n], marks)
 }
 
-fn put_found(r: Reply) {
+fn put_found(rt: &HostRuntime, r: Reply) -> io::Result<()> {
     match r {
-        Reply::Refused(number, place) => test_io::put_refused(number, place),
-        Reply::Count(n) => test_io::put_head(2, 0, n as u64),
-        _ => (),
+        Reply::Refused(number, place) => test_io::put_refused(rt, number, place),
+        Reply::Count(n) => test_io::put_head(rt, 2, 0, n as u64),
+        _ => Ok(()),
     }
 }
 
-fn find_out(s: &[u8], out: &mut [u8], marks: &FlagTable) {
-    test_io::get_bytes(out);
-    put_found(call_indicators::find(s, out, marks));
-    test_io::put_bytes(out);
+fn find_out(rt: &HostRuntime, s: &[u8], out: &mut [u8], marks: &FlagTable) -> io::Result<()> {
+    test_io::get_bytes(rt, out)?;
+    put_found(rt, call_indicators::find(s, out, marks))?;
+    test_io::put_bytes(rt, out)
 }
 
 // The indicators of a report that have lost their data.
-fn find_in(s: &[u8], marks: &FlagTable) {
+fn find_in(rt: &HostRuntime, s: &[u8], marks: &FlagTable) -> io::Result<()> {
     let mut out = [0u8; 200];
-    let n = test_io::get_length(200);
-    find_out(s, &mut out[..n], marks);
+    let n = test_io::get_length(rt, 200)?;
+    find_out(rt, s, &mut out[..n], marks)
 }
 
 // A place in nibbles, and the spaces of a run that are still to give there.
@@ -249,54 +287,54 @@ fn first_steps(report: &[u8], table: &FlagTable) -> FirstSteps
     }
 }
 
-fn put_step(step: Step) {
+fn put_step(rt: &HostRuntime, step: Step) -> io::Result<()> {
     match step {
-        Step::Given(byte, origin, _, _) => test_io::put_bytes(&[1, byte, origin]),
-        Step::End => test_io::put_bytes(&[0, 0, 0]),
+        Step::Given(byte, origin, _, _) => test_io::put_bytes(rt, &[1, byte, origin]),
+        Step::End => test_io::put_bytes(rt, &[0, 0, 0]),
     }
 }
 
-fn put_opening(number: u8, place: usize) {
+fn put_opening(rt: &HostRuntime, number: u8, place: usize) -> io::Result<()> {
     if number == 0 {
-        test_io::put_head(1, 0, 0);
-        return;
+        return test_io::put_head(rt, 1, 0, 0);
     }
-    test_io::put_refused(number, place);
+    test_io::put_refused(rt, number, place)
 }
 
 // A reader of the ship text opened, and its first three steps.
-fn steps_in(report: &[u8], table: &FlagTable) {
+fn steps_in(rt: &HostRuntime, report: &[u8], table: &FlagTable) -> io::Result<()> {
     let steps = first_steps(report, table);
     let first = steps.first;
     let second = steps.second;
     let third = steps.third;
-    put_opening(steps.number, steps.place);
-    put_step(first);
-    put_step(second);
-    put_step(third);
+    put_opening(rt, steps.number, steps.place)?;
+    put_step(rt, first)?;
+    put_step(rt, second)?;
+    put_step(rt, third)
 }
 
-fn report_in(kind: u8, s: &mut [u8], marks: &FlagTable) {
-    test_io::get_bytes(s);
+fn report_in(rt: &HostRuntime, kind: u8, s: &mut [u8], marks: &FlagTable) -> io::Result<()> {
+    test_io::get_bytes(rt, s)?;
     match kind {
-        1 => judge_in(s, marks),
-        2 => list_in(s),
-        6 => same_in(s, marks),
-        11 => read_in(s, marks),
-        13 => find_in(s, marks),
-        14 => steps_in(s, marks),
-        _ => unpack_in(s, kind == 7, marks),
+        1 => judge_in(rt, s, marks),
+        2 => list_in(rt, s),
+        6 => same_in(rt, s, marks),
+        11 => read_in(rt, s, marks),
+        13 => find_in(rt, s, marks),
+        14 => steps_in(rt, s, marks),
+        _ => unpack_in(rt, s, kind == 7, marks),
     }
 }
 
 // A vector that begins with a report.
-fn report_one(kind: u8, marks: &FlagTable) {
+fn report_one(rt: &HostRuntime, kind: u8, marks: &FlagTable) -> io::Result<()> {
     let mut s = [0u8; 2000];
-    let n = test_io::get_length(2000);
-    report_in(kind, &mut s[..n], marks);
+    let n = test_io::get_length(rt, 2000)?;
+    report_in(rt, kind, &mut s[..n], marks)
 }
 
 fn recover_tail(
+    rt: &HostRuntime,
     values: &[i64],
     word: u64,
     rptin: u16,
@@ -305,13 +343,17 @@ fn recover_tail(
     values_out: &mut [i64],
     tail_out: &mut [u8],
     marks: &FlagTable,
-) {
-    test_io::get_bytes(tail_out);
-    put_unpacked(trips::recover(values, word, rptin, tail, out, values_out, tail_out, marks));
-    put_lent(values_out, tail_out, out);
+) -> io::Result<()> {
+    test_io::get_bytes(rt, tail_out)?;
+    put_unpacked(
+        rt,
+        trips::recover(values, word, rptin, tail, out, values_out, tail_out, marks),
+    )?;
+    put_lent(rt, values_out, tail_out, out)
 }
 
 fn recover_values(
+    rt: &HostRuntime,
     values: &[i64],
     word: u64,
     rptin: u16,
@@ -319,11 +361,12 @@ fn recover_values(
     out: &mut [u8],
     values_out: &mut [i64],
     marks: &FlagTable,
-) {
-    get_values(values_out);
+) -> io::Result<()> {
+    get_values(rt, values_out)?;
     let mut tail_out = [0u8; 4200];
-    let n = test_io::get_length(4200);
+    let n = test_io::get_length(rt, 4200)?;
     recover_tail(
+        rt,
         values,
         word,
         rptin,
@@ -332,23 +375,34 @@ fn recover_values(
         values_out,
         &mut tail_out[..n],
         marks,
-    );
+    )
 }
 
 fn recover_out(
+    rt: &HostRuntime,
     values: &[i64],
     word: u64,
     rptin: u16,
     tail: &[u8],
     out: &mut [u8],
     marks: &FlagTable,
-) {
+) -> io::Result<()> {
     let mut values_out = [0i64; 60];
-    let n = test_io::get_length(60);
-    recover_values(values, word, rptin, tail, out, &mut values_out[..n], marks);
+    let n = test_io::get_length(rt, 60)?;
+    recover_values(
+        rt,
+        values,
+        word,
+        rptin,
+        tail,
+        out,
+        &mut values_out[..n],
+        marks,
+    )
 }
 
 fn pack_out(
+    rt: &HostRuntime,
     values: &[i64],
     word: u64,
     rptin: u16,
@@ -356,82 +410,80 @@ fn pack_out(
     out: &mut [u8],
     trip: bool,
     marks: &FlagTable,
-) {
-    test_io::get_bytes(out);
+) -> io::Result<()> {
+    test_io::get_bytes(rt, out)?;
     if trip {
-        recover_out(values, word, rptin, tail, out, marks);
-        return;
+        return recover_out(rt, values, word, rptin, tail, out, marks);
     }
-    put_packed(pack::pack(values, word, rptin, tail, out, marks));
-    test_io::put_bytes(out);
+    put_packed(rt, pack::pack(values, word, rptin, tail, out, marks))?;
+    test_io::put_bytes(rt, out)
 }
 
 fn pack_tail(
+    rt: &HostRuntime,
     values: &[i64],
     word: u64,
     rptin: u16,
     tail: &mut [u8],
     trip: bool,
     marks: &FlagTable,
-) {
-    test_io::get_bytes(tail);
+) -> io::Result<()> {
+    test_io::get_bytes(rt, tail)?;
     let mut out = [0u8; 2000];
-    let n = test_io::get_length(2000);
-    pack_out(values, word, rptin, tail, &mut out[..n], trip, marks);
+    let n = test_io::get_length(rt, 2000)?;
+    pack_out(rt, values, word, rptin, tail, &mut out[..n], trip, marks)
 }
 
-fn pack_in(values: &mut [i64], trip: bool, marks: &FlagTable) {
-    get_values(values);
-    let word = test_io::get8();
-    let rptin = (test_io::get2() % 65536) as u16;
+fn pack_in(rt: &HostRuntime, values: &mut [i64], trip: bool, marks: &FlagTable) -> io::Result<()> {
+    get_values(rt, values)?;
+    let word = test_io::get8(rt)?;
+    let rptin = (test_io::get2(rt)? % 65536) as u16;
     let mut tail = [0u8; 4200];
-    let n = test_io::get_length(4200);
-    pack_tail(values, word, rptin, &mut tail[..n], trip, marks);
+    let n = test_io::get_length(rt, 4200)?;
+    pack_tail(rt, values, word, rptin, &mut tail[..n], trip, marks)
 }
 
 // Values packed; with trip, unpacked again.
-fn pack_one(trip: bool, marks: &FlagTable) {
+fn pack_one(rt: &HostRuntime, trip: bool, marks: &FlagTable) -> io::Result<()> {
     let mut values = [0i64; 60];
-    let n = test_io::get_length(60);
-    pack_in(&mut values[..n], trip, marks);
+    let n = test_io::get_length(rt, 60)?;
+    pack_in(rt, &mut values[..n], trip, marks)
 }
 
-fn get_entries(table: &mut [u16]) {
-    let mut i = 0;
-    while i < table.len() {
-        table[i] = (test_io::get2() % 65536) as u16;
-        i += 1;
+fn get_entries(rt: &HostRuntime, table: &mut [u16]) -> io::Result<()> {
+    for entry in table {
+        *entry = (test_io::get2(rt)? % 65536) as u16;
     }
+    Ok(())
 }
 
-fn put_entries(table: &[u16]) {
-    let mut i = 0;
-    while i < table.len() {
-        test_io::put2(table[i] as u64);
-        i += 1;
+fn put_entries(rt: &HostRuntime, table: &[u16]) -> io::Result<()> {
+    for entry in table {
+        test_io::put2(rt, *entry as u64)?;
     }
+    Ok(())
 }
 
 // The table of the characters, over what stood there.
-fn characters_one() {
+fn characters_one(rt: &HostRuntime) -> io::Result<()> {
     let mut table = [0u16; 256];
-    get_entries(&mut table);
+    get_entries(rt, &mut table)?;
     characters::generate(&mut table);
-    test_io::put_head(1, 0, 0);
-    put_entries(&table);
+    test_io::put_head(rt, 1, 0, 0)?;
+    put_entries(rt, &table)
 }
 
 // The answer to a text that is put.
-fn put_put(r: Reply) {
+fn put_put(rt: &HostRuntime, r: Reply) -> io::Result<()> {
     match r {
-        Reply::Refused(number, place) => test_io::put_refused(number, place),
-        Reply::Nibbles(n) => test_io::put_head(2, 0, n as u64),
-        _ => (),
+        Reply::Refused(number, place) => test_io::put_refused(rt, number, place),
+        Reply::Nibbles(n) => test_io::put_head(rt, 2, 0, n as u64),
+        _ => Ok(()),
     }
 }
 
 // Puts a text to a fresh report with room behind it.
-fn put_fresh(text: &[u8], origins: &[u8]) {
+fn put_fresh(rt: &HostRuntime, text: &[u8], origins: &[u8]) -> io::Result<()> {
     let mut s = [0u8; 200];
     let marks = flag_table::all_yes();
     fresh::fresh(
@@ -442,85 +494,96 @@ fn put_fresh(text: &[u8], origins: &[u8]) {
         Scaled(0),
         &mut s,
     );
-    put_put(call_puts::put_text(&mut s, text, origins, &marks));
+    put_put(rt, call_puts::put_text(&mut s, text, origins, &marks))
 }
 
 // The marks, the bytes that are not the program's choice, and what a put of the text gives.
-fn show_costliest(r: Reply, m: usize, text: &[u8], origins: &[u8]) {
+fn show_costliest(
+    rt: &HostRuntime,
+    r: Reply,
+    m: usize,
+    text: &[u8],
+    origins: &[u8],
+) -> io::Result<()> {
     match r {
         Reply::Done => {
-            test_io::put_head(1, 0, 0);
-            test_io::put_bytes(origins);
+            test_io::put_head(rt, 1, 0, 0)?;
+            test_io::put_bytes(rt, origins)?;
             if m <= text.len() {
-                test_io::put_bytes(&text[m..]);
+                test_io::put_bytes(rt, &text[m..])?;
                 if m <= origins.len() {
-                    put_fresh(&text[..m], &origins[..m]);
+                    put_fresh(rt, &text[..m], &origins[..m])?;
                 }
             }
         }
         Reply::Refused(number, place) => {
-            test_io::put_refused(number, place);
-            test_io::put_bytes(origins);
-            test_io::put_bytes(text);
+            test_io::put_refused(rt, number, place)?;
+            test_io::put_bytes(rt, origins)?;
+            test_io::put_bytes(rt, text)?;
         }
         _ => (),
     }
+    Ok(())
 }
 
-fn costliest_origins(m: usize, text: &mut [u8], origins: &mut [u8]) {
-    test_io::get_bytes(origins);
+fn costliest_origins(
+    rt: &HostRuntime,
+    m: usize,
+    text: &mut [u8],
+    origins: &mut [u8],
+) -> io::Result<()> {
+    test_io::get_bytes(rt, origins)?;
     let r = text_cost::costliest(m, text, origins);
-    show_costliest(r, m, text, origins);
+    show_costliest(rt, r, m, text, origins)
 }
 
-fn costliest_text(m: usize, text: &mut [u8]) {
-    test_io::get_bytes(text);
+fn costliest_text(rt: &HostRuntime, m: usize, text: &mut [u8]) -> io::Result<()> {
+    test_io::get_bytes(rt, text)?;
     let mut origins = [0u8; 200];
-    let n = test_io::get_length(200);
-    costliest_origins(m, text, &mut origins[..n]);
+    let n = test_io::get_length(rt, 200)?;
+    costliest_origins(rt, m, text, &mut origins[..n])
 }
 
 // The costliest text of so many symbols.
-fn costliest_one() {
-    let m = test_io::get8() as usize;
+fn costliest_one(rt: &HostRuntime) -> io::Result<()> {
+    let m = test_io::get8(rt)? as usize;
     let mut text = [0u8; 200];
-    let n = test_io::get_length(200);
-    costliest_text(m, &mut text[..n]);
+    let n = test_io::get_length(rt, 200)?;
+    costliest_text(rt, m, &mut text[..n])
 }
 
 // One vector under a table; false at the end of the input.
-fn one(kind: u8, marks: &FlagTable) -> bool {
+fn one(rt: &HostRuntime, kind: u8, marks: &FlagTable) -> io::Result<bool> {
     match kind {
-        1 | 2 | 4 | 6 | 7 | 11 | 13 | 14 => report_one(kind, marks),
-        3 => fresh_one(),
-        5 | 8 => pack_one(kind == 8, marks),
-        9 => characters_one(),
-        12 => costliest_one(),
-        _ => return false,
+        1 | 2 | 4 | 6 | 7 | 11 | 13 | 14 => report_one(rt, kind, marks)?,
+        3 => fresh_one(rt)?,
+        5 | 8 => pack_one(rt, kind == 8, marks)?,
+        9 => characters_one(rt)?,
+        12 => costliest_one(rt)?,
+        _ => return Ok(false),
     }
-    true
+    Ok(true)
 }
 
 // A table loaded, or one vector; false at the end of the input.
-fn next(marks: &mut FlagTable) -> bool {
-    let k = test_io::next();
+fn next(rt: &HostRuntime, marks: &mut FlagTable) -> io::Result<bool> {
+    let k = test_io::next(rt)?;
     let Kind::Byte(kind) = k else {
-        return false;
+        return Ok(false);
     };
     if kind == 10 {
-        test_io::load(marks);
-        return true;
+        test_io::load(rt, marks)?;
+        return Ok(true);
     }
-    one(kind, marks)
+    one(rt, kind, marks)
 }
 
-fn main() {
+fn main(rt: HostRuntime) -> io::Result<()> {
     let mut marks = flag_table::all_yes();
-    let mut left: usize = 100000;
-    while 0 < left {
-        if !next(&mut marks) {
-            return;
+    for _ in 0..100000u32 {
+        if !next(&rt, &mut marks)? {
+            break;
         }
-        left -= 1;
     }
+    Ok(())
 }

@@ -1,20 +1,21 @@
 // Runs lists of calls as scripts over vectors of the independent implementation.
 #![tactic(auto)]
 
-ghost use Rattle.std.specs.Prelude.{◌≤◌, ◌<◌};
+ghost use Rattle.std.specs.Prelude.{◌≤◌, ◌<◌, IfOk};
 
 use format::FlagTable;
+use std::io;
 use test_io::Kind;
 
 // A byte of the input; 0 at its end.
-fn byte() -> usize
-    ensures { result < 256 }
+fn byte(rt: &HostRuntime) -> io::Result<usize>
+    ensures { IfOk result (λ n. n < 256) }
 {
-    let k = test_io::next();
+    let k = test_io::next(rt)?;
     let Kind::Byte(b) = k else {
-        return 0;
+        return Ok(0);
     };
-    b as usize
+    Ok(b as usize)
 }
 
 fn least(n: usize, most: usize) -> usize
@@ -24,63 +25,73 @@ fn least(n: usize, most: usize) -> usize
 }
 
 // A length of four bytes, at most most.
-fn get_long(most: usize) -> usize
-    ensures { result ≤ most }
+fn get_long(rt: &HostRuntime, most: usize) -> io::Result<usize>
+    ensures { IfOk result (λ n. n ≤ most) }
 {
-    least(test_io::get4() as usize, most)
+    Ok(least(test_io::get4(rt)? as usize, most))
 }
 
-fn replay_in(b: &mut [u8], script: &[u8], log: &mut [u8], marks: &FlagTable) {
+fn replay_in(
+    rt: &HostRuntime,
+    b: &mut [u8],
+    script: &[u8],
+    log: &mut [u8],
+    marks: &FlagTable,
+) -> io::Result<()> {
     let r = replay::replay(b, script, log, marks);
-    test_io::put4(r.calls as u64);
-    test_io::put4(r.taken as u64);
-    test_io::put4(r.written as u64);
-    test_io::put_bytes(b);
-    test_io::put_bytes(log);
+    test_io::put4(rt, r.calls as u64)?;
+    test_io::put4(rt, r.taken as u64)?;
+    test_io::put4(rt, r.written as u64)?;
+    test_io::put_bytes(rt, b)?;
+    test_io::put_bytes(rt, log)
 }
 
-fn with_script(b: &mut [u8], script: &mut [u8], marks: &FlagTable) {
-    test_io::get_bytes(script);
+fn with_script(
+    rt: &HostRuntime,
+    b: &mut [u8],
+    script: &mut [u8],
+    marks: &FlagTable,
+) -> io::Result<()> {
+    test_io::get_bytes(rt, script)?;
     let mut log = [165u8; 60000];
-    let n = get_long(60000);
-    replay_in(b, script, &mut log[..n], marks);
+    let n = get_long(rt, 60000)?;
+    replay_in(rt, b, script, &mut log[..n], marks)
 }
 
-fn with_buffer(b: &mut [u8], marks: &FlagTable) {
-    test_io::get_bytes(b);
+fn with_buffer(rt: &HostRuntime, b: &mut [u8], marks: &FlagTable) -> io::Result<()> {
+    test_io::get_bytes(rt, b)?;
     let mut script = [0u8; 60000];
-    let n = get_long(60000);
-    with_script(b, &mut script[..n], marks);
+    let n = get_long(rt, 60000)?;
+    with_script(rt, b, &mut script[..n], marks)
 }
 
 // One list under a table, of whose buffer's length the high byte is given.
-fn one(high: u8, marks: &FlagTable) {
-    let n = least(high as usize * 256 + byte(), 2000);
+fn one(rt: &HostRuntime, high: u8, marks: &FlagTable) -> io::Result<()> {
+    let n = least(high as usize * 256 + byte(rt)?, 2000);
     let mut b = [0u8; 2000];
-    with_buffer(&mut b[..n], marks);
+    with_buffer(rt, &mut b[..n], marks)
 }
 
 // A table loaded, or one list; false at the end of the input.
-fn next(marks: &mut FlagTable) -> bool {
-    let k = test_io::next();
+fn next(rt: &HostRuntime, marks: &mut FlagTable) -> io::Result<bool> {
+    let k = test_io::next(rt)?;
     let Kind::Byte(high) = k else {
-        return false;
+        return Ok(false);
     };
     if high == 255 {
-        test_io::load(marks);
-        return true;
+        test_io::load(rt, marks)?;
+        return Ok(true);
     }
-    one(high, marks);
-    true
+    one(rt, high, marks)?;
+    Ok(true)
 }
 
-fn main() {
+fn main(rt: HostRuntime) -> io::Result<()> {
     let mut marks = flag_table::all_yes();
-    let mut left: usize = 100000;
-    while 0 < left {
-        if !next(&mut marks) {
-            return;
+    for _ in 0..100000u32 {
+        if !next(&rt, &mut marks)? {
+            break;
         }
-        left -= 1;
     }
+    Ok(())
 }

@@ -56,7 +56,8 @@ pub returns-in-28-to-30 : goal.returns-in-28-to-30
 returns-in-28-to-30 c =
     let args = c.args in
     let take-temperature2 = c.take_temperature-in-28-to-30 in
-    emptied_all _ _ _ args.k _ (on_others _ args.k c.in-28-to-30.if-k-lt28-own.false (omega (arith, c.in-28-to-30.if-k-lt31-own.true))) (omega (arith, ti_few (observation_of args.s.now))) take-temperature2.ensures
+    emptied_all _ _ _ args.k _ (on_others _ args.k c.in-28-to-30.if-k-lt28-own.false (omega (arith, c.in-28-to-30.if-k-lt31-own.true))) (omega (arith, ti_few (observation_of args.s.now)))
+    take-temperature2.ensures
 
 pub returns-in_default : goal.returns-in_default
 returns-in_default c =

@@ -32,7 +32,8 @@ returns-then-z-low c =
     let field : Field = field_in row in
     let value : Scaled = c.args.v in
     let held : to_z w64 (of_z w64 value.0) ≡ value.0 = search rules in
-    let below : (t : Bool) → lt_z (to_z w64 (of_z w64 value.0)) (to_z w64 (of_z w64 (to_z w64 (of_z w64 c.base-low.result) +ℤ pos 1))) ≡ t → lt_z value.0 (field.base +ℤ pos 1) ≡ t = λ t e. sym (ap₂ lt_z held (end_held row 1 c.base-low.result (omega arith) c.base-low.ensures)) ∙ e in
+    let below : (t : Bool) → lt_z (to_z w64 (of_z w64 value.0)) (to_z w64 (of_z w64 (to_z w64 (of_z w64 c.base-low.result) +ℤ pos 1))) ≡ t → lt_z value.0 (field.base +ℤ pos 1) ≡ t =
+    λ t e. sym (ap₂ lt_z held (end_held row 1 c.base-low.result (omega arith) c.base-low.ensures)) ∙ e in
     outside_below field value (below true c.if-z-low.true)
 
 pub returns-then-high-z : goal.returns-then-high-z
@@ -41,7 +42,9 @@ returns-then-high-z c =
     let field : Field = field_in row in
     let value : Scaled = c.args.v in
     let held : to_z w64 (of_z w64 value.0) ≡ value.0 = search rules in
-    let above : (t : Bool) → lt_z (to_z w64 (of_z w64 (to_z w64 (of_z w64 c.base-low.result) +ℤ to_z w64 (row / 65536 % 4096)))) (to_z w64 (of_z w64 value.0)) ≡ t → lt_z (field.base +ℤ pos field.highest) value.0 ≡ t = λ t e. sym (ap₂ lt_z (end_held row (row / 65536 % 4096) c.base-low.result (omega arith) c.base-low.ensures) held) ∙ e in
+    let above : (t : Bool) → lt_z (to_z w64 (of_z w64 (to_z w64 (of_z w64 c.base-low.result) +ℤ to_z w64 (row / 65536 % 4096)))) (to_z w64 (of_z w64 value.0)) ≡ t
+    → lt_z (field.base +ℤ pos field.highest) value.0 ≡ t =
+    λ t e. sym (ap₂ lt_z (end_held row (row / 65536 % 4096) c.base-low.result (omega arith) c.base-low.ensures) held) ∙ e in
     outside_above field value (above true c.if-high-z.true)
 
 pub overflow_sub-result : goal.overflow_sub-result
@@ -50,8 +53,11 @@ overflow_sub-result c =
     let field : Field = field_in row in
     let value : Scaled = c.args.v in
     let held : to_z w64 (of_z w64 value.0) ≡ value.0 = search rules in
-    let below : (t : Bool) → lt_z (to_z w64 (of_z w64 value.0)) (to_z w64 (of_z w64 (to_z w64 (of_z w64 c.base-low.result) +ℤ pos 1))) ≡ t → lt_z value.0 (field.base +ℤ pos 1) ≡ t = λ t e. sym (ap₂ lt_z held (end_held row 1 c.base-low.result (omega arith) c.base-low.ensures)) ∙ e in
-    let above : (t : Bool) → lt_z (to_z w64 (of_z w64 (to_z w64 (of_z w64 c.base-low.result) +ℤ to_z w64 (row / 65536 % 4096)))) (to_z w64 (of_z w64 value.0)) ≡ t → lt_z (field.base +ℤ pos field.highest) value.0 ≡ t = λ t e. sym (ap₂ lt_z (end_held row (row / 65536 % 4096) c.base-low.result (omega arith) c.base-low.ensures) held) ∙ e in
+    let below : (t : Bool) → lt_z (to_z w64 (of_z w64 value.0)) (to_z w64 (of_z w64 (to_z w64 (of_z w64 c.base-low.result) +ℤ pos 1))) ≡ t → lt_z value.0 (field.base +ℤ pos 1) ≡ t =
+    λ t e. sym (ap₂ lt_z held (end_held row 1 c.base-low.result (omega arith) c.base-low.ensures)) ∙ e in
+    let above : (t : Bool) → lt_z (to_z w64 (of_z w64 (to_z w64 (of_z w64 c.base-low.result) +ℤ to_z w64 (row / 65536 % 4096)))) (to_z w64 (of_z w64 value.0)) ≡ t
+    → lt_z (field.base +ℤ pos field.highest) value.0 ≡ t =
+    λ t e. sym (ap₂ lt_z (end_held row (row / 65536 % 4096) c.base-low.result (omega arith) c.base-low.ensures) held) ∙ e in
     let inside : in_range field value ≡ true = within field value (below false c.if-z-low.false) (above false c.if-high-z.false) in
     let small : (coded_of field value).0 ≤ 4095 = omega (arith, coded_range field value inside) in
     let difference : to_z w64 (of_z w64 value.0) -ℤ to_z w64 (of_z w64 c.base-low.result) ≡ pos (coded_of field value).0 = let b = c.base-low in
@@ -65,8 +71,11 @@ overflow_cast-result c =
     let field : Field = field_in row in
     let value : Scaled = c.args.v in
     let held : to_z w64 (of_z w64 value.0) ≡ value.0 = search rules in
-    let below : (t : Bool) → lt_z (to_z w64 (of_z w64 value.0)) (to_z w64 (of_z w64 (to_z w64 (of_z w64 c.base-low.result) +ℤ pos 1))) ≡ t → lt_z value.0 (field.base +ℤ pos 1) ≡ t = λ t e. sym (ap₂ lt_z held (end_held row 1 c.base-low.result (omega arith) c.base-low.ensures)) ∙ e in
-    let above : (t : Bool) → lt_z (to_z w64 (of_z w64 (to_z w64 (of_z w64 c.base-low.result) +ℤ to_z w64 (row / 65536 % 4096)))) (to_z w64 (of_z w64 value.0)) ≡ t → lt_z (field.base +ℤ pos field.highest) value.0 ≡ t = λ t e. sym (ap₂ lt_z (end_held row (row / 65536 % 4096) c.base-low.result (omega arith) c.base-low.ensures) held) ∙ e in
+    let below : (t : Bool) → lt_z (to_z w64 (of_z w64 value.0)) (to_z w64 (of_z w64 (to_z w64 (of_z w64 c.base-low.result) +ℤ pos 1))) ≡ t → lt_z value.0 (field.base +ℤ pos 1) ≡ t =
+    λ t e. sym (ap₂ lt_z held (end_held row 1 c.base-low.result (omega arith) c.base-low.ensures)) ∙ e in
+    let above : (t : Bool) → lt_z (to_z w64 (of_z w64 (to_z w64 (of_z w64 c.base-low.result) +ℤ to_z w64 (row / 65536 % 4096)))) (to_z w64 (of_z w64 value.0)) ≡ t
+    → lt_z (field.base +ℤ pos field.highest) value.0 ≡ t =
+    λ t e. sym (ap₂ lt_z (end_held row (row / 65536 % 4096) c.base-low.result (omega arith) c.base-low.ensures) held) ∙ e in
     let inside : in_range field value ≡ true = within field value (below false c.if-z-low.false) (above false c.if-high-z.false) in
     let small : (coded_of field value).0 ≤ 4095 = omega (arith, coded_range field value inside) in
     let difference : to_z w64 (of_z w64 value.0) -ℤ to_z w64 (of_z w64 c.base-low.result) ≡ pos (coded_of field value).0 = let b = c.base-low in
@@ -82,8 +91,11 @@ returns c =
     let field : Field = field_in row in
     let value : Scaled = c.args.v in
     let held : to_z w64 (of_z w64 value.0) ≡ value.0 = search rules in
-    let below : (t : Bool) → lt_z (to_z w64 (of_z w64 value.0)) (to_z w64 (of_z w64 (to_z w64 (of_z w64 c.base-low.result) +ℤ pos 1))) ≡ t → lt_z value.0 (field.base +ℤ pos 1) ≡ t = λ t e. sym (ap₂ lt_z held (end_held row 1 c.base-low.result (omega arith) c.base-low.ensures)) ∙ e in
-    let above : (t : Bool) → lt_z (to_z w64 (of_z w64 (to_z w64 (of_z w64 c.base-low.result) +ℤ to_z w64 (row / 65536 % 4096)))) (to_z w64 (of_z w64 value.0)) ≡ t → lt_z (field.base +ℤ pos field.highest) value.0 ≡ t = λ t e. sym (ap₂ lt_z (end_held row (row / 65536 % 4096) c.base-low.result (omega arith) c.base-low.ensures) held) ∙ e in
+    let below : (t : Bool) → lt_z (to_z w64 (of_z w64 value.0)) (to_z w64 (of_z w64 (to_z w64 (of_z w64 c.base-low.result) +ℤ pos 1))) ≡ t → lt_z value.0 (field.base +ℤ pos 1) ≡ t =
+    λ t e. sym (ap₂ lt_z held (end_held row 1 c.base-low.result (omega arith) c.base-low.ensures)) ∙ e in
+    let above : (t : Bool) → lt_z (to_z w64 (of_z w64 (to_z w64 (of_z w64 c.base-low.result) +ℤ to_z w64 (row / 65536 % 4096)))) (to_z w64 (of_z w64 value.0)) ≡ t
+    → lt_z (field.base +ℤ pos field.highest) value.0 ≡ t =
+    λ t e. sym (ap₂ lt_z (end_held row (row / 65536 % 4096) c.base-low.result (omega arith) c.base-low.ensures) held) ∙ e in
     let inside : in_range field value ≡ true = within field value (below false c.if-z-low.false) (above false c.if-high-z.false) in
     let small : (coded_of field value).0 ≤ 4095 = omega (arith, coded_range field value inside) in
     let difference : to_z w64 (of_z w64 value.0) -ℤ to_z w64 (of_z w64 c.base-low.result) ≡ pos (coded_of field value).0 = let b = c.base-low in

@@ -17,7 +17,8 @@ loop-i-init c =
 
 pub put_field-at-requires : goal.put_field-at-requires
 put_field-at-requires c =
-    let step : value_lines c.args.s.now c.loop-i.i ≡ field_line (c.loop-i.i + 1) (entry_of (field_at (c.loop-i.i + 1)) c.code-c.result) ++ value_lines c.args.s.now (c.loop-i.i + 1) = lines_step c.args.s.now c.loop-i.i c.code-c.result
+    let step : value_lines c.args.s.now c.loop-i.i ≡ field_line (c.loop-i.i + 1) (entry_of (field_at (c.loop-i.i + 1)) c.code-c.result) ++ value_lines c.args.s.now (c.loop-i.i + 1) =
+    lines_step c.args.s.now c.loop-i.i c.code-c.result
     c.loop-i-test.true c.code-c.ensures in
     let args = c.args in
     let b : List ℕ = args.s.now in
@@ -31,7 +32,8 @@ put_field-at-requires c =
 
 pub loop-i-preserved : goal.loop-i-preserved
 loop-i-preserved c =
-    let step : value_lines c.args.s.now c.loop-i.i ≡ field_line (c.loop-i.i + 1) (entry_of (field_at (c.loop-i.i + 1)) c.code-c.result) ++ value_lines c.args.s.now (c.loop-i.i + 1) = lines_step c.args.s.now c.loop-i.i c.code-c.result
+    let step : value_lines c.args.s.now c.loop-i.i ≡ field_line (c.loop-i.i + 1) (entry_of (field_at (c.loop-i.i + 1)) c.code-c.result) ++ value_lines c.args.s.now (c.loop-i.i + 1) =
+    lines_step c.args.s.now c.loop-i.i c.code-c.result
     c.loop-i-test.true c.code-c.ensures in
     let args = c.args in
     let loop = c.loop-i in

@@ -22,14 +22,16 @@ bounds-out-1 c =
 pub put_number-e-requires : goal.put_number-e-requires
 put_number-e-requires c =
     let lettered : List ℕ = set (set c.args.out.now 0 82) 1 32 in
-    let room : Room lettered 2 ((decimal c.args.number ++ (32 ∷ [])) ++ (decimal c.args.place ++ (10 ∷ []))) = room_two c.args.out.now 0 82 ((decimal c.args.number ++ (32 ∷ [])) ++ (decimal c.args.place ++ (10 ∷ []))) 32
+    let room : Room lettered 2 ((decimal c.args.number ++ (32 ∷ [])) ++ (decimal c.args.place ++ (10 ∷ []))) =
+    room_two c.args.out.now 0 82 ((decimal c.args.number ++ (32 ∷ [])) ++ (decimal c.args.place ++ (10 ∷ []))) 32
     (subst (Room c.args.out.now 0) (refusal-line c.args.number c.args.place) c.requires) in
     room_front lettered 2 (decimal c.args.number ++ (32 ∷ [])) (decimal c.args.place ++ (10 ∷ [])) room
 
 pub put_number-requires : goal.put_number-requires
 put_number-requires c =
     let lettered : List ℕ = set (set c.args.out.now 0 82) 1 32 in
-    let room : Room lettered 2 ((decimal c.args.number ++ (32 ∷ [])) ++ (decimal c.args.place ++ (10 ∷ []))) = room_two c.args.out.now 0 82 ((decimal c.args.number ++ (32 ∷ [])) ++ (decimal c.args.place ++ (10 ∷ []))) 32
+    let room : Room lettered 2 ((decimal c.args.number ++ (32 ∷ [])) ++ (decimal c.args.place ++ (10 ∷ []))) =
+    room_two c.args.out.now 0 82 ((decimal c.args.number ++ (32 ∷ [])) ++ (decimal c.args.place ++ (10 ∷ []))) 32
     (subst (Room c.args.out.now 0) (refusal-line c.args.number c.args.place) c.requires) in
     let args = c.args in
     room_behind lettered 2 (decimal args.number ++ (32 ∷ [])) (decimal args.place ++ (10 ∷ []))

@@ -20,7 +20,8 @@ pub put_number-requires : goal.put_number-requires
 put_number-requires c =
     let fits : SFits w64 c.args.v = search rules in
     let word : c.unsigned_of-n.result ≡ unsigned c.args.v = c.unsigned_of-n.ensures ∙ ap unsigned (to_z-of_z w64 c.args.v fits) in
-    let positive : signed_decimal c.args.v ++ (10 ∷ []) ≡ decimal c.unsigned_of-n.result ++ (10 ∷ []) = ap (λ (l : List ℕ). l ++ (10 ∷ [])) (positive_is _ _ fits word c.if-n-lt9223372036854775808.true) in
+    let positive : signed_decimal c.args.v ++ (10 ∷ []) ≡ decimal c.unsigned_of-n.result ++ (10 ∷ []) =
+    ap (λ (l : List ℕ). l ++ (10 ∷ [])) (positive_is _ _ fits word c.if-n-lt9223372036854775808.true) in
     let args = c.args in
     subst (Room args.out.now args.at) positive c.requires
 
@@ -28,7 +29,8 @@ pub returns-then-n-lt9223372036854775808 : goal.returns-then-n-lt922337203685477
 returns-then-n-lt9223372036854775808 c =
     let fits : SFits w64 c.args.v = search rules in
     let word : c.unsigned_of-n.result ≡ unsigned c.args.v = c.unsigned_of-n.ensures ∙ ap unsigned (to_z-of_z w64 c.args.v fits) in
-    let positive : signed_decimal c.args.v ++ (10 ∷ []) ≡ decimal c.unsigned_of-n.result ++ (10 ∷ []) = ap (λ (l : List ℕ). l ++ (10 ∷ [])) (positive_is _ _ fits word c.if-n-lt9223372036854775808.true) in
+    let positive : signed_decimal c.args.v ++ (10 ∷ []) ≡ decimal c.unsigned_of-n.result ++ (10 ∷ []) =
+    ap (λ (l : List ℕ). l ++ (10 ∷ [])) (positive_is _ _ fits word c.if-n-lt9223372036854775808.true) in
     let args = c.args in
     puts_is args.out.now _ args.at (decimal c.unsigned_of-n.result ++ (10 ∷ [])) _
     c.put_number.ensures (signed_decimal args.v ++ (10 ∷ []))
@@ -38,14 +40,16 @@ pub bounds-out-at : goal.bounds-out-at
 bounds-out-at c =
     let fits : SFits w64 c.args.v = search rules in
     let word : c.unsigned_of-n.result ≡ unsigned c.args.v = c.unsigned_of-n.ensures ∙ ap unsigned (to_z-of_z w64 c.args.v fits) in
-    let negative : signed_decimal c.args.v ++ (10 ∷ []) ≡ 45 ∷ (decimal (18446744073709551615 - c.unsigned_of-n.result + 1) ++ (10 ∷ [])) = ap (λ (l : List ℕ). l ++ (10 ∷ [])) (negative_is _ _ fits word c.if-n-lt9223372036854775808.false) in
+    let negative : signed_decimal c.args.v ++ (10 ∷ []) ≡ 45 ∷ (decimal (18446744073709551615 - c.unsigned_of-n.result + 1) ++ (10 ∷ [])) =
+    ap (λ (l : List ℕ). l ++ (10 ∷ [])) (negative_is _ _ fits word c.if-n-lt9223372036854775808.false) in
     omega (arith, c.requires, ap length negative)
 
 pub put_number-requires-2 : goal.put_number-requires-2
 put_number-requires-2 c =
     let fits : SFits w64 c.args.v = search rules in
     let word : c.unsigned_of-n.result ≡ unsigned c.args.v = c.unsigned_of-n.ensures ∙ ap unsigned (to_z-of_z w64 c.args.v fits) in
-    let negative : signed_decimal c.args.v ++ (10 ∷ []) ≡ 45 ∷ (decimal (18446744073709551615 - c.unsigned_of-n.result + 1) ++ (10 ∷ [])) = ap (λ (l : List ℕ). l ++ (10 ∷ [])) (negative_is _ _ fits word c.if-n-lt9223372036854775808.false) in
+    let negative : signed_decimal c.args.v ++ (10 ∷ []) ≡ 45 ∷ (decimal (18446744073709551615 - c.unsigned_of-n.result + 1) ++ (10 ∷ [])) =
+    ap (λ (l : List ℕ). l ++ (10 ∷ [])) (negative_is _ _ fits word c.if-n-lt9223372036854775808.false) in
     let args = c.args in
     room_one args.out.now args.at 45 (decimal (18446744073709551615 - c.unsigned_of-n.result + 1) ++ (10 ∷ []))
     (subst (Room args.out.now args.at) negative c.requires)
@@ -59,7 +63,8 @@ pub returns : goal.returns
 returns c =
     let fits : SFits w64 c.args.v = search rules in
     let word : c.unsigned_of-n.result ≡ unsigned c.args.v = c.unsigned_of-n.ensures ∙ ap unsigned (to_z-of_z w64 c.args.v fits) in
-    let negative : signed_decimal c.args.v ++ (10 ∷ []) ≡ 45 ∷ (decimal (18446744073709551615 - c.unsigned_of-n.result + 1) ++ (10 ∷ [])) = ap (λ (l : List ℕ). l ++ (10 ∷ [])) (negative_is _ _ fits word c.if-n-lt9223372036854775808.false) in
+    let negative : signed_decimal c.args.v ++ (10 ∷ []) ≡ 45 ∷ (decimal (18446744073709551615 - c.unsigned_of-n.result + 1) ++ (10 ∷ [])) =
+    ap (λ (l : List ℕ). l ++ (10 ∷ [])) (negative_is _ _ fits word c.if-n-lt9223372036854775808.false) in
     let args = c.args in
     puts_is args.out.now _ args.at _ _
     (puts_cons args.out.now _ args.at 45 (decimal (18446744073709551615 - c.unsigned_of-n.result + 1) ++ (10 ∷ [])) _

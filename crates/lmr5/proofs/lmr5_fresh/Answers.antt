@@ -19,7 +19,8 @@ z v = scaled (to_z w64 (of_z w64 v))
 
 pub returns-in-Refused : goal.returns-in-Refused
 returns-in-Refused c =
-    let held : (let a = c.args in fresh (z a.box10) (z a.year) (z a.month) (z a.x) (z a.y) a.out.now ≡ fresh (scaled a.box10) (scaled a.year) (scaled a.month) (scaled a.x) (scaled a.y) a.out.now) = let a = c.args in let f = c.ranges in
+    let held : (let a = c.args in fresh (z a.box10) (z a.year) (z a.month) (z a.x) (z a.y) a.out.now ≡ fresh (scaled a.box10) (scaled a.year) (scaled a.month) (scaled a.x) (scaled a.y) a.out.now) =
+    let a = c.args in let f = c.ranges in
     λ i. fresh
     (scaled (to_z-of_z w64 a.box10 f.box10 i))
     (scaled (to_z-of_z w64 a.year f.year i))
@@ -32,7 +33,8 @@ returns-in-Refused c =
 
 pub returns-in-Written : goal.returns-in-Written
 returns-in-Written c =
-    let held : (let a = c.args in fresh (z a.box10) (z a.year) (z a.month) (z a.x) (z a.y) a.out.now ≡ fresh (scaled a.box10) (scaled a.year) (scaled a.month) (scaled a.x) (scaled a.y) a.out.now) = let a = c.args in let f = c.ranges in
+    let held : (let a = c.args in fresh (z a.box10) (z a.year) (z a.month) (z a.x) (z a.y) a.out.now ≡ fresh (scaled a.box10) (scaled a.year) (scaled a.month) (scaled a.x) (scaled a.y) a.out.now) =
+    let a = c.args in let f = c.ranges in
     λ i. fresh
     (scaled (to_z-of_z w64 a.box10 f.box10 i))
     (scaled (to_z-of_z w64 a.year f.year i))

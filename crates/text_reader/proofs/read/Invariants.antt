@@ -11,7 +11,8 @@ use Rattle.text_reader.proofs.read.Given as goal
 
 abbrev pub invariant-loop-i : goal.invariant-loop-i
 invariant-loop-i l =
-    Parsed (nibbles l.s) l.at l.len l.count l.i × (l.out ≡ sets l.initial.out 0 (map byte_of (laid (nibbles l.s) l.at l.i))) × (l.origins ≡ sets l.initial.origins 0 (map origin_of (laid (nibbles l.s) l.at l.i)))
+    Parsed (nibbles l.s) l.at l.len l.count l.i × (l.out ≡ sets l.initial.out 0 (map byte_of (laid (nibbles l.s) l.at l.i)))
+    × (l.origins ≡ sets l.initial.origins 0 (map origin_of (laid (nibbles l.s) l.at l.i)))
     × (l.end ≡ l.at + l.len)
 
 abbrev pub decreases-loop-i : goal.decreases-loop-i

@@ -16,7 +16,8 @@ returns-then-o-eq0 c = symbol_space _ _ _ _ _ _ (search rules) c.if-b-eq32.true 
 
 pub returns-then-s-eq1 : goal.returns-then-s-eq1
 returns-then-s-eq1 c =
-    let joined : is_space (symbol_of c.args.b c.args.o) ≡ false = no_space _ _ (λ e f. elim c.if-b-eq32.branch [ then-b-eq32+else-o-eq0 w ↦ absurd (w.if-o-eq0.false f) | else-b-eq32 w ↦ absurd (w.if-b-eq32.false e) ]) in
+    let joined : is_space (symbol_of c.args.b c.args.o) ≡ false =
+    no_space _ _ (λ e f. elim c.if-b-eq32.branch [ then-b-eq32+else-o-eq0 w ↦ absurd (w.if-o-eq0.false f) | else-b-eq32 w ↦ absurd (w.if-b-eq32.false e) ]) in
     symbol_alone _ _ _ _ joined _ c.entry_of-w.ensures.1 _ _ _ c.if-s-eq1.true c.put_entry-e.ensures
 
 pub put_entry-e-requires-2 : goal.put_entry-e-requires-2
@@ -25,5 +26,6 @@ put_entry-e-requires-2 c =
 
 pub returns : goal.returns
 returns c =
-    let joined : is_space (symbol_of c.args.b c.args.o) ≡ false = no_space _ _ (λ e f. elim c.if-b-eq32.branch [ then-b-eq32+else-o-eq0 w ↦ absurd (w.if-o-eq0.false f) | else-b-eq32 w ↦ absurd (w.if-b-eq32.false e) ]) in
+    let joined : is_space (symbol_of c.args.b c.args.o) ≡ false =
+    no_space _ _ (λ e f. elim c.if-b-eq32.branch [ then-b-eq32+else-o-eq0 w ↦ absurd (w.if-o-eq0.false f) | else-b-eq32 w ↦ absurd (w.if-b-eq32.false e) ]) in
     symbol_code _ _ _ _ joined _ c.entry_of-w.ensures.1 _ _ _ _ _ c.put_run-a.ensures c.put_entry-e-2.ensures

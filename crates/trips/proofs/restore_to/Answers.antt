@@ -10,12 +10,14 @@ use Rattle.trips.proofs.restore_to.Goals as goal
 
 pub slice_bounds-pack-end : goal.slice_bounds-pack-end
 slice_bounds-pack-end c =
-    let found : (x : Contents) → c.unpack-u.result ≡ answers.Unpacked.Given x → (let a = c.args in Opened a.marks.now a.s.now a.values.now c.unpack-u.new.values a.tail.now c.unpack-u.new.tail x) = λ x e. opened _ _ _ _ _ _ x (rw e at c.unpack-u.ensures) in
+    let found : (x : Contents) → c.unpack-u.result ≡ answers.Unpacked.Given x → (let a = c.args in Opened a.marks.now a.s.now a.values.now c.unpack-u.new.values a.tail.now c.unpack-u.new.tail x) =
+    λ x e. opened _ _ _ _ _ _ x (rw e at c.unpack-u.ensures) in
     opened_within _ (found _ c.in-Given.is)
 
 pub slice_bounds-pack-end-in-Given : goal.slice_bounds-pack-end-in-Given
 slice_bounds-pack-end-in-Given c =
-    let found : (x : Contents) → c.unpack-u.result ≡ answers.Unpacked.Given x → (let a = c.args in Opened a.marks.now a.s.now a.values.now c.unpack-u.new.values a.tail.now c.unpack-u.new.tail x) = λ x e. opened _ _ _ _ _ _ x (rw e at c.unpack-u.ensures) in
+    let found : (x : Contents) → c.unpack-u.result ≡ answers.Unpacked.Given x → (let a = c.args in Opened a.marks.now a.s.now a.values.now c.unpack-u.new.values a.tail.now c.unpack-u.new.tail x) =
+    λ x e. opened _ _ _ _ _ _ x (rw e at c.unpack-u.ensures) in
     sym (length-take-le _ _ (opened_within _ (found _ c.in-Given.is)))
 
 pub returns-in-Refused : goal.returns-in-Refused
@@ -25,7 +27,8 @@ returns-in-Refused c =
 
 pub returns-in-Given : goal.returns-in-Given
 returns-in-Given c =
-    let found : (x : Contents) → c.unpack-u.result ≡ answers.Unpacked.Given x → (let a = c.args in Opened a.marks.now a.s.now a.values.now c.unpack-u.new.values a.tail.now c.unpack-u.new.tail x) = λ x e. opened _ _ _ _ _ _ x (rw e at c.unpack-u.ensures) in
+    let found : (x : Contents) → c.unpack-u.result ≡ answers.Unpacked.Given x → (let a = c.args in Opened a.marks.now a.s.now a.values.now c.unpack-u.new.values a.tail.now c.unpack-u.new.tail x) =
+    λ x e. opened _ _ _ _ _ _ x (rw e at c.unpack-u.ensures) in
     let pre = c.requires in
     let shared-slice-known = c.shared_slice_known-1 in
     restore_packed _ _ (λ i. omega (arith, shared-slice-known.given i)) _ _ _ _ _
