@@ -22,21 +22,29 @@ needs = @for tool in $(2); do command -v $$tool >/dev/null || { echo "make $(1):
 # Every program in C is compiled so.
 c99 = gcc -std=c99 -Wall -Wextra -pedantic -Werror
 
-# What rt builds for use runs on every x86-64 processor; with no such flag it would need one of x86-64-v2.
-cpu = --cpu x86-64
-
 # The same as the gate, with how far it is on standard error.
 test:
 	$(call needs,test,rt)
 	@scripts/progress 'make test' all .ci/run
 
+# What is built for use runs on every x86-64 processor; with no such flag rt builds for x86-64-v2, which has more instructions.
+cpu = --cpu x86-64
+
+# What rt reads. It writes to crates/NAME/out, where `rt ci` sets aside what it finds and builds anew for x86-64-v2; so what is
+# built for use is copied to lib/.
+crates = crates.txt $(shell find crates -name out -prune -o '(' -name '*.rt' -o -name '*.antt' ')' -print)
+
 # Lists the report that standard input begins with: make list < report
-# `rt run` proves and builds the lister and runs it, here on the report that the gate runs it on.
 list:
 	$(call needs,list,rt)
 	@[ ! -t 0 ] || { echo 'make list: no report on standard input; try: make list < crates/lister/stdin' >&2; exit 2; }
+	@$(MAKE) --no-print-directory lib/lister </dev/null >/dev/null
+	@lib/lister
+
+# The lister, made anew where a source is newer, and run as the gate runs it.
+lib/lister: $(crates) crates/lister/stdin crates/lister/stdout
 	@scripts/progress 'make list' lister sh -c 'cd crates/lister && mkdir -p out && rt run $(cpu) <stdin >out/listed && cmp out/listed stdout' >/dev/null
-	@crates/lister/out/lister
+	@mkdir -p lib && cp crates/lister/out/lister lib/lister
 
 # The name under which a program loads the shared library: it has the major number of the version.
 soname := liblmr5.so.$(shell awk '$$2 == "LMR5_VERSION_MAJOR" { print $$3 }' include/lmr5.h)
@@ -48,7 +56,7 @@ library = lib/liblmr5.a lib/$(soname) lib/liblmr5.so
 lib: $(library)
 	@echo 'make lib: lib/liblmr5.a and lib/liblmr5.so are up to date' >&2
 
-sources = crates.txt include/lmr5.h header/declarations CHANGELOG.md docs/FORMAT.md $(shell find crates header/src header/refusals.c -name out -prune -o '(' -name '*.rt' -o -name '*.antt' -o -name '*.rs' -o -name '*.c' ')' -print)
+sources = $(crates) include/lmr5.h header/declarations CHANGELOG.md docs/FORMAT.md header/refusals.c $(wildcard header/src/*.rs)
 
 $(library) &: $(sources)
 	$(call needs,lib,rt gcc cargo)
@@ -62,8 +70,8 @@ $(library) &: $(sources)
 	lib/refusals
 	@mv lib/made.a lib/liblmr5.a && mv lib/made.so lib/$(soname) && echo 'INPUT($(soname))' >lib/liblmr5.so
 
-# Compares the header with what crates/lmr5_c exports, with the definitions and with the record of its declarations, and compiles
-# it as C99 and, with g++, as C++.
+# Compares the header with what crates/lmr5_c exports, with the definitions and with the record of its declarations, and
+# compiles it as C99 and, with g++, as C++.
 header-test:
 	$(call needs,header-test,gcc cargo)
 	cd header && cargo test --quiet && cargo run --quiet -- ..
