@@ -27,12 +27,24 @@ test:
 	$(call needs,test,rt)
 	@scripts/progress 'make test' all .ci/run
 
+# What is built for use runs on every x86-64 processor; with no such flag rt builds for x86-64-v2, which has more instructions.
+cpu = --cpu x86-64
+
+# What rt reads. It writes to crates/NAME/out, where `rt ci` sets aside what it finds and builds anew for x86-64-v2; so what is
+# built for use is copied to lib/.
+crates = crates.txt $(shell find crates -name out -prune -o '(' -name '*.rt' -o -name '*.antt' ')' -print)
+
 # Lists the report that standard input begins with: make list < report
 list:
 	$(call needs,list,rt)
 	@[ ! -t 0 ] || { echo 'make list: no report on standard input; try: make list < crates/lister/stdin' >&2; exit 2; }
-	@scripts/progress 'make list' lister rt check lister >/dev/null
-	@target/bin/lister
+	@$(MAKE) --no-print-directory lib/lister </dev/null >/dev/null
+	@lib/lister
+
+# The lister, made anew where a source is newer, and run as the gate runs it.
+lib/lister: $(crates) crates/lister/stdin crates/lister/stdout
+	@scripts/progress 'make list' lister sh -c 'cd crates/lister && mkdir -p out && rt run $(cpu) <stdin >out/listed && cmp out/listed stdout' >/dev/null
+	@mkdir -p lib && cp crates/lister/out/lister lib/lister
 
 # The name under which a program loads the shared library: it has the major number of the version.
 soname := liblmr5.so.$(shell awk '$$2 == "LMR5_VERSION_MAJOR" { print $$3 }' include/lmr5.h)
@@ -44,22 +56,22 @@ library = lib/liblmr5.a lib/$(soname) lib/liblmr5.so
 lib: $(library)
 	@echo 'make lib: lib/liblmr5.a and lib/liblmr5.so are up to date' >&2
 
-sources = crates.txt include/lmr5.h header/declarations CHANGELOG.md docs/FORMAT.md $(shell find crates header/src header/refusals.c -name '*.rt' -o -name '*.antt' -o -name '*.rs' -o -name '*.c')
+sources = $(crates) include/lmr5.h header/declarations CHANGELOG.md docs/FORMAT.md header/refusals.c $(wildcard header/src/*.rs)
 
 $(library) &: $(sources)
 	$(call needs,lib,rt gcc cargo)
-	@scripts/progress 'make lib' lmr5 sh -c 'rt check $(shell sed -n 's/^lmr5://p' crates.txt) && rt staticlib lmr5' >/dev/null
+	@scripts/progress 'make lib' lmr5_c sh -c 'cd crates/lmr5_c && rt lib $(cpu)' >/dev/null
 	@echo 'make lib: linking, and comparing the header with the code' >&2
 	@mkdir -p lib
-	@cp target/staticlib/liblmr5.a lib/made.a
+	@cp crates/lmr5_c/out/liblmr5_c.a lib/made.a
 	gcc -shared -Wl,-soname,$(soname) -o lib/made.so -Wl,--whole-archive lib/made.a -Wl,--no-whole-archive
 	@$(MAKE) --no-print-directory header-test
 	$(c99) -Iinclude -o lib/refusals header/refusals.c lib/made.a
 	lib/refusals
 	@mv lib/made.a lib/liblmr5.a && mv lib/made.so lib/$(soname) && echo 'INPUT($(soname))' >lib/liblmr5.so
 
-# Compares the header with what crates/lmr5 exports, with the definitions and with the record of its declarations, and compiles
-# it as C99 and, with g++, as C++.
+# Compares the header with what crates/lmr5_c exports, with the definitions and with the record of its declarations, and
+# compiles it as C99 and, with g++, as C++.
 header-test:
 	$(call needs,header-test,gcc cargo)
 	cd header && cargo test --quiet && cargo run --quiet -- ..

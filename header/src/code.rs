@@ -1,4 +1,4 @@
-//! What crates/lmr5 exports, in C's words.
+//! What crates/lmr5_c exports, over the structs of crates/lmr5, in C's words.
 use crate::Declared;
 use std::collections::BTreeMap;
 
@@ -70,7 +70,7 @@ fn result(text: &str) -> String {
 }
 
 fn functions(text: &str, declared: &mut Declared) {
-    for part in text.split("#[no_mangle]").skip(1) {
+    for part in text.split("#[unsafe(no_mangle)]").skip(1) {
         let rest = part
             .trim_start()
             .strip_prefix("pub extern \"C\" fn ")
@@ -86,14 +86,22 @@ fn functions(text: &str, declared: &mut Declared) {
     assert_eq!(
         text.matches("extern \"C\" fn").count(),
         declared.functions.len(),
-        "crates/lmr5: a function without #[no_mangle]"
+        "crates/lmr5_c: a function without #[unsafe(no_mangle)]"
     );
+}
+
+/// The text behind the lines of derived traits that it begins with.
+fn underived(text: &str) -> &str {
+    let text = text.trim_start();
+    match text.strip_prefix("#[derive(") {
+        Some(derived) => underived(derived.split_once(")]").expect("the traits' end").1),
+        None => text,
+    }
 }
 
 fn structs(text: &str, declared: &mut Declared) {
     for part in text.split("#[repr(C)]").skip(1) {
-        let rest = part
-            .trim_start()
+        let rest = underived(part)
             .strip_prefix("pub struct ")
             .expect("a struct");
         let (name, rest) = rest.split_once('{').expect("fields");
@@ -185,16 +193,13 @@ fn contents(text: &str) -> Vec<String> {
         .collect()
 }
 
-/// `setField` as `SET_FIELD`.
+/// `set_field` as `SET_FIELD`.
 fn upper(name: &str) -> String {
-    let mut said = String::new();
-    for c in name.chars() {
-        if c.is_uppercase() {
-            said.push('_');
-        }
-        said.push(c.to_ascii_uppercase());
-    }
-    said
+    assert!(
+        !name.contains(|c: char| c.is_uppercase()),
+        "{name} is not in snake case"
+    );
+    name.to_ascii_uppercase()
 }
 
 /// A header's name and its number.
@@ -215,11 +220,11 @@ fn ascending(mut all: Vec<Named>) -> Vec<String> {
         .collect()
 }
 
-/// The kinds of a script's entries: `scriptEntry (edits (setField k v)) = 2 ∷ ..`. The header has `DROP` for `remove`.
+/// The kinds of a script's entries: `script_entry (edits (set_field k v)) = 2 ∷ ..`. The header has `DROP` for `remove`.
 fn kinds(script: &str) -> Vec<Named> {
     let lines = script
         .lines()
-        .filter_map(|line| line.strip_prefix("scriptEntry ("));
+        .filter_map(|line| line.strip_prefix("script_entry ("));
     lines
         .map(|line| {
             let (entry, bytes) = line.split_once(" = ").expect("an entry's bytes");
@@ -233,7 +238,7 @@ fn kinds(script: &str) -> Vec<Named> {
         .collect()
 }
 
-/// The number that a definition gives for a shape: `headOf (refused r) = 0 ∷ ..`.
+/// The number that a definition gives for a shape: `head_of (refused r) = 0 ∷ ..`.
 fn by_shape(text: &str, shape: &str, name: &str) -> Named {
     let start = format!("{shape} = ");
     let found = text.lines().find_map(|line| line.strip_prefix(&start));
@@ -244,12 +249,12 @@ fn by_shape(text: &str, shape: &str, name: &str) -> Named {
 /// The first byte of a record.
 fn logged(script: &str) -> Vec<Named> {
     vec![
-        by_shape(script, "headOf (refused r)", "LMR5_LOG_REFUSED"),
-        by_shape(script, "headOf (accepted gs)", "LMR5_LOG_ACCEPTED"),
+        by_shape(script, "head_of (refused r)", "LMR5_LOG_REFUSED"),
+        by_shape(script, "head_of (accepted gs)", "LMR5_LOG_ACCEPTED"),
     ]
 }
 
-/// The numbers that a definition gives by name: `quantityLabel count = 3`.
+/// The numbers that a definition gives by name: `quantity_label count = 3`.
 fn by_name(text: &str, definition: &str, start: &str) -> Vec<Named> {
     let lines = text.lines().filter_map(|line| {
         let line = line.strip_prefix(definition)?.strip_prefix(' ')?;
@@ -262,23 +267,23 @@ fn by_name(text: &str, definition: &str, start: &str) -> Vec<Named> {
 
 /// The labels of numbers; of no number, and of one that is missing.
 fn labels(text: &str) -> Vec<Named> {
-    let mut all = by_name(text, "quantityLabel", "LMR5_GIVEN");
+    let mut all = by_name(text, "quantity_label", "LMR5_GIVEN");
     all.push(by_shape(text, "labels []", "LMR5_GIVEN_NOTHING"));
-    all.push(by_shape(text, "missingLabel", "LMR5_GIVEN_MISSING"));
+    all.push(by_shape(text, "missing_label", "LMR5_GIVEN_MISSING"));
     all
 }
 
 /// The marks of origin.
 fn origins(text: &str) -> Vec<Named> {
     vec![
-        by_shape(text, "originOf (plain b)", "LMR5_ORIGIN_PLAIN"),
-        by_shape(text, "originOf (original b)", "LMR5_ORIGIN_ORIGINAL"),
+        by_shape(text, "origin_of (plain b)", "LMR5_ORIGIN_PLAIN"),
+        by_shape(text, "origin_of (original b)", "LMR5_ORIGIN_ORIGINAL"),
     ]
 }
 
-/// The kind of a step's symbol: `symbolOfStep End = record { kind = 0; ..`.
+/// The kind of a step's symbol: `symbol_of_step End = record { kind = 0; ..`.
 fn kind_of<'a>(readers: &'a str, shape: &str) -> &'a str {
-    let start = format!("symbolOfStep {shape} = record {{ kind = ");
+    let start = format!("symbol_of_step {shape} = record {{ kind = ");
     let found = readers.lines().find_map(|line| line.strip_prefix(&start));
     found.unwrap_or_else(|| panic!("{start}is not found"))
 }
@@ -315,6 +320,7 @@ fn indicators(definitions: &str) -> Vec<String> {
 /// The texts that the header has to agree with.
 pub struct Sources<'a> {
     pub exports: &'a str,
+    pub library: &'a str,
     pub types: &'a str,
     pub table: &'a str,
     pub indicators: &'a str,
@@ -326,7 +332,7 @@ pub struct Sources<'a> {
 }
 
 pub fn declared(sources: &Sources) -> Declared {
-    let text = plain(sources.exports);
+    let text = plain(&[sources.exports, sources.library].join("\n"));
     let mut declared = Declared::default();
     functions(&text, &mut declared);
     structs(&text, &mut declared);
@@ -345,7 +351,7 @@ pub fn declared(sources: &Sources) -> Declared {
         ("lmr5_origin", ascending(origins(sources.text))),
         (
             "lmr5_set",
-            ascending(by_name(sources.text, "setNumber", "LMR5_SET")),
+            ascending(by_name(sources.text, "set_number", "LMR5_SET")),
         ),
         (
             "lmr5_symbol_kind",

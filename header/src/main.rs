@@ -1,5 +1,5 @@
-//! Compares include/lmr5.h with the functions and structs that crates/lmr5 exports, its table of flags with the type of
-//! crates/format, its reader with what is stored to one, and its numbers with the definitions: fields, contents, kinds of a
+//! Compares include/lmr5.h with the functions that crates/lmr5_c exports and the structs of crates/lmr5, its table of flags with
+//! the type of crates/format, its reader with what is stored to one, and its numbers with the definitions: fields, contents, kinds of a
 //! script's entries, the log's first bytes, labels, marks of origin, sets of a deck, kinds of symbols, the longest report, how
 //! many indicators there are. Sees that each refusal has its own words, and that the version was raised where a declaration
 //! differs from the record in header/declarations. Compares the tables of fields and of indicators in docs/FORMAT.md with the
@@ -126,7 +126,8 @@ fn compare_all(root: &str, header: &Header) -> ExitCode {
     let table = read(root, "crates/format/specs/Field.antt");
     let indicators = read(root, "crates/format/specs/Indicators.antt");
     let code = code::declared(&Sources {
-        exports: &read(root, "crates/lmr5/src/lib.rt"),
+        exports: &read(root, "crates/lmr5_c/src/lib.rt"),
+        library: &read(root, "crates/lmr5/src/lib.rt"),
         types: &read(root, "crates/format/src/lib.rt"),
         table: &table,
         indicators: &indicators,
@@ -194,31 +195,33 @@ fn main() -> ExitCode {
 mod tests {
     use super::*;
 
-    const CODE: &str = "#[repr(C)]\npub struct Answer {\n    pub refusal: u32,\n}\n\
+    const LIBRARY: &str = "#[repr(C)]\n#[derive(Clone, Copy)]\npub struct Answer {\n    pub refusal: u32,\n}\n\
         fn store() {\n    contents[0] = c.word;\n    contents[1] = c.present as u64;\n}\n\
         #[repr(C)]\npub struct Symbol {\n    pub kind: u32,\n}\n\
+        pub fn lmr5_t(table: &mut [u16; 256])\n{}\n\
         fn opened() {\n    reader[0] = o.at as u64;\n    reader[1] = o.end as u64;\n    reader[2] = 0;\n\
         \x20   reader[3] = o.number as u64;\n    reader[4] = o.place as u64;\n}\n\
-        fn step() {\n    f(reader[0] as usize, reader[2] as usize);\n    reader[0] = at as u64;\n    reader[2] = spaces as u64;\n}\n\
-        #[no_mangle]\npub extern \"C\" fn lmr5_n(report: &[u8], reader: &mut [u64; 5]) -> Symbol\n{}\n\
-        #[no_mangle]\npub extern \"C\" fn lmr5_f(\n    report: &[u8], // read\n    n: usize,\n    to: &mut [u64; 6],\n) -> Answer\n{}\n\
-        #[no_mangle]\npub extern \"C\" fn lmr5_t(table: &mut [u16; 256])\n{}\n\
-        #[no_mangle]\npub extern \"C\" fn lmr5_m(table: &mut FlagTable)\n{}\n\
-        #[no_mangle]\npub extern \"C\" fn lmr5_j(\n    log: &mut [u8],\n    table: &FlagTable,\n) -> Answer\n{}\n";
+        fn step() {\n    f(reader[0] as usize, reader[2] as usize);\n    reader[0] = at as u64;\n    reader[2] = spaces as u64;\n}\n";
+    const EXPORTS: &str = "#[unsafe(no_mangle)]\npub extern \"C\" fn lmr5_n(report: &[u8], reader: &mut [u64; 5]) -> Symbol\n\
+        \x20   ensures low { result.kind < 3 }\n    ensures { f (g report.now) reader.new }\n{}\n\
+        #[unsafe(no_mangle)]\npub extern \"C\" fn lmr5_f(\n    report: &[u8], // read\n    n: usize,\n    to: &mut [u64; 6],\n) -> Answer\n{}\n\
+        #[unsafe(no_mangle)]\npub extern \"C\" fn lmr5_t(table: &mut [u16; 256])\n{}\n\
+        #[unsafe(no_mangle)]\npub extern \"C\" fn lmr5_m(table: &mut FlagTable)\n{}\n\
+        #[unsafe(no_mangle)]\npub extern \"C\" fn lmr5_j(\n    log: &mut [u8],\n    table: &FlagTable,\n) -> Answer\n{}\n";
     const TYPES: &str =
         "pub struct Coded(pub u16);\n// A table.\npub type FlagTable = [[u8; 10]; 14];\n";
     const TABLE: &str = "    field 648 (pos 0) 10 ∷  -- 1 BOX10\n    []\n";
     const INDICATORS: &str = "    indicator 17 (18 ∷ []) ∷  -- DI on D\n    indicator 19 (20 ∷ []) ∷  -- WI on W\n    []\n";
-    const SCRIPT: &str = "unfoldable pub scriptEntry : Entry → List ℕ\n\
-        scriptEntry (edits (setField k v)) = 2 ∷ (bytes8 k)\nscriptEntry (edits (remove i)) = 9 ∷ bytes8 i\n\
-        scriptEntry (reads (readField k)) = 1 ∷ bytes8 k\nscriptEntry (fetches (fetchText out)) = 11 ∷ (bytes8 (length out))\n\
-        headOf (refused r) = 0 ∷ r .number ∷ bytes8 (r .place)\nheadOf (accepted gs) = 1 ∷ 0 ∷ bytes8 0\n";
-    const LABELS: &str = "abbrev pub quantityLabel : Quantity → ℕ\nquantityLabel value = 1\nquantityLabel count = 3\n\
-        missingLabel : ℕ\nmissingLabel = 128\nlabels [] = 0\nlabels (g ∷ gs) = label g + 256 * labels gs\n";
-    const TEXT: &str = "originOf (plain b) = 0\noriginOf (original b) = 1\n\
-        unfoldable pub setNumber : DeckSet → ℕ\nsetNumber ascii = 2\nsetNumber unknown = 0\n";
-    const READERS: &str = "symbolOfStep End = record { kind = 0; byte = 0 }\n\
-        symbolOfStep (Given b o at waiting) = record { kind = o + 1; byte = b }\n";
+    const SCRIPT: &str = "unfoldable pub script_entry : Entry → List ℕ\n\
+        script_entry (edits (set_field k v)) = 2 ∷ (bytes8 k)\nscript_entry (edits (remove i)) = 9 ∷ bytes8 i\n\
+        script_entry (reads (read_field k)) = 1 ∷ bytes8 k\nscript_entry (fetches (fetch_text out)) = 11 ∷ (bytes8 (length out))\n\
+        head_of (refused r) = 0 ∷ r.number ∷ bytes8 r.place\nhead_of (accepted gs) = 1 ∷ 0 ∷ bytes8 0\n";
+    const LABELS: &str = "abbrev pub quantity_label : Quantity → ℕ\nquantity_label value = 1\nquantity_label count = 3\n\
+        missing_label : ℕ\nmissing_label = 128\nlabels [] = 0\nlabels (g ∷ gs) = label g + 256 * labels gs\n";
+    const TEXT: &str = "origin_of (plain b) = 0\norigin_of (original b) = 1\n\
+        unfoldable pub set_number : DeckSet → ℕ\nset_number ascii = 2\nset_number unknown = 0\n";
+    const READERS: &str = "symbol_of_step End = record { kind = 0; byte = 0 }\n\
+        symbol_of_step (Given b o at waiting) = record { kind = o + 1; byte = b }\n";
     const SIZES: &str = "  within : (38 ≤ n) × (n ≤ 1853)\n";
     const HEADER: &str = "#include <stdint.h>\n#ifdef __cplusplus\nextern \"C\" {\n#endif\ntypedef struct lmr5_answer {\n    uint32_t refusal; /* a; b */\n} lmr5_answer;\n\
         enum lmr5_field { LMR5_BOX10 = 1 };\nenum lmr5_contents { LMR5_CONTENTS_WORD = 0, LMR5_CONTENTS_PRESENT = 1 };\n\
@@ -244,7 +247,8 @@ mod tests {
 
     fn sources() -> Sources<'static> {
         Sources {
-            exports: CODE,
+            exports: EXPORTS,
+            library: LIBRARY,
             types: TYPES,
             table: TABLE,
             indicators: INDICATORS,
@@ -346,7 +350,7 @@ mod tests {
     /// A definition that is new or changed is said without a change here.
     #[test]
     fn each_change_of_a_definition_is_said() {
-        let quantity = format!("{LABELS}quantityLabel shipLength = 10\n");
+        let quantity = format!("{LABELS}quantity_label ship_length = 10\n");
         let sources_of = |labels| Sources {
             labels,
             ..sources()
@@ -356,7 +360,7 @@ mod tests {
             text,
             ["enum lmr5_given: the code has (LMR5_GIVEN_SHIP_LENGTH = 10), here is ()"]
         );
-        let missing = LABELS.replace("missingLabel = 128", "missingLabel = 64");
+        let missing = LABELS.replace("missing_label = 128", "missing_label = 64");
         assert_eq!(said_of(&sources_of(&missing), HEADER).len(), 1);
         for new in ["[[u8; 10]; 13]", "[[u8; 11]; 14]", "[[u16; 10]; 14]"] {
             let types = &TYPES.replace("[[u8; 10]; 14]", new);
@@ -372,8 +376,8 @@ mod tests {
                 "table: &FlagTable,\n    log: &mut [u8]",
             ),
         ] {
-            assert_eq!(CODE.matches(old).count(), 1, "{old}");
-            let exports = &CODE.replace(old, new);
+            assert_eq!(EXPORTS.matches(old).count(), 1, "{old}");
+            let exports = &EXPORTS.replace(old, new);
             let sources = Sources {
                 exports,
                 ..sources()
@@ -386,8 +390,8 @@ mod tests {
             ..sources()
         };
         assert_eq!(said_of(&more, HEADER).len(), 1);
-        let kind = format!("{SCRIPT}scriptEntry (edits (putText t)) = 10 ∷ bytes8 t\n");
-        let head = SCRIPT.replace("headOf (accepted gs) = 1", "headOf (accepted gs) = 3");
+        let kind = format!("{SCRIPT}script_entry (edits (put_text t)) = 10 ∷ bytes8 t\n");
+        let head = SCRIPT.replace("head_of (accepted gs) = 1", "head_of (accepted gs) = 3");
         for script in [&kind, &head] {
             let sources = Sources {
                 script,
@@ -404,8 +408,8 @@ mod tests {
             ("(plain b) = 0", "(plain b) = 2", 2),
             ("(original b) = 1", "(original b) = 2", 2),
             ("ascii = 2", "ascii = 1", 1),
-            ("setNumber unknown = 0\n", "", 1),
-            ("unknown = 0", "unknown = 0\nsetNumber ebcdic = 1", 1),
+            ("set_number unknown = 0\n", "", 1),
+            ("unknown = 0", "unknown = 0\nset_number ebcdic = 1", 1),
         ] {
             assert_eq!(TEXT.matches(old).count(), 1, "{old}");
             let text = &TEXT.replace(old, new);
@@ -421,9 +425,16 @@ mod tests {
             };
             assert_eq!(said_of(&sources, HEADER).len(), 1, "{old}");
         }
+        for (old, new) in [("[u64; 5]", "[u64; 6]"), ("-> Symbol", "-> Answer")] {
+            assert_eq!(EXPORTS.matches(old).count(), 1, "{old}");
+            let exports = &EXPORTS.replace(old, new);
+            let sources = Sources {
+                exports,
+                ..sources()
+            };
+            assert_eq!(said_of(&sources, HEADER).len(), 1, "{old}");
+        }
         for (old, new) in [
-            ("[u64; 5]", "[u64; 6]"),
-            ("-> Symbol", "-> Answer"),
             ("kind: u32", "kind: u64"),
             (
                 "[3] = o.number as u64;\n    reader[4] = o.place",
@@ -431,10 +442,10 @@ mod tests {
             ),
             ("spaces as u64", "waiting as u64"),
         ] {
-            assert_eq!(CODE.matches(old).count(), 1, "{old}");
-            let exports = &CODE.replace(old, new);
+            assert_eq!(LIBRARY.matches(old).count(), 1, "{old}");
+            let library = &LIBRARY.replace(old, new);
             let sources = Sources {
-                exports,
+                library,
                 ..sources()
             };
             assert_eq!(said_of(&sources, HEADER).len(), 1, "{old}");
@@ -444,9 +455,9 @@ mod tests {
     #[test]
     #[should_panic(expected = "number 0 of a reader has two names")]
     fn a_number_of_a_reader_has_one_name() {
-        let exports = &CODE.replace("reader[0] = at", "reader[0] = end");
+        let library = &LIBRARY.replace("reader[0] = at", "reader[0] = end");
         let sources = Sources {
-            exports,
+            library,
             ..sources()
         };
         code::declared(&sources);
@@ -455,7 +466,37 @@ mod tests {
     #[test]
     #[should_panic(expected = "a reader has five numbers")]
     fn each_number_of_a_reader_is_stored() {
-        let exports = &CODE.replace("    reader[4] = o.place as u64;\n", "");
+        let library = &LIBRARY.replace("    reader[4] = o.place as u64;\n", "");
+        let sources = Sources {
+            library,
+            ..sources()
+        };
+        code::declared(&sources);
+    }
+
+    /// A function or a struct for C is seen in either crate.
+    #[test]
+    fn what_the_library_has_for_c_is_said() {
+        for more in [
+            "#[unsafe(no_mangle)]\npub extern \"C\" fn lmr5_h(n: usize)\n{}\n",
+            "#[repr(C)]\npub struct Other {\n    pub n: u32,\n}\n",
+        ] {
+            let (exports, library) = (format!("{EXPORTS}{more}"), format!("{LIBRARY}{more}"));
+            for (exports, library) in [(&exports[..], LIBRARY), (EXPORTS, &library[..])] {
+                let sources = Sources {
+                    exports,
+                    library,
+                    ..sources()
+                };
+                assert_eq!(said_of(&sources, HEADER).len(), 1, "{more}");
+            }
+        }
+    }
+
+    #[test]
+    #[should_panic(expected = "a function without #[unsafe(no_mangle)]")]
+    fn each_function_for_c_has_its_own_name() {
+        let exports = &EXPORTS.replacen("#[unsafe(no_mangle)]\n", "", 1);
         let sources = Sources {
             exports,
             ..sources()
