@@ -3,8 +3,9 @@
 
 usage: python3 tools/respell_names.py [--prose FILE..]
 
-A row of names.tsv is the older name, a tab, the newer name. Whole words turn, in .antt and .rt files below crates/, in one pass, so that
-a second run after a first one changes nothing but what was written in the older spelling since. Behind a dot stands a field or a step of
+A row of names.tsv is the older name, a tab, the newer name. Whole words turn, in .antt and .rt files below crates/, in one pass.
+It goes by spelling alone: a name of the library that a row has turns too, as `or-true` in laws/proofs/Indicators.antt, and has to be
+put back by hand. Behind a dot stands a field or a step of
 a call and never a lemma, so there the ending `_lem`, which sets a lemma apart from the definition of its name, is left off.
 With --prose the words inside code spans of the named pages turn instead.
 """
