@@ -130,24 +130,41 @@ fn flag_table(types: &str) -> Vec<String> {
     )]
 }
 
-/// What is stored to an array, with the place of each: `reader[0] = o.at as u64;` is 0 and `o.at`.
+/// The name of what is stored, the last part of its path: `u64::from(given.present)` and `given.present as u64` are `present`.
+fn stored_name(text: &str) -> &str {
+    let text = text.trim();
+    let text = text.strip_prefix("u64::from(").unwrap_or(text);
+    let word = text.split([' ', ')', ';']).next().expect("what is stored");
+    word.rsplit('.').next().expect("a name")
+}
+
+/// What is stored to a whole array, by places: `*reader = [opening.at as u64, 0];` is `at` and `0`.
+fn whole<'a>(text: &'a str, array: &str) -> Vec<&'a str> {
+    let start = format!("*{array} = [");
+    let Some((_, rest)) = text.split_once(&start) else {
+        return Vec::new();
+    };
+    let (items, _) = rest.split_once("];").expect("the array's end");
+    let items = items.split(',').filter(|text| !text.trim().is_empty());
+    items.map(stored_name).collect()
+}
+
+/// What is stored to single places of an array: `reader[0] = step.at as u64;` is 0 and `at`.
 fn stores<'a>(text: &'a str, array: &str) -> Vec<(usize, &'a str)> {
     let start = format!("{array}[");
     let parts = text.split(&start).skip(1);
     let stores = parts.filter_map(|part| part.split_once("] = "));
     stores
-        .filter_map(|(place, rest)| {
-            let stored = rest.split([' ', ';']).next().expect("what is stored");
-            Some((place.parse().ok()?, stored))
-        })
+        .filter_map(|(place, rest)| Some((place.parse().ok()?, stored_name(rest))))
         .collect()
 }
 
 /// The numbers of a reader, which C takes as a struct. Where 0 is stored, another store says what the number is.
 fn text_reader(text: &str) -> Vec<String> {
     let mut names = BTreeMap::new();
-    for (place, stored) in stores(text, "reader") {
-        let name = match stored.trim_start_matches("o.") {
+    let all = whole(text, "reader").into_iter().enumerate();
+    for (place, stored) in all.chain(stores(text, "reader")) {
+        let name = match stored {
             "at" => "place",
             "number" => "refusal",
             "place" => "refusal_place",
@@ -182,14 +199,11 @@ fn fields(table: &str) -> Vec<String> {
     .collect()
 }
 
-/// The places to which the contents are stored: `contents[3] = c.count ..`.
+/// The places to which the contents are stored: `*contents = [given.word, ..];`.
 fn contents(text: &str) -> Vec<String> {
-    let stores = stores(text, "contents").into_iter();
-    stores
-        .map(|(place, stored)| {
-            let name = stored.trim_start_matches("c.").to_uppercase();
-            format!("LMR5_CONTENTS_{name} = {place}")
-        })
+    let stored = whole(text, "contents").into_iter().enumerate();
+    stored
+        .map(|(place, name)| format!("LMR5_CONTENTS_{} = {place}", name.to_uppercase()))
         .collect()
 }
 
@@ -281,7 +295,7 @@ fn origins(text: &str) -> Vec<Named> {
     ]
 }
 
-/// The kind of a step's symbol: `symbol_of_step End = record { kind = 0; ..`.
+/// The kind of a step's symbol: `symbol_of_step None = record { kind = 0; ..`.
 fn kind_of<'a>(readers: &'a str, shape: &str) -> &'a str {
     let start = format!("symbol_of_step {shape} = record {{ kind = ");
     let found = readers.lines().find_map(|line| line.strip_prefix(&start));
@@ -290,10 +304,12 @@ fn kind_of<'a>(readers: &'a str, shape: &str) -> &'a str {
 
 /// The kinds of symbols: the end's, and those of plain and original ones, which are so much more than the marks.
 fn symbol_kinds(readers: &str, text: &str) -> Vec<Named> {
-    let end = first_number(kind_of(readers, "End"));
+    let end = first_number(kind_of(readers, "None"));
     let mut all = vec![("LMR5_SYMBOL_END".to_string(), end)];
-    let given = kind_of(readers, "(Given b o at waiting)");
-    let more = given.strip_prefix("o + ").expect("a mark and so much more");
+    let given = kind_of(readers, "(Some s)");
+    let more = given
+        .strip_prefix("mark s.origin + ")
+        .expect("a mark and so much more");
     for (name, origin) in origins(text) {
         let name = name.replace("ORIGIN_", "SYMBOL_");
         all.push((name, origin + first_number(more)));

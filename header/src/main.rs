@@ -196,12 +196,11 @@ mod tests {
     use super::*;
 
     const LIBRARY: &str = "#[repr(C)]\n#[derive(Clone, Copy)]\npub struct Answer {\n    pub refusal: u32,\n}\n\
-        fn store() {\n    contents[0] = c.word;\n    contents[1] = c.present as u64;\n}\n\
+        fn store() {\n    *contents = [\n        given.word,\n        u64::from(given.present),\n    ];\n}\n\
         #[repr(C)]\npub struct Symbol {\n    pub kind: u32,\n}\n\
         pub fn lmr5_t(table: &mut [u16; 256])\n{}\n\
-        fn opened() {\n    reader[0] = o.at as u64;\n    reader[1] = o.end as u64;\n    reader[2] = 0;\n\
-        \x20   reader[3] = o.number as u64;\n    reader[4] = o.place as u64;\n}\n\
-        fn step() {\n    f(reader[0] as usize, reader[2] as usize);\n    reader[0] = at as u64;\n    reader[2] = spaces as u64;\n}\n";
+        fn opened() {\n    *reader = [opening.at as u64, opening.end as u64, 0, number, place];\n}\n\
+        fn step() {\n    let [at, end, spaces, ..] = *reader;\n    reader[0] = step.at as u64;\n    reader[2] = step.spaces as u64;\n}\n";
     const EXPORTS: &str = "#[unsafe(no_mangle)]\npub extern \"C\" fn lmr5_n(report: &[u8], reader: &mut [u64; 5]) -> Symbol\n\
         \x20   ensures low { result.kind < 3 }\n    ensures { f (g report.now) reader.new }\n{}\n\
         #[unsafe(no_mangle)]\npub extern \"C\" fn lmr5_f(\n    report: &[u8], // read\n    n: usize,\n    to: &mut [u64; 6],\n) -> Answer\n{}\n\
@@ -220,8 +219,8 @@ mod tests {
         missing_label : ℕ\nmissing_label = 128\nlabels [] = 0\nlabels (g ∷ gs) = label g + 256 * labels gs\n";
     const TEXT: &str = "origin_of (plain b) = 0\norigin_of (original b) = 1\n\
         unfoldable pub set_number : DeckSet → ℕ\nset_number ascii = 2\nset_number unknown = 0\n";
-    const READERS: &str = "symbol_of_step End = record { kind = 0; byte = 0 }\n\
-        symbol_of_step (Given b o at waiting) = record { kind = o + 1; byte = b }\n";
+    const READERS: &str = "symbol_of_step None = record { kind = 0; byte = 0 }\n\
+        symbol_of_step (Some s) = record { kind = mark s.origin + 1; byte = s.byte }\n";
     const SIZES: &str = "  within : (38 ≤ n) × (n ≤ 1853)\n";
     const HEADER: &str = "#include <stdint.h>\n#ifdef __cplusplus\nextern \"C\" {\n#endif\ntypedef struct lmr5_answer {\n    uint32_t refusal; /* a; b */\n} lmr5_answer;\n\
         enum lmr5_field { LMR5_BOX10 = 1 };\nenum lmr5_contents { LMR5_CONTENTS_WORD = 0, LMR5_CONTENTS_PRESENT = 1 };\n\
@@ -416,7 +415,7 @@ mod tests {
             let sources = Sources { text, ..sources() };
             assert_eq!(said_of(&sources, HEADER).len(), count, "{old}");
         }
-        for (old, new) in [("kind = 0", "kind = 3"), ("kind = o + 1", "kind = o + 2")] {
+        for (old, new) in [("kind = 0", "kind = 3"), ("origin + 1", "origin + 2")] {
             assert_eq!(READERS.matches(old).count(), 1, "{old}");
             let readers = &READERS.replace(old, new);
             let sources = Sources {
@@ -436,11 +435,8 @@ mod tests {
         }
         for (old, new) in [
             ("kind: u32", "kind: u64"),
-            (
-                "[3] = o.number as u64;\n    reader[4] = o.place",
-                "[3] = o.place as u64;\n    reader[4] = o.number",
-            ),
-            ("spaces as u64", "waiting as u64"),
+            ("0, number, place]", "0, place, number]"),
+            ("step.spaces as u64", "step.waiting as u64"),
         ] {
             assert_eq!(LIBRARY.matches(old).count(), 1, "{old}");
             let library = &LIBRARY.replace(old, new);
@@ -455,7 +451,7 @@ mod tests {
     #[test]
     #[should_panic(expected = "number 0 of a reader has two names")]
     fn a_number_of_a_reader_has_one_name() {
-        let library = &LIBRARY.replace("reader[0] = at", "reader[0] = end");
+        let library = &LIBRARY.replace("reader[0] = step.at", "reader[0] = step.end");
         let sources = Sources {
             library,
             ..sources()
@@ -466,7 +462,7 @@ mod tests {
     #[test]
     #[should_panic(expected = "a reader has five numbers")]
     fn each_number_of_a_reader_is_stored() {
-        let library = &LIBRARY.replace("    reader[4] = o.place as u64;\n", "");
+        let library = &LIBRARY.replace("number, place]", "number]");
         let sources = Sources {
             library,
             ..sources()

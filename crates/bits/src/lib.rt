@@ -10,7 +10,7 @@ fn load(s: &[u8], i: usize) -> u64
     requires { i + 2 ≤ length s.now }
     ensures { (result ≡ pair s.now i) × (result < 65536) }
 {
-    numbers::wide(s[i]) * 256 + numbers::wide(s[i + 1])
+    u64::from(u16::from_be_bytes([s[i], s[i + 1]]))
 }
 
 // A number of 16 bits to two bytes.
@@ -18,8 +18,7 @@ fn store(s: &mut [u8], i: usize, n: u64)
     requires { (i + 2 ≤ length s.old) × (n < 65536) }
     ensures { s.new ≡ set (set s.old i (n / 256)) (i + 1) (n % 256) }
 {
-    s[i] = (n / 256) as u8;
-    s[i + 1] = (n % 256) as u8;
+    s[i..i + 2].copy_from_slice(&(n as u16).to_be_bytes());
 }
 
 // The width bits of n above the z low ones.

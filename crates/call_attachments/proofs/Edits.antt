@@ -1,6 +1,6 @@
 -- Nibbles of a report replaced: room made for them, and an attachment laid in it.
 -- Assumes nothing.
-use Prim.Native.Nat.{ℕ, ◌+◌, ◌-◌, ◌*◌, ◌/◌, ◌%◌, ◌≤◌, max}
+use Prim.Native.Nat.{ℕ, ◌+◌, ◌-◌, ◌*◌, ◌/◌, ◌%◌, ◌≤◌, max, min}
 use native.Mathlib.Omega.{arith}
 use mathlib.Core.Path.{◌≡◌, refl, sym, ap, ap₂, ◌∙◌}
 use mathlib.Core.List.{List, [], ◌∷◌, ◌++◌, append_assoc}
@@ -29,9 +29,13 @@ moved n at old new end k fits long e =
     ∙ append_assoc (take p n ++ take rest m) (zeros (cleared_to end (p + rest) - (p + rest))) (drop (cleared_to end (p + rest)) n)
     ∙ append_assoc (take p n) (take rest m) (zeros (cleared_to end (p + rest) - (p + rest)) ++ drop (cleared_to end (p + rest)) n)
 
+-- a number of nibbles in whole bytes
+pub half_up : (n : ℕ) → n / 2 + min 1 (n % 2) ≡ (n + 1) / 2
+half_up n = omega arith
+
 -- the two steps of a resize, in n bytes
 pub resize_is : (n : List ℕ) {n₁ n₂ : List ℕ} {at old new end m size : ℕ} → Resizable size at old new end → length n ≡ 2 * size
-    → m ≡ max ((end + 1) / 2) ((at + new + (end - (at + old)) + 1) / 2)
+    → m ≡ max (end / 2 + min 1 (end % 2)) ((at + new + (end - (at + old))) / 2 + min 1 ((at + new + (end - (at + old))) % 2))
     → n₁ ≡ paste n (at + new) (drop (at + old) n) (end - (at + old))
     → n₂ ≡ paste n₁ (at + new + (end - (at + old))) (zeros (2 * m - (at + new + (end - (at + old))))) (2 * m - (at + new + (end - (at + old))))
     → n₂ ≡ resized n at old new end
@@ -41,8 +45,9 @@ resize_is n {n₁} {n₂} {at} {old} {new} {end} {m} fits l e s₁ s₂ =
     let i = fits.inside in
     let f = fits.fits in
     let r = fits.room in
+    let whole-bytes : m ≡ max ((end + 1) / 2) ((last + 1) / 2) = e ∙ ap₂ max (half_up end) (half_up last) in
     s₂ ∙ ap (λ (y : List ℕ). paste y last (zeros k) k) s₁
-    ∙ moved n at old new end k (omega arith) (omega (arith, length-drop (at + old) n)) (ap (λ (j : ℕ). last + (2 * j - last)) e ∙ whole (end + 1) last)
+    ∙ moved n at old new end k (omega arith) (omega (arith, length-drop (at + old) n)) (ap (λ (j : ℕ). last + (2 * j - last)) whole-bytes ∙ whole (end + 1) last)
   where
     whole : (u v : ℕ) → v + (2 * max (u / 2) ((v + 1) / 2) - v) ≡ 2 * max (u / 2) ((v + 1) / 2)
     whole u v = omega arith

@@ -3,7 +3,7 @@
 use Prim.Native.Nat.{ℕ, ◌+◌, ◌-◌, ◌*◌, ◌/◌, ◌≤◌, ◌<◌}
 use native.Mathlib.Omega.{arith}
 use mathlib.Core.Path.{◌≡◌, refl, sym, ap, ◌∙◌}
-use mathlib.Core.Bool.{true, false, not}
+use mathlib.Core.Bool.{false, not}
 use mathlib.Core.List.{List, [], ◌∷◌, append-nil}
 use lib.ListN.{length, set}
 use lib.Seq.{paste}
@@ -25,9 +25,14 @@ use Rattle.laws.proofs.Edits.{Edit, edit_inside, edit_size, edit_laid}
 use Rattle.laws.proofs.Effects.{edit_done}
 use Rattle.card.specs.Answers.{Carded}
 use Rattle.report.specs.declared.Report.{Report}
+use Rattle.std.specs.Prelude.{Some, None, Ok, Err}
+use Prim.{tt}
+use Rattle.tail.specs.declared.Held.{Held}
+use Rattle.format.specs.declared.Refusal.TheVariants.{Room}
+use Rattle.call_attachments.specs.declared.Spot.{Spot}
 use Rattle.report.specs.Found.{Found}
 use Rattle.report.proofs.Found.{good, al_is, end_is, count_is, absent, split, place_is, spot, stands_passes}
-use Rattle.call_attachments.specs.Edit.{Resizable, resized, PutEdit, new_size, with_put, without_id, has_room, putting}
+use Rattle.call_attachments.specs.Edit.{Resizable, resized, PutEdit, new_size, with_put, without_id, has_room, putting, room_answer}
 use Rattle.call_attachments.proofs.Edits.{spliced_none, spliced_laid}
 
 -- room for an edit
@@ -42,20 +47,20 @@ resizable marks {b} {list} {x} {at} {old} {end} new bs e l small room =
 
 -- ---- drop
 
-module _ (marks : FlagTable) {b : List ℕ} {i : ℕ} {r : Report} (bs : Bytes b) (f : Found marks b i r) (h : r.place ≡ 0 → ⊥) where
+module _ (marks : FlagTable) {b : List ℕ} {i : ℕ} {r : Report} (bs : Bytes b) (f : Found marks b i r) (h : Held) (stands : r.held ≡ Some h) where
   abbrev list : List Attachment
   list = (observation_of b).attachments
 
   abbrev content : List ℕ
   content = content_of i list
 
-  header_length : 3 + r.al ≡ length (attachment_nibbles (attachment i (content_of i (observation_of b).attachments)))
+  header_length : 3 + h.al ≡ length (attachment_nibbles (attachment i (content_of i (observation_of b).attachments)))
   unfolding attachment_nibbles
-  header_length = omega (arith, al_is marks bs f)
+  header_length = omega (arith, al_is marks bs f h stands)
 
-  pub remove_edit : Edit marks b (remove_from i (observation_of b).attachments) [] r.place (3 + r.al) r.end (r.count - 1)
+  pub remove_edit : Edit marks b (remove_from i (observation_of b).attachments) [] h.place (3 + h.al) r.end (r.count - 1)
   remove_edit =
-      let p = spot marks bs f h in
+      let p = spot marks bs f h stands in
       let n = count_is marks bs f in
       let m = remove-length p in
       record {
@@ -63,9 +68,9 @@ module _ (marks : FlagTable) {b : List ℕ} {i : ℕ} {r : Report} (bs : Bytes b
         before = tail_nibbles p.before;
         gone = attachment_nibbles (attachment i content);
         behind = tail_nibbles p.after;
-        from = split marks bs f p;
+        from = split marks bs f h stands;
         to = ap tail_nibbles (remove-placed p) ∙ tail-append p.before p.after;
-        at_is = place_is marks bs f p;
+        at_is = place_is marks bs f h stands;
         old_is = header_length;
         end_is = end_is marks bs f;
         count_is = omega arith;
@@ -79,22 +84,22 @@ module _ (marks : FlagTable) {b : List ℕ} {i : ℕ} {r : Report} (bs : Bytes b
       let e = end_is marks bs f in
       omega arith
 
-  pub remove_room : Resizable (length b) r.place (3 + r.al) 0 r.end
+  pub remove_room : Resizable (length b) h.place (3 + h.al) 0 r.end
   remove_room = resizable marks 0 bs remove_edit refl (omega arith) remove_fits
 
   pub count_some : 1 ≤ r.count
-  count_some = omega (arith, count_is marks bs f, remove-length (spot marks bs f h))
+  count_some = omega (arith, count_is marks bs f, remove-length (spot marks bs f h stands))
 
-  pub remove-laid : (c d : List ℕ) → nibbles c ≡ resized (nibbles b) r.place (3 + r.al) 0 r.end → length c ≡ length b
+  pub remove-laid : (c d : List ℕ) → nibbles c ≡ resized (nibbles b) h.place (3 + h.al) 0 r.end → length c ≡ length b
       → Carded c d (set (numbers_of c) 48 (r.count - 1)) → Bytes d → d ≡ without_id b i
   remove-laid c d moved same k bd =
-      edit_laid marks bs remove_edit c (moved ∙ spliced_none (nibbles b) r.place (3 + r.al) r.end)
+      edit_laid marks bs remove_edit c (moved ∙ spliced_none (nibbles b) h.place (3 + h.al) r.end)
       (fine_nibbles marks (remove_fine marks i (good marks bs f).fine)) d bd (k.long ∙ same) k.card k.behind
 
   pub remove_done : (d : List ℕ) → not (between 1 15 i) ≡ false → d ≡ without_id b i → after (Answer.accepted []) d [] ≡ effect marks b (edits (remove i))
   unfolding call_checks gives made
   remove_done d known laid =
-      edit_done marks b (observation_of b) bs f.judged (remove i) d (no_check (id_check i) _ known (stands_passes marks bs f h)) remove_fits laid
+      edit_done marks b (observation_of b) bs f.judged (remove i) d (no_check (id_check i) _ known (stands_passes marks bs f h stands)) remove_fits laid
 
 -- ---- put: at the end, or in place of what stands
 
@@ -102,7 +107,12 @@ module _ (marks : FlagTable) {b : List ℕ} {i : ℕ} {r : Report} {ns : List �
   few : length (put_in i ns (observation_of b).attachments) < 16
   few = omega (arith, fine_count marks (put_fine marks i ns fine (good marks bs f).fine))
 
-  pub append_edit : r.place ≡ 0 → PutEdit b i ns r.end 0 r.end (r.count + 1)
+  pub append_count : r.held ≡ None → r.count + 1 < 16
+  append_count e =
+      let list = (observation_of b).attachments in
+      omega (arith, few, count_is marks bs f, append-length i ns list (absent marks bs f e))
+
+  pub append_edit : r.held ≡ None → PutEdit b i ns (record { at = r.end; old = 0; end = r.end; count = r.count + 1 })
   unfolding tail_nibbles
   append_edit e =
       let list = (observation_of b).attachments in
@@ -123,20 +133,20 @@ module _ (marks : FlagTable) {b : List ℕ} {i : ℕ} {r : Report} {ns : List �
       } in
       record { marks = marks; edit = edit; fine = fine }
 
-  pub replace_edit : (r.place ≡ 0 → ⊥) → PutEdit b i ns r.place (3 + r.al) r.end r.count
+  pub replace_edit : (h : Held) → r.held ≡ Some h → PutEdit b i ns (record { at = h.place; old = 3 + h.al; end = r.end; count = r.count })
   unfolding tail_nibbles
-  replace_edit h =
-      let p = spot marks bs f h in
+  replace_edit h stands =
+      let p = spot marks bs f h stands in
       let n : r.count ≡ length (put_in i ns (observation_of b).attachments) = count_is marks bs f ∙ sym (put_length p ns) in
-      let edit : Edit marks b (put_in i ns (observation_of b).attachments) (attachment_nibbles (attachment i ns)) r.place (3 + r.al) r.end r.count = record {
+      let edit : Edit marks b (put_in i ns (observation_of b).attachments) (attachment_nibbles (attachment i ns)) h.place (3 + h.al) r.end r.count = record {
         judged = f.judged;
         before = tail_nibbles p.before;
         gone = attachment_nibbles (attachment i (content_of i (observation_of b).attachments));
         behind = tail_nibbles p.after;
-        from = split marks bs f p;
+        from = split marks bs f h stands;
         to = ap tail_nibbles (put_placed p ns) ∙ tail-append p.before (attachment i ns ∷ p.after);
-        at_is = place_is marks bs f p;
-        old_is = header_length marks bs f h;
+        at_is = place_is marks bs f h stands;
+        old_is = header_length marks bs f h stands;
         end_is = end_is marks bs f;
         count_is = n;
         count_lt = omega (arith, few);
@@ -145,7 +155,7 @@ module _ (marks : FlagTable) {b : List ℕ} {i : ℕ} {r : Report} {ns : List �
 
 -- ---- the returns of a put
 
-module _ {b : List ℕ} {i : ℕ} {ns : List ℕ} {at old end count : ℕ} (bs : Bytes b) (e : PutEdit b i ns at old end count) where
+module _ {b : List ℕ} {i : ℕ} {ns : List ℕ} {spot : Spot} (bs : Bytes b) (e : PutEdit b i ns spot) where
   abbrev t : Observation
   t = with_content (observation_of b) i ns
 
@@ -153,35 +163,35 @@ module _ {b : List ℕ} {i : ℕ} {ns : List ℕ} {at old end count : ℕ} (bs :
   unfolding attachment_nibbles
   attachment-length = omega arith
 
-  put_size : size (with_content (observation_of b) i ns) ≡ (end - old + (3 + length ns) + 1) / 2
-  put_size = edit_size e.marks bs e.edit ∙ ap (λ (n : ℕ). (end - old + n + 1) / 2) (sym attachment-length)
+  put_size : size (with_content (observation_of b) i ns) ≡ (spot.end - spot.old + (3 + length ns) + 1) / 2
+  put_size = edit_size e.marks bs e.edit ∙ ap (λ (n : ℕ). (spot.end - spot.old + n + 1) / 2) (sym attachment-length)
 
-  pub put_small : (old ≤ end) × (end ≤ 3706) × (at ≤ end) × (length ns ≤ 255)
+  pub put_small : (spot.old ≤ spot.end) × (spot.end ≤ 3706) × (spot.at ≤ spot.end) × (length ns ≤ 255)
   put_small =
       let w = within e.marks b (observation_of b) bs e.edit.judged in
       let i = edit_inside e.marks bs e.edit in
       let d = e.edit.end_is in
       (omega arith, omega arith, omega arith, e.fine.short)
 
-  pub put_refused : length b < new_size end old (length ns) → (false ≡ has_room b i ns) × (b ≡ putting b i ns)
+  pub put_refused : length b < new_size spot.end spot.old (length ns) → (Err Room ≡ room_answer (has_room b i ns)) × (b ≡ putting b i ns)
   put_refused h = rw (lt-leb (size t) (length b) (rw put_size h)) (refl, refl)
 
-  module _ (fits : new_size end old (length ns) ≤ length b) where
-    pub put_room : Resizable (length b) at old (3 + length ns) end
+  module _ (fits : new_size spot.end spot.old (length ns) ≤ length b) where
+    pub put_room : Resizable (length b) spot.at spot.old (3 + length ns) spot.end
     put_room = resizable e.marks (3 + length ns) bs e.edit attachment-length (omega (arith, e.fine.short)) (omega (arith, put_size))
 
-    pub lay_room : at + (3 + length ns) ≤ 2 * length b
+    pub lay_room : spot.at + (3 + length ns) ≤ 2 * length b
     lay_room = omega (arith, put_room.room)
 
-    pub put_laid : (c₁ c₂ d : List ℕ) → nibbles c₁ ≡ resized (nibbles b) at old (3 + length ns) end
-        → nibbles c₂ ≡ paste (nibbles c₁) at (attachment_nibbles (attachment i ns)) (3 + length ns) → length c₂ ≡ length b
-        → Carded c₂ d (set (numbers_of c₂) 48 count) → Bytes d → d ≡ with_put b i ns
+    pub put_laid : (c₁ c₂ d : List ℕ) → nibbles c₁ ≡ resized (nibbles b) spot.at spot.old (3 + length ns) spot.end
+        → nibbles c₂ ≡ paste (nibbles c₁) spot.at (attachment_nibbles (attachment i ns)) (3 + length ns) → length c₂ ≡ length b
+        → Carded c₂ d (set (numbers_of c₂) 48 spot.count) → Bytes d → d ≡ with_put b i ns
     put_laid c₁ c₂ d moved laid same k bd =
         let g = (judged e.marks b (observation_of b) bs e.edit.judged).good in
         let x = attachment_nibbles (attachment i ns) in
-        let spliced = laid ∙ ap (λ (l : List ℕ). paste l at x (3 + length ns)) moved
-        ∙ spliced_laid (nibbles b) x at old (3 + length ns) end attachment-length (rw length-nibbles lay_room) in
+        let spliced = laid ∙ ap (λ (l : List ℕ). paste l spot.at x (3 + length ns)) moved
+        ∙ spliced_laid (nibbles b) x spot.at spot.old (3 + length ns) spot.end attachment-length (rw length-nibbles lay_room) in
         edit_laid e.marks bs e.edit c₂ spliced (fine_nibbles e.marks (put_fine e.marks i ns e.fine g.fine)) d bd (k.long ∙ same) k.card k.behind
 
-    pub put_done_lem : (d : List ℕ) → d ≡ with_put b i ns → (true ≡ has_room b i ns) × (d ≡ putting b i ns)
+    pub put_done_lem : (d : List ℕ) → d ≡ with_put b i ns → (Ok tt ≡ room_answer (has_room b i ns)) × (d ≡ putting b i ns)
     put_done_lem d is = rw (le-leb (size t) (length b) (rw put_size fits)) (refl, is)

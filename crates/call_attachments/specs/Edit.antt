@@ -1,5 +1,5 @@
 -- Nibbles of a report replaced, and what a put and a drop leave.
-use Rattle.std.specs.Prelude.{ℕ, ◌+◌, ◌-◌, ◌*◌, ◌/◌, ◌≤◌, Bool, cond, List, ◌++◌, length, take, drop, leb}
+use Rattle.std.specs.Prelude.{ℕ, ◌+◌, ◌-◌, ◌*◌, ◌/◌, ◌≤◌, Bool, cond, List, ◌++◌, length, take, drop, leb, Result, Ok, Err}
 use Rattle.format.specs.Nibbles.{Attachment, attachment, attachment_nibbles}
 use Rattle.format.specs.Flags.{FlagTable}
 use Rattle.format.specs.Observation.{size}
@@ -9,6 +9,9 @@ use Rattle.format.specs.Buffer.{zeros, layout}
 use Rattle.laws.proofs.Attachments.{FineAt}
 use Rattle.laws.proofs.Edits.{cleared_to, Edit}
 use Rattle.report.specs.declared.Report.{Report}
+use Rattle.format.specs.declared.Refusal.{Refusal}
+use Rattle.format.specs.declared.Refusal.TheVariants.{Room}
+use Rattle.call_attachments.specs.declared.Spot.{Spot}
 use Rattle.report.specs.Found.{Found}
 
 -- old nibbles at a place of a report that ends at end, and new ones in their place, within n bytes
@@ -38,9 +41,9 @@ pub record Puttable (b : List ℕ) (i : ℕ) (r : Report) (ns : List ℕ) : Type
   pub fine : FineAt marks (attachment i ns)
 
 -- the edit that puts content ns under id i, and that this content may stand there
-pub record PutEdit (b : List ℕ) (i : ℕ) (ns : List ℕ) (at old end count : ℕ) : Type 0 where
+pub record PutEdit (b : List ℕ) (i : ℕ) (ns : List ℕ) (spot : Spot) : Type 0 where
   pub marks : FlagTable
-  pub edit : Edit marks b (put_in i ns (observation_of b).attachments) (attachment_nibbles (attachment i ns)) at old end count
+  pub edit : Edit marks b (put_in i ns (observation_of b).attachments) (attachment_nibbles (attachment i ns)) spot.at spot.old spot.end spot.count
   pub fine : FineAt marks (attachment i ns)
 
 -- the bytes of a report that ended at end, with an attachment of n nibbles in place of old ones
@@ -54,9 +57,12 @@ with_put b i ns = let s = observation_of b in layout b (size s) (with_content s 
 abbrev pub without_id : List ℕ → ℕ → List ℕ
 without_id b i = let s = observation_of b in layout b (size s) (with_attachments s (remove_from i s.attachments))
 
--- whether a put has room, and the buffer after it: without room it is as it was
+-- whether a put has room, what is answered, and the buffer after it: without room it is as it was
 abbrev pub has_room : List ℕ → ℕ → List ℕ → Bool
 has_room b i ns = leb (size (with_content (observation_of b) i ns)) (length b)
+
+abbrev pub room_answer : Bool → Result Unit Refusal
+room_answer t = cond t (Ok tt) (Err Room)
 
 abbrev pub putting : List ℕ → ℕ → List ℕ → List ℕ
 putting b i ns = cond (has_room b i ns) (with_put b i ns) b

@@ -3,117 +3,113 @@
 #![tactic(auto)]
 
 ghost use Rattle.std.specs.Prelude.{◌≡◌, [], ◌∷◌};
-ghost use Rattle.format.specs.ShipText.{set_of_source, deck_set, set_number};
+ghost use Rattle.format.specs.ShipText.{set_of_source, deck_set};
 ghost use Rattle.format.specs.Report.{observation_of};
 ghost use Rattle.format.specs.Calls as call;
 ghost use Rattle.format.specs.Buffer.{after, effect};
-ghost use Rattle.format.specs.Reply.{answer_of, CountsId4};
+ghost use Rattle.format.specs.Reply.{answer_of, set_of, CountsId4};
 ghost use Rattle.report.specs.Found.{AcceptedBySome, FoundBySome, Leaves};
 
-use format::{FlagTable, Reply};
-use report::{Inspected, Report};
+use card::Field;
+use format::{DeckSet, FlagTable, Outcome, Refusal, Reply};
+use report::Report;
+use text_reader::Body;
+
+// The highest id of an attachment, and the id of the ship text.
+const LAST_ID: usize = 15;
+
+const SHIP_TEXT: usize = 4;
+
+// The nibbles of an attachment's header.
+const HEADER: usize = 3;
+
+// The field of the source ID.
+const SID: usize = 10;
 
 // Fetches from a report that was inspected.
-fn fetch_found(s: &[u8], id: usize, found: Report, out: &mut [u8]) -> Reply
-    requires { FoundBySome s.now id found }
-    ensures { Leaves s.now (call.fetches (call.fetch id out.old)) (after (answer_of result) s.now (out.new ∷ [])) }
+#[tactic(auto, using(laws::proofs::Results::bytes_in, report::proofs::Found::reach))]
+fn fetch_found(buffer: &[u8], id: usize, report: Report, out: &mut [u8]) -> Reply
+    requires { FoundBySome buffer.now id report }
+    ensures { Leaves buffer.now (call.fetches (call.fetch id out.old)) (after (answer_of result) buffer.now (out.new ∷ [])) }
 {
-    let place = found.place;
-    let al = found.al;
-    if !numbers::within(1, 15, id) {
-        return Reply::Refused(8, 0);
+    if !(1..=LAST_ID).contains(&id) {
+        return Err(Refusal::Number);
     }
-    if place == 0 {
-        return Reply::Refused(11, 0);
+    let Some(held) = report.held else {
+        return Err(Refusal::NoSuch);
+    };
+    if out.len() < held.al {
+        return Err(Refusal::Room);
     }
-    if out.len() < al {
-        return Reply::Refused(13, 0);
-    }
-    nibble_copy::fetch(&*s, place + 3, al, out);
-    Reply::Count(al)
+    nibble_copy::fetch(buffer, held.place + HEADER, held.al, out);
+    Ok(Outcome::Count(held.al))
 }
 
 // Writes the nibbles of an id to the front of out, one a byte.
-pub fn fetch(s: &[u8], id: usize, out: &mut [u8], marks: &FlagTable) -> Reply
-    ensures { after (answer_of result) s.now (out.new ∷ []) ≡ effect marks.now s.now (call.fetches (call.fetch id out.old)) }
+pub fn fetch(buffer: &[u8], id: usize, out: &mut [u8], table: &FlagTable) -> Reply
+    ensures { after (answer_of result) buffer.now (out.new ∷ []) ≡ effect table.now buffer.now (call.fetches (call.fetch id out.old)) }
 {
-    let i = report::inspect(&*s, id, *marks);
-    match i {
-        Inspected::Refused(n, p) => Reply::Refused(n, p),
-        Inspected::Fine(found) => fetch_found(&*s, id, found, out),
-    }
+    let report = report::inspect(buffer, id, *table)?;
+    fetch_found(buffer, id, report, out)
 }
 
 // ---- the ship text
 
-// The number of the deck's set, by the source ID.
-fn source_set(n: usize) -> u8
-    ensures { result ≡ set_number (set_of_source n) }
+// The deck's set, by the source ID.
+#[tactic(auto, using(crate::proofs::Fetches::source_low, crate::proofs::Fetches::source_high, crate::proofs::Fetches::source_four, crate::proofs::Fetches::source_eighteen, crate::proofs::Fetches::source_zero, crate::proofs::Fetches::source_between, crate::proofs::Fetches::source_beyond))]
+fn source_set(source: usize) -> DeckSet
+    ensures { set_of result ≡ set_of_source source }
 {
-    if numbers::within(1, 3, n) {
-        return 1;
+    match source {
+        1..=3 | 5..=17 | 19..=21 | 23..=24 => DeckSet::Ebcdic,
+        4 | 18 => DeckSet::Ascii,
+        _ => DeckSet::Unknown,
     }
-    if numbers::within(5, 17, n) {
-        return 1;
-    }
-    if numbers::within(19, 21, n) {
-        return 1;
-    }
-    if numbers::within(23, 24, n) {
-        return 1;
-    }
-    if n == 4 {
-        return 2;
-    }
-    if n == 18 {
-        return 2;
-    }
-    0
 }
 
-// The number of the deck's set of an accepted report, by its scaled SID.
-pub fn deck_set(s: &[u8]) -> u8
-    requires { AcceptedBySome s.now }
-    ensures { result ≡ set_number (deck_set (call.value_at (observation_of s.now) 10)) }
+// The deck's set of an accepted report, by its scaled SID.
+pub fn deck_set(buffer: &[u8]) -> DeckSet
+    requires { AcceptedBySome buffer.now }
+    ensures { set_of result ≡ deck_set (call.value_at (observation_of buffer.now) 10) }
 {
-    let c = card::code(s, 10);
-    if card::is_missing(c) {
-        return 0;
+    let field = Field::at(SID);
+    let code = field.code(buffer);
+    if card::is_missing(code) {
+        return DeckSet::Unknown;
     }
-    let v = card::scaled(10, c);
-    let z = v.0;
-    source_set(numbers::unsigned_of(z) as usize)
+    let source = field.scaled(code);
+    source_set(numbers::unsigned_of(source.0) as usize)
 }
 
 // Fetches the ship text from a report that was inspected.
-fn fetch_text_found(s: &[u8], found: Report, out: &mut [u8], origins: &mut [u8]) -> Reply
-    requires { FoundBySome s.now 4 found }
-    ensures { Leaves s.now (call.fetches (call.fetch_text out.old origins.old))
-        (after (answer_of result) s.now (out.new ∷ origins.new ∷ [])) }
+#[tactic(auto, using(laws::proofs::Results::bytes_in, report::proofs::Found::reach, crate::proofs::Fetches::body_byte))]
+fn fetch_text_found(buffer: &[u8], report: Report, out: &mut [u8], origins: &mut [u8]) -> Reply
+    requires { FoundBySome buffer.now 4 report }
+    ensures { Leaves buffer.now (call.fetches (call.fetch_text out.old origins.old))
+        (after (answer_of result) buffer.now (out.new ∷ origins.new ∷ [])) }
 {
-    let place = found.place;
-    let al = found.al;
-    if place == 0 {
-        return Reply::Refused(11, 0);
+    let Some(held) = report.held else {
+        return Err(Refusal::NoSuch);
+    };
+    let body = Body {
+        report: buffer,
+        at: held.place + HEADER,
+        len: held.al,
+    };
+    let room = out.len().min(origins.len());
+    if !body.fits(room) {
+        return Err(Refusal::Room);
     }
-    let room = numbers::lesser(out.len(), origins.len());
-    if text_reader::fits(&*s, place + 3, al, room) {
-        let n = text_reader::read(&*s, place + 3, al, out, origins);
-        let nibbles = al as u8;
-        return Reply::Text(n, deck_set(&*s), nibbles);
-    }
-    Reply::Refused(13, 0)
+    let count = body.read(out, origins);
+    Ok(Outcome::Text(count, deck_set(buffer), held.al as u8))
 }
 
 // Writes the bytes of the ship text's symbols to the front of out, and their marks of origin to that of origins. Gives how many
 // symbols and how many nibbles they are, and the deck's set.
-pub fn fetch_text(s: &[u8], out: &mut [u8], origins: &mut [u8], marks: &FlagTable) -> Reply
-    ensures { (after (answer_of result) s.now (out.new ∷ origins.new ∷ [])
-        ≡ effect marks.now s.now (call.fetches (call.fetch_text out.old origins.old))) × CountsId4 result s.now }
+pub fn fetch_text(buffer: &[u8], out: &mut [u8], origins: &mut [u8], table: &FlagTable) -> Reply
+    ensures { (after (answer_of result) buffer.now (out.new ∷ origins.new ∷ [])
+        ≡ effect table.now buffer.now (call.fetches (call.fetch_text out.old origins.old))) × CountsId4 result buffer.now }
 {
-    let i = report::inspect(&*s, 4, *marks);
-    match i {
-        Inspected::Refused(n, p) => Reply::Refused(n, p),
-        Inspected::Fine(found) => fetch_text_found(&*s, found, out, origins),
-    }
+    let report = report::inspect(buffer, SHIP_TEXT, *table)?;
+    fetch_text_found(buffer, report, out, origins)
 }

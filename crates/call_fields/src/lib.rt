@@ -4,130 +4,112 @@
 ghost use Rattle.std.specs.Prelude.{◌≡◌, [], ◌∷◌, ◌-◌, ◌≤◌, length, get_or, set};
 ghost use Rattle.format.specs.Field.{field_at, entry_of};
 ghost use Rattle.format.specs.Report.{numbers_of, codes_of};
-ghost use Rattle.format.specs.Calls.{reads, edits, read_field, set_field, clear_field, value_given, accepted};
+ghost use Rattle.format.specs.Calls.{reads, edits, read_field, set_field, clear_field, value_given};
 ghost use Rattle.format.specs.Buffer.{after, effect, as_read};
-ghost use Rattle.format.specs.Reply.{answer_of};
+ghost use Rattle.format.specs.Reply.{answer_of, givens_of};
 ghost use Rattle.card.specs.Answers.{Carded};
-ghost use Rattle.card.specs.Rows.{Row, field_in};
+ghost use Rattle.card.specs.Rows.{field_in};
 ghost use Rattle.report.specs.Found.{AcceptedBySome, Leaves};
 ghost use Rattle.call_fields.specs.Replaced.{replaced};
 
-use card::Coding;
-use format::{Coded, FlagTable, Reply, Scaled};
-use report::Inspected;
+use card::Field;
+use format::{Coded, FlagTable, Outcome, Refusal, Reply, Scaled};
 
-// What a coded number stands for in the field that a row is of: a value, or that it is missing.
-pub fn told(row: u64, c: Coded) -> Reply
-    ensures { answer_of result ≡ accepted (value_given (entry_of (field_in row) c) ∷ []) }
+// The value that a coded number stands for in the field that a row is of, none where it is that of a missing field.
+#[tactic(auto, using(crate::proofs::Values::value_missing, crate::proofs::Values::value_there))]
+pub fn value_in(row: u64, code: Coded) -> Option<Scaled>
+    ensures { givens_of (Outcome.Value result) ≡ value_given (entry_of (field_in row) code) ∷ [] }
 {
-    if card::is_missing(c) {
-        return Reply::MissingValue;
+    if card::is_missing(code) {
+        return None;
     }
-    Reply::Value(card::scaled_in(row, c))
+    Some(card::scaled_in(row, code))
 }
 
-// The value of field k of an accepted report.
-fn field_of(s: &[u8], k: usize) -> Reply
-    requires { AcceptedBySome s.now }
-    ensures { Leaves s.now (reads (read_field k)) (after (answer_of result) s.now []) }
+// The same in a field.
+pub fn value_of(field: Field, code: Coded) -> Option<Scaled>
+    ensures { givens_of (Outcome.Value result) ≡ value_given (entry_of (field_at field.number) code) ∷ [] }
 {
-    if !numbers::within(1, 46, k) {
-        return Reply::Refused(8, 0);
-    }
-    let row = card::row(k);
-    let c = card::code_in(&*s, row);
-    told(row, c)
+    value_in(field.row(), code)
 }
 
-// The value of field k, or that it is missing.
-pub fn read_field(s: &[u8], k: usize, marks: &FlagTable) -> Reply
-    ensures { after (answer_of result) s.now [] ≡ effect marks.now s.now (reads (read_field k)) }
+// The value of a field of an accepted report.
+fn field_of(buffer: &[u8], number: usize) -> Reply
+    requires { AcceptedBySome buffer.now }
+    ensures { Leaves buffer.now (reads (read_field number)) (after (answer_of result) buffer.now []) }
 {
-    let i = report::inspect(&*s, 0, *marks);
-    match i {
-        Inspected::Refused(n, p) => Reply::Refused(n, p),
-        Inspected::Fine(_) => field_of(&*s, k),
-    }
+    let field = Field::numbered(number)?;
+    let code = field.code(buffer);
+    Ok(Outcome::Value(value_of(field, code)))
 }
 
-// Stores a code in field k, whose row is given, and leaves the checksum. Gives the code that stood there.
-pub fn exchange(s: &mut [u8], k: usize, row: u64, c: Coded) -> Coded
-    requires { (38 ≤ length s.old) × (1 ≤ k) × (k ≤ 46) × Row k row × (c.0 ≤ (field_at k).highest) }
-    ensures { Carded s.old s.new (set (numbers_of s.old) k c.0) × (result.0 ≡ get_or (codes_of s.old) (k - 1) 0) }
+// The value of a field, or that it is missing.
+pub fn read_field(buffer: &[u8], number: usize, table: &FlagTable) -> Reply
+    ensures { after (answer_of result) buffer.now [] ≡ effect table.now buffer.now (reads (read_field number)) }
 {
-    let old = card::code_in(s, row);
-    card::store_in(s, row, c);
-    old
+    report::inspect(buffer, 0, *table)?;
+    field_of(buffer, number)
 }
 
-// Stores a code in field k, whose row is given, of an accepted report, and sets the checksum. Gives the code that stood there.
-fn replace(s: &mut [u8], k: usize, row: u64, c: Coded) -> Coded
-    requires { AcceptedBySome s.old × (1 ≤ k) × (k ≤ 46) × Row k row × (c.0 ≤ (field_at k).highest) }
-    ensures { Carded s.old s.new (replaced s.old k c.0) × (result.0 ≡ get_or (codes_of s.old) (k - 1) 0) }
+// Stores a code in a field, and leaves the checksum. Gives the code that stood there.
+pub fn exchange(buffer: &mut [u8], field: Field, code: Coded) -> Coded
+    requires { (38 ≤ length buffer.old) × (code.0 ≤ (field_at field.number).highest) }
+    ensures { Carded buffer.old buffer.new (set (numbers_of buffer.old) field.number code.0) × (result.0 ≡ get_or (codes_of buffer.old) (field.number - 1) 0) }
 {
-    let n = card::checksum(s);
-    let old = exchange(s, k, row, c);
-    let x = c.0;
-    let y = old.0;
+    let former = field.code(buffer);
+    field.store(buffer, code);
+    former
+}
+
+// Stores a code in a field of an accepted report, and sets the checksum. Gives the code that stood there.
+fn replace(buffer: &mut [u8], field: Field, code: Coded) -> Coded
+    requires { AcceptedBySome buffer.old × (code.0 ≤ (field_at field.number).highest) }
+    ensures { Carded buffer.old buffer.new (replaced buffer.old field.number code.0) × (result.0 ≡ get_or (codes_of buffer.old) (field.number - 1) 0) }
+{
+    let sum = card::checksum(buffer);
+    let former = exchange(buffer, field, code);
     // 65535 is a multiple of 255, and no code is above it
-    card::set_checksum(s, n + 65535 - y as u64 + x as u64);
-    old
+    card::set_checksum(buffer, sum + 65535 - former.0 as u64 + code.0 as u64);
+    former
 }
 
-// Sets field k of an accepted report.
-fn set_field_of(s: &mut [u8], k: usize, v: Scaled) -> Reply
-    requires { AcceptedBySome s.old }
-    ensures { Leaves s.old (edits (set_field k v)) (after (answer_of result) s.new []) }
+// Sets a field of an accepted report.
+fn set_field_of(buffer: &mut [u8], number: usize, value: Scaled) -> Reply
+    requires { AcceptedBySome buffer.old }
+    ensures { Leaves buffer.old (edits (set_field number value)) (after (answer_of result) buffer.new []) }
 {
-    if !numbers::within(1, 46, k) {
-        return Reply::Refused(8, 0);
-    }
-    let row = card::row(k);
-    let g = card::coded_in(row, v);
-    match g {
-        Coding::Outside => Reply::Refused(9, k),
-        Coding::Code(c) => {
-            let old = replace(s, k, row, c);
-            told(row, old)
-        }
-    }
+    let field = Field::numbered(number)?;
+    let code = field.coded(value).ok_or(Refusal::Value(field.number))?;
+    let former = replace(buffer, field, code);
+    Ok(Outcome::Value(value_of(field, former)))
 }
 
-// Sets field k to v, and tells what stood there.
-pub fn set_field(s: &mut [u8], k: usize, v: Scaled, marks: &FlagTable) -> Reply
-    ensures { (after (answer_of result) s.new [] ≡ effect marks.now s.old (edits (set_field k v)))
-        × (answer_of result ≡ as_read marks.now s.old (read_field k) (answer_of result)) }
+// Sets a field to a value, and tells what stood there.
+pub fn set_field(buffer: &mut [u8], number: usize, value: Scaled, table: &FlagTable) -> Reply
+    ensures { (after (answer_of result) buffer.new [] ≡ effect table.now buffer.old (edits (set_field number value)))
+        × (answer_of result ≡ as_read table.now buffer.old (read_field number) (answer_of result)) }
 {
-    let i = report::inspect(s, 0, *marks);
-    match i {
-        Inspected::Refused(n, p) => Reply::Refused(n, p),
-        Inspected::Fine(_) => set_field_of(s, k, v),
-    }
+    report::inspect(buffer, 0, *table)?;
+    set_field_of(buffer, number, value)
 }
 
-// Clears field k of an accepted report.
-fn clear_field_of(s: &mut [u8], k: usize) -> Reply
-    requires { AcceptedBySome s.old }
-    ensures { Leaves s.old (edits (clear_field k)) (after (answer_of result) s.new []) }
+// Clears a field of an accepted report.
+fn clear_field_of(buffer: &mut [u8], number: usize) -> Reply
+    requires { AcceptedBySome buffer.old }
+    ensures { Leaves buffer.old (edits (clear_field number)) (after (answer_of result) buffer.new []) }
 {
-    if !numbers::within(1, 46, k) {
-        return Reply::Refused(8, 0);
+    let field = Field::numbered(number)?;
+    if field.is_required() {
+        return Err(Refusal::Required(field.number));
     }
-    let row = card::row(k);
-    if card::is_required(k) {
-        return Reply::Refused(10, k);
-    }
-    told(row, replace(s, k, row, Coded(0)))
+    Ok(Outcome::Value(value_of(field, replace(buffer, field, Coded(0)))))
 }
 
-// Makes field k missing, and tells what stood there.
-pub fn clear_field(s: &mut [u8], k: usize, marks: &FlagTable) -> Reply
-    ensures { (after (answer_of result) s.new [] ≡ effect marks.now s.old (edits (clear_field k)))
-        × (answer_of result ≡ as_read marks.now s.old (read_field k) (answer_of result)) }
+// Makes a field missing, and tells what stood there.
+pub fn clear_field(buffer: &mut [u8], number: usize, table: &FlagTable) -> Reply
+    ensures { (after (answer_of result) buffer.new [] ≡ effect table.now buffer.old (edits (clear_field number)))
+        × (answer_of result ≡ as_read table.now buffer.old (read_field number) (answer_of result)) }
 {
-    let i = report::inspect(s, 0, *marks);
-    match i {
-        Inspected::Refused(n, p) => Reply::Refused(n, p),
-        Inspected::Fine(_) => clear_field_of(s, k),
-    }
+    report::inspect(buffer, 0, *table)?;
+    clear_field_of(buffer, number)
 }

@@ -3,7 +3,7 @@
 use Prim.Native.Nat.{ℕ, zero, suc, ◌+◌, ◌-◌, ◌%◌, ◌≤◌, ◌<◌}
 use native.Mathlib.Omega.{arith}
 use mathlib.Core.Path.{◌≡◌, refl, sym, ap, ap₂, subst, ◌∙◌}
-use mathlib.Core.Bool.{Bool, true, false, cond, not, ◌&&◌, ◌||◌}
+use mathlib.Core.Bool.{Bool, true, false, cond, not, ◌||◌}
 use mathlib.Core.List.{List, [], ◌∷◌, ◌++◌, append-nil}
 use mathlib.Core.Option.{Option, none}
 use lib.ListN.{length, get_or, take, drop, set, length-append}
@@ -20,7 +20,7 @@ use Rattle.format.specs.Indicators.{indicators, fields_where}
 use Rattle.format.specs.Calls.{clear_with_indicators, value_at, cleared, data_missing, lost_on, clears_of, made}
 use Rattle.format.specs.declared.Coded.{Coded}
 use Rattle.format.specs.declared.Scaled.{Scaled}
-use Rattle.laws.proofs.Sequences.{and_right, and_assoc, cond_case, test_case}
+use Rattle.laws.proofs.Sequences.{and_right, cond_case, test_case}
 use Rattle.laws.proofs.Report.{passes, numbers_taken}
 use Rattle.laws.proofs.Indicators.{none_set, Free, clears_free}
 use Rattle.laws.proofs.Laid.{emptied, total-set, cleared_numbers}
@@ -42,19 +42,6 @@ module _ (b : List ℕ) (k : ℕ) (low : 1 ≤ k) (high : k ≤ 46) (c : Coded) 
   missing_is m is =
       is
       ∙ sym (ap not (ap is_present (value_is b k c low high at) ∙ present_is (field_at k) c (eqb c.0 0) refl) ∙ twice (eqb c.0 0))
-
--- an indicator that is present, by the test that it is missing; and its data
-pub alone_is : (s : Observation) (i : ℕ) (ks : List ℕ) (m l : Bool) → m ≡ not (is_present (value_at s i)) → l ≡ data_missing s ks
-    → not m && l ≡ is_present (value_at s i) && data_missing s ks
-alone_is s i ks m l e f = ap₂ (λ (x y : Bool). not x && y) e f ∙ ap (λ (x : Bool). x && data_missing s ks) (twice (is_present (value_at s i)))
-
--- four fields, by a test of each
-pub four_missing : (s : Observation) (i j k l : ℕ) (a b c d : Bool) → a ≡ not (is_present (value_at s i)) → b ≡ not (is_present (value_at s j))
-    → c ≡ not (is_present (value_at s k)) → d ≡ not (is_present (value_at s l)) → ((a && b) && c) && d ≡ data_missing s (i ∷ j ∷ k ∷ l ∷ [])
-unfolding data_missing
-four_missing s i j k l a b c d e f g h =
-    and_assoc (a && b) c d ∙ and_assoc a b (c && d)
-    ∙ ap₂ (λ (x y : Bool). x && y) e (ap₂ (λ (x y : Bool). x && y) f (ap₂ (λ (x y : Bool). x && y) g (h ∙ sym (and_right _))))
 
 pub one_missing : (s : Observation) (k : ℕ) (m : Bool) → m ≡ not (is_present (value_at s k)) → m ≡ data_missing s (k ∷ [])
 unfolding data_missing

@@ -1,7 +1,7 @@
--- Fields of indicators, one behind the other as digits of 256.
-use Rattle.std.specs.Prelude.{ℕ, zero, suc, ◌/◌, ◌%◌, List, [], ◌∷◌}
+-- The indicators that were found.
+use Rattle.std.specs.Prelude.{ℕ, List, take}
+use Rattle.call_indicators.specs.declared.Lost.{Lost}
 
--- the n lowest digits of a number, the lowest first
-unfoldable pub digits : ℕ → ℕ → List ℕ
-digits zero d = []
-digits (suc n) d = (d % 256) ∷ digits n (d / 256)
+-- their fields, in order
+abbrev pub listed : Lost → List ℕ
+listed lost = take lost.count lost.fields

@@ -2,7 +2,7 @@
 // what is put.
 #![tactic(auto)]
 
-ghost use Rattle.std.specs.Prelude.{◌≡◌, cond, ◌&&◌, [], ◌≤◌, length, take};
+ghost use Rattle.std.specs.Prelude.{◌≡◌, ◌&&◌, [], ◌≤◌, length};
 ghost use Rattle.format.specs.Report.{body_valid};
 ghost use Rattle.format.specs.Calls.{all_nibbles};
 ghost use Rattle.format.specs.Calls as call;
@@ -10,131 +10,92 @@ ghost use Rattle.format.specs.Buffer.{after, effect};
 ghost use Rattle.format.specs.ShipText.{symbols_in};
 ghost use Rattle.format.specs.Costliest.{Never12};
 ghost use Rattle.format.specs.Reply.{answer_of, CountsId4};
-ghost use Rattle.format.specs.declared.Reply.TheVariants.{Refused};
 ghost use Rattle.report.specs.Found.{Found, FoundBySome, Leaves};
-ghost use Rattle.call_attachments.specs.Edit.{Puttable, has_room, putting};
 
-use format::{FlagTable, Reply};
+use format::{FlagTable, Outcome, Refusal, Reply};
 use nibble::Cursor;
-use report::{Inspected, Report};
-use text_writer::Written;
+use report::Report;
 
-// The answer to a put, of which only room was left to judge.
-fn answered(room: bool, done: Reply) -> Reply
-    ensures { result ≡ cond room done (Refused 13 0) }
-{
-    if room {
-        return done;
-    }
-    Reply::Refused(13, 0)
-}
+// The highest id of an attachment, and the id of the ship text.
+const LAST_ID: usize = 15;
+
+const SHIP_TEXT: usize = 4;
+
+// The most nibbles of a content.
+const LONGEST: usize = 255;
 
 // ---- a content
 
 // Whether these bytes may stand under an id.
-fn content_valid(id: usize, content: &[u8], marks: &FlagTable) -> bool
+#[tactic(auto, using(laws::proofs::Attachments::all_nibbles_lem))]
+fn content_valid(id: usize, content: &[u8], table: &FlagTable) -> bool
     requires { length content.now ≤ 255 }
-    ensures { result ≡ all_nibbles content.now && body_valid marks.now id content.now }
+    ensures { result ≡ all_nibbles content.now && body_valid table.now id content.now }
 {
-    if nibble::all_nibbles(content) {
-        return tail::body_valid(
-            content,
-            Cursor {
-                at: 0,
-                packed: false,
-            },
-            id,
-            content.len(),
-            marks,
-        );
-    }
-    false
+    let start = Cursor {
+        at: 0,
+        packed: false,
+    };
+    nibble::all_nibbles(content) && tail::body_valid(content, start, id, content.len(), table)
 }
 
 // Puts to a report that was inspected.
-fn put_found(s: &mut [u8], id: usize, found: Report, content: &[u8], marks: &FlagTable) -> Reply
-    requires { Found marks.now s.old id found }
-    ensures { after (answer_of result) s.new [] ≡ effect marks.now s.old (call.edits (call.put id content.now)) }
+fn put_found(
+    buffer: &mut [u8],
+    id: usize,
+    report: Report,
+    content: &[u8],
+    table: &FlagTable,
+) -> Reply
+    requires { Found table.now buffer.old id report }
+    ensures { after (answer_of result) buffer.new [] ≡ effect table.now buffer.old (call.edits (call.put id content.now)) }
 {
-    if !numbers::within(1, 15, id) {
-        return Reply::Refused(8, 0);
+    if !(1..=LAST_ID).contains(&id) {
+        return Err(Refusal::Number);
     }
-    if content.len() < 1 {
-        return Reply::Refused(12, 0);
+    if !(1..=LONGEST).contains(&content.len()) {
+        return Err(Refusal::Length);
     }
-    if 255 < content.len() {
-        return Reply::Refused(12, 0);
+    if !content_valid(id, content, table) {
+        return Err(Refusal::Content);
     }
-    if content_valid(id, content, marks) {
-        return answered(
-            call_attachments::put_nibbles(s, id, found, content),
-            Reply::Done,
-        );
-    }
-    Reply::Refused(14, 0)
+    call_attachments::put_nibbles(buffer, id, report, content)?;
+    Ok(Outcome::Nothing)
 }
 
 // Replaces the content of an id, or appends the attachment.
-pub fn put(s: &mut [u8], id: usize, content: &[u8], marks: &FlagTable) -> Reply
-    ensures { after (answer_of result) s.new [] ≡ effect marks.now s.old (call.edits (call.put id content.now)) }
+pub fn put(buffer: &mut [u8], id: usize, content: &[u8], table: &FlagTable) -> Reply
+    ensures { after (answer_of result) buffer.new [] ≡ effect table.now buffer.old (call.edits (call.put id content.now)) }
 {
-    let i = report::inspect(s, id, *marks);
-    match i {
-        Inspected::Refused(n, p) => Reply::Refused(n, p),
-        Inspected::Fine(found) => put_found(s, id, found, content, marks),
-    }
+    let report = report::inspect(buffer, id, *table)?;
+    put_found(buffer, id, report, content, table)
 }
 
 // ---- the ship text
 
-// Puts the first n of these nibbles as ship text, if there is room.
-fn put_front(s: &mut [u8], found: Report, ns: &[u8], n: usize) -> bool
-    requires { (n ≤ length ns.now) × Puttable s.old 4 found (take n ns.now) }
-    ensures { (result ≡ has_room s.old 4 (take n ns.now)) × (s.new ≡ putting s.old 4 (take n ns.now)) }
-{
-    call_attachments::put_nibbles(s, 4, found, &ns[0..n])
-}
-
-// The same, of an array.
-fn put_written(s: &mut [u8], found: Report, ns: &[u8; 255], n: usize) -> bool
-    requires { (n ≤ length ns.now) × Puttable s.old 4 found (take n ns.now) }
-    ensures { (result ≡ has_room s.old 4 (take n ns.now)) × (s.new ≡ putting s.old 4 (take n ns.now)) }
-{
-    put_front(s, found, ns, n)
-}
-
 // Puts the ship text to a report that was inspected.
-fn put_text_found(s: &mut [u8], found: Report, text: &[u8], origins: &[u8]) -> Reply
-    requires { FoundBySome s.old 4 found }
-    ensures { Leaves s.old (call.edits (call.put_text text.now origins.now)) (after (answer_of result) s.new []) }
+fn put_text_found(buffer: &mut [u8], report: Report, text: &[u8], origins: &[u8]) -> Reply
+    requires { FoundBySome buffer.old 4 report }
+    ensures { Leaves buffer.old (call.edits (call.put_text text.now origins.now)) (after (answer_of result) buffer.new []) }
 {
     if text.len() != origins.len() {
-        return Reply::Refused(13, 0);
+        return Err(Refusal::Room);
     }
-    let mut ns = [0u8; 255];
-    let w = text_writer::write(text, origins, &mut ns);
-    match w {
-        Written::Unfit => Reply::Refused(14, 0),
-        Written::TooLong => Reply::Refused(12, 0),
-        Written::Fits(n) => {
-            if n < 1 {
-                return Reply::Refused(12, 0);
-            }
-            let nibbles = n as u8;
-            answered(put_written(s, found, &ns, n), Reply::Nibbles(nibbles))
-        }
+    let mut nibbles = [0; LONGEST];
+    let count = text_writer::write(text, origins, &mut nibbles)?;
+    if count == 0 {
+        return Err(Refusal::Length);
     }
+    call_attachments::put_nibbles(buffer, SHIP_TEXT, report, &nibbles[..count])?;
+    Ok(Outcome::Nibbles(count as u8))
 }
 
 // Puts the ship text: bytes, and for each a mark of origin, 0 plain and 1 original. Gives how many nibbles it takes.
-pub fn put_text(s: &mut [u8], text: &[u8], origins: &[u8], marks: &FlagTable) -> Reply
-    ensures { (after (answer_of result) s.new []
-        ≡ effect marks.now s.old (call.edits (call.put_text text.now origins.now)))
-        × CountsId4 result s.new × Never12 (symbols_in text.now origins.now) (answer_of result) }
+pub fn put_text(buffer: &mut [u8], text: &[u8], origins: &[u8], table: &FlagTable) -> Reply
+    ensures { (after (answer_of result) buffer.new []
+        ≡ effect table.now buffer.old (call.edits (call.put_text text.now origins.now)))
+        × CountsId4 result buffer.new × Never12 (symbols_in text.now origins.now) (answer_of result) }
 {
-    let i = report::inspect(s, 4, *marks);
-    match i {
-        Inspected::Refused(n, p) => Reply::Refused(n, p),
-        Inspected::Fine(found) => put_text_found(s, found, text, origins),
-    }
+    let report = report::inspect(buffer, SHIP_TEXT, *table)?;
+    put_text_found(buffer, report, text, origins)
 }

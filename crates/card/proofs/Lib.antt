@@ -4,3 +4,4 @@ pub mod Scale
 pub mod Numbers
 pub mod Entries
 pub mod Laid
+pub mod Required

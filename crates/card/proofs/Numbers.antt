@@ -2,7 +2,7 @@
 -- Assumes nothing.
 use Prim.Native.Nat.{ℕ, zero, suc, ◌+◌, ◌-◌, ◌*◌, ◌/◌, ◌%◌, ◌^◌, ◌≤◌, ◌<◌}
 use native.Mathlib.Omega.{arith}
-use mathlib.Core.Path.{◌≡◌, refl, sym, ap, ap₂, subst, ◌∙◌}
+use mathlib.Core.Path.{◌≡◌, refl, sym, ap, subst, ◌∙◌}
 use mathlib.Core.Bool.{Bool}
 use mathlib.Core.List.{List, [], ◌∷◌, ◌++◌}
 use lib.ListN.{length, take, drop, get_or, set, replicate, length-drop, length-set, take-append-drop}
@@ -19,7 +19,6 @@ use Rattle.laws.proofs.Fields.{no_field, field_at_lem, table_fits, width_at}
 use Rattle.bits.specs.Window.{patched}
 use Rattle.bits.proofs.Window.{field_byte, splice_byte}
 use Rattle.card.specs.Answers.{Carded}
-use Rattle.card.specs.Rows.{Row}
 
 -- ---- reading
 
@@ -37,9 +36,8 @@ code_at b k l h =
 pub codes-length : (b : List ℕ) → length (codes_of b) ≡ 46
 codes-length b = length-take-le 46 (drop 1 (numbers_of b)) (simp (length-drop, numbers_length) (omega arith))
 
--- a field's coded number stands where its row says
-pub row_at : (b : List ℕ) (k r : ℕ) → Row k r → 1 ≤ k → k ≤ 46 → bit_field b (r / 4294967296) (r / 268435456 % 16) ≡ get_or (codes_of b) (k - 1) 0
-row_at b k r w l h = ap₂ (bit_field b) w.place w.bits ∙ number_at_lem b k (omega arith) ∙ sym (code_at b k l h)
+pub code_there : (b : List ℕ) (k : ℕ) → 1 ≤ k → k ≤ 46 → bit_field b (offset widths k) (get_or widths k 0) ≡ get_or (codes_of b) (k - 1) 0
+code_there b k l h = number_at_lem b k (omega arith) ∙ sym (code_at b k l h)
 
 -- the numbers that are no fields
 module _ (b : List ℕ) where
@@ -77,7 +75,7 @@ tail_same s t bs bt h l e =
     ∙ uniform_back 4 n (tail_of s) [] refl (drop_below 16 75 (nibbles s) (nibbles_lt s bs))
 
 -- a coded number up to the highest has room in its field
-code_lt : (k v : ℕ) → 1 ≤ k → k ≤ 46 → v ≤ (field_at k).highest → v < 2 ^ get_or widths k 0
+pub code_lt : (k v : ℕ) → 1 ≤ k → k ≤ 46 → v ≤ (field_at k).highest → v < 2 ^ get_or widths k 0
 code_lt k v l h hv =
     let e : get_or widths k 0 ≡ (get_or table (k - 1) no_field).bits = width_at k l h ∙ ap (λ (f : Field). f.bits) (field_at_lem k) in
     rw e (omega (arith, table_fits (k - 1), ap (λ (f : Field). f.highest) (field_at_lem k)))
@@ -96,16 +94,10 @@ carded s t k v bs bt h hk hv written l =
       long = l;
     }
 
--- also to the bits that a row says
-pub carded_row : (s t : List ℕ) (k r v : ℕ) → Row k r → Bytes s → Bytes t → 38 ≤ length s → 1 ≤ k → k ≤ 46 → v ≤ (field_at k).highest
-    → bits_of t ≡ splice (bits_of s) (r / 4294967296) (bits (r / 268435456 % 16) v) → length t ≡ length s
+pub carded_field : (s t : List ℕ) (k v : ℕ) → Bytes s → Bytes t → 38 ≤ length s → 1 ≤ k → k ≤ 46 → v ≤ (field_at k).highest
+    → bits_of t ≡ splice (bits_of s) (offset widths k) (bits (get_or widths k 0) v) → length t ≡ length s
     → Carded s t (set (numbers_of s) k v)
-carded_row s t k r v w bs bt h lo hi hv written l =
-    carded s t k v bs bt h (omega arith) (code_lt k v lo hi hv) (written ∙ ap₂ (λ (o n : ℕ). splice (bits_of s) o (bits n v)) w.place w.bits) l
-
--- which have room for a coded number
-pub row_lt : (k r v : ℕ) → Row k r → 1 ≤ k → k ≤ 46 → v ≤ (field_at k).highest → v < 2 ^ (r / 268435456 % 16)
-row_lt k r v w l h hv = subst (λ (n : ℕ). v < 2 ^ n) (sym w.bits) (code_lt k v l h hv)
+carded_field s t k v bs bt h lo hi hv = carded s t k v bs bt h (omega arith) (code_lt k v lo hi hv)
 
 module _ (s t : List ℕ) (v : ℕ) (bs : Bytes s) (bt : Bytes t) (h : 38 ≤ length s) (l : length t ≡ length s) where
   pub carded_rptin : v < 65536 → bits_of t ≡ splice (bits_of s) 0 (bits 16 v) → Carded s t (set (numbers_of s) 0 v)

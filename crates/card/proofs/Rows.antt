@@ -3,9 +3,11 @@
 use Prim.Native.Nat.{ℕ, zero, suc, ◌+◌, ◌/◌, ◌%◌, ◌≤◌, ◌<◌}
 use native.Mathlib.Omega.{arith}
 use native.Mathlib.Decide.{ℕ_discrete}
-use mathlib.Core.Path.{◌≡◌, refl, sym, ap, subst, ◌∙◌}
+use mathlib.Core.Path.{◌≡◌, sym, ap, subst, ◌∙◌}
 use mathlib.Core.Bool.{Bool, true, ◌&&◌}
-use lib.ListN.{get_or}
+use mathlib.Core.List.{List}
+use lib.ListN.{get_or, drop}
+use lib.Seq.{get_or-take, get_or-drop}
 use lib.Dec.{T, leb, eqb, eqb→eq, leb→le}
 use lib.IntN.{ℤ, pos, negsuc}
 use Rattle.format.specs.Bits.{total, offset}
@@ -14,8 +16,7 @@ use Rattle.format.specs.Observation.{widths}
 use Rattle.format.proofs.Test.{left, right}
 use Rattle.format.proofs.Table.{eq_z}
 use Rattle.laws.proofs.Fields.{width_at}
-use Rattle.bits.specs.Window.{TwoBytes}
-use Rattle.card.specs.Rows.{rows, base_of, field_in, Row, RowAt}
+use Rattle.card.specs.Rows.{rows, base_of, field_in, Row, RowAt, RowRun}
 
 eq_z_eq : (a b : ℤ) → T (eq_z a b) → a ≡ b
 unfolding eq_z
@@ -68,8 +69,11 @@ tested k r t =
       within = leb→le _ _ (right (leb (offset widths k / 8 + 2) 38) _ t₄);
     }
 
-pub row_is : (k : ℕ) → 1 ≤ k → k ≤ 46 → Row k (get_or rows k 0)
+row_is : (k : ℕ) → 1 ≤ k → k ≤ 46 → Row k (get_or rows k 0)
 row_is k l h = tested k (get_or rows k 0) (is_row_lem 46 k all_rows l h)
+
+pub row_number : (k r : ℕ) → 1 ≤ k → k ≤ 46 → r ≡ get_or rows k 0 → Row k r
+row_number k r l h e = subst (λ (x : ℕ). Row k x) (sym e) (row_is k l h)
 
 -- the field that a row is of
 pub field_row : (k r : ℕ) → Row k r → 1 ≤ k → k ≤ 46 → field_in r ≡ field_at k
@@ -78,15 +82,16 @@ field_row k r w l h =
     λ i. record { highest = w.highest i; base = w.base i; bits = b i }
 
 -- the row of the field at place i
-pub row_listed : (i : ℕ) → i < 46 → RowAt i (get_or rows (i + 1) 0)
-row_listed i h = record { place = h; row = refl }
-
 pub row_here : (i r : ℕ) → RowAt i r → Row (i + 1) r
-row_here i r w = subst (λ (x : ℕ). Row (i + 1) x) (sym w.row) (row_is (i + 1) (omega arith) (omega (arith, w.place)))
+row_here i r w = row_number (i + 1) r (omega arith) (omega (arith, w.place)) w.row
 
-pub field_here : (i r : ℕ) → RowAt i r → field_in r ≡ field_at (i + 1)
-field_here i r w = field_row (i + 1) r (row_here i r w) (omega arith) (omega (arith, w.place))
-
--- the two bytes that a row lies within
-pub row_window : (k r n : ℕ) → Row k r → 38 ≤ n → TwoBytes n (r / 4294967296) (r / 268435456 % 16)
-row_window k r n w h = rw (w.place, w.bits) (record { room = omega (arith, w.room); within = w.within })
+-- each row of a run
+pub row_in : (i n j : ℕ) (rs : List ℕ) → RowRun i n rs → j < n → RowAt (i + j) (get_or rs j 0)
+row_in i n j rs w h =
+    let e : i + 1 + j ≡ i + j + 1 = omega arith in
+    record {
+      place = omega (arith, w.places);
+      row =
+          ap (λ (l : List ℕ). get_or l j 0) w.listed ∙ get_or-take n (drop (i + 1) rows) j 0 h ∙ get_or-drop (i + 1) rows j 0
+          ∙ ap (λ (k : ℕ). get_or rows k 0) e;
+    }

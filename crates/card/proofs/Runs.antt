@@ -4,7 +4,7 @@ use Prim.Native.Nat.{ℕ, zero, suc, ◌+◌, ◌≤◌, ◌<◌}
 use native.Mathlib.Nat.{add-mul}
 use native.Mathlib.Decide.{dec_lt}
 use native.Mathlib.Omega.{arith}
-use mathlib.Core.Path.{◌≡◌, sym, ap, ap₂, ◌∙◌}
+use mathlib.Core.Path.{◌≡◌, refl, sym, ap, ap₂, ◌∙◌}
 use mathlib.Core.List.{List}
 use lib.ListN.{length, get_or, set, length-set}
 use lib.Seq.{paste, paste-zero, paste-suc}
@@ -28,6 +28,10 @@ module _ {g : ℕ → ℕ} {most : ℕ} where
   pub sum_one : (i w r : ℕ) → r ≡ w + g i → g i ≤ most → Summed g most i 1 w r
   unfolding sum_run
   sum_one i w r e m = record { total = omega arith; small = omega arith }
+
+  pub sum_none : (i w : ℕ) → Summed g most i 0 w w
+  unfolding sum_run
+  sum_none i w = record { total = omega arith; small = omega arith }
 
   pub sum_then : {i m n w u v : ℕ} → Summed g most i m w u → Summed g most (i + m) n u v → Summed g most i (m + n) w v
   sum_then {i = i} {m = m} {n = n} a b =
@@ -86,6 +90,10 @@ module _ {A : Type 0} (xs ys : List A) (d : A) (o : ℕ) where
 -- ---- both
 
 module _ {A : Type 0} {f : ℕ → A} {g : ℕ → ℕ} {o most : ℕ} where
+  pub both_none : (i : ℕ) (x : List A) (w : ℕ) → SetAndSummed f g o most i 0 x x w w
+  unfolding set_run
+  both_none i x w = record { list = refl; long = refl; sums = sum_none i w }
+
   pub both_one : (i : ℕ) (x y : List A) (w r : ℕ) → y ≡ set x (o + i) (f i) → r ≡ w + g i → g i ≤ most → SetAndSummed f g o most i 1 x y w r
   unfolding set_run
   both_one i x y w r e t m = record { list = e; long = ap length e ∙ length-set x (o + i) (f i); sums = sum_one i w r t m }

@@ -1,5 +1,5 @@
 -- The rows: what the code knows of a field, as one number.
-use Rattle.std.specs.Prelude.{ℕ, ◌+◌, ◌/◌, ◌%◌, ◌≤◌, ◌<◌, ◌≡◌, List, [], ◌∷◌, get_or, ℤ, pos, ◌-ℤ◌}
+use Rattle.std.specs.Prelude.{ℕ, ◌+◌, ◌/◌, ◌%◌, ◌≤◌, ◌<◌, ◌≡◌, List, [], ◌∷◌, get_or, take, drop, ℤ, pos, ◌-ℤ◌}
 use Rattle.format.specs.Bits.{offset}
 use Rattle.format.specs.Field.{Field, field, field_at}
 use Rattle.format.specs.Observation.{widths}
@@ -78,8 +78,7 @@ pub record RowAt (i r : ℕ) : Type 0 where
   pub place : i < 46
   pub row : r ≡ get_or rows (i + 1) 0
 
--- and of the two fields behind it
-pub record RowsAt (i r1 r2 r3 : ℕ) : Type 0 where
-  pub first : RowAt i r1
-  pub second : RowAt (i + 1) r2
-  pub third : RowAt (i + 2) r3
+-- rs are the rows of the n fields from place i on
+pub record RowRun (i n : ℕ) (rs : List ℕ) : Type 0 where
+  pub places : i + n ≤ 46
+  pub listed : rs ≡ take n (drop (i + 1) rows)

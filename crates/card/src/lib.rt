@@ -1,22 +1,18 @@
 // The card field by field: read and written; a field's coded number and its scaled value.
+//
+// That a buffer holds a card, 38 bytes, stands at each function, and in no type of a card: what each that writes promises,
+// `Carded`, speaks of the whole buffer, whose front the card is.
 #![tactic(auto)]
 
-ghost use Rattle.std.specs.Prelude.{◌≡◌, true, false, ◌+◌, ◌-◌, ◌*◌, ◌/◌, ◌%◌, ◌≤◌, ◌<◌, ◌^◌, length, get_or, set, eqb};
-ghost use Rattle.format.specs.Bits.{bits, bits_of, bit_field, splice};
-ghost use Rattle.format.specs.Field.{field_at, required, scaled_of};
+ghost use Rattle.std.specs.Prelude.{◌≡◌, true, false, ◌+◌, ◌-◌, ◌*◌, ◌/◌, ◌%◌, ◌≤◌, ◌<◌, ◌^◌, length, get_or, set, eqb, MatchResult};
+ghost use Rattle.format.specs.Bits.{offset};
+ghost use Rattle.format.specs.Field.{field_at, is_field, required, scaled_of};
+ghost use Rattle.format.specs.Observation.{widths};
 ghost use Rattle.format.specs.Report.{numbers_of, rptin_of, codes_of, checksum_of, count_of};
-ghost use Rattle.bits.specs.Window.{TwoBytes};
 ghost use Rattle.card.specs.Answers.{coding_of, Carded};
-ghost use Rattle.card.specs.Rows.{rows, base_of, field_in, Row};
+ghost use Rattle.card.specs.Rows.{rows, base_of, field_in, Row, RowAt};
 
-use format::{Coded, Scaled};
-
-// The coded number of a scaled value, or that the value is out of range.
-#[derive(Clone, Copy)]
-pub enum Coding {
-    Outside,
-    Code(Coded),
-}
+use format::{Coded, Refusal, Scaled};
 
 // What the code knows of each field, as one number: in digits of 16, the bit at which it begins (3), its bits (1), its highest
 // coded number (3), its base plus 1000 (4).
@@ -113,7 +109,7 @@ pub const SH: u64 = 0x111_7_064_03e7;
 pub const A6: u64 = 0x118_2_002_03e7;
 
 // The row of field k.
-fn packed_row(k: usize) -> u64
+fn row(k: usize) -> u64
     requires { (1 ≤ k) × (k ≤ 46) }
     ensures { result ≡ get_or rows k 0 }
 {
@@ -167,38 +163,153 @@ fn packed_row(k: usize) -> u64
     }
 }
 
-// The row of field k: the same, held to the field table.
-pub fn row(k: usize) -> u64
-    requires { (1 ≤ k) × (k ≤ 46) }
-    ensures { Row k result }
+// The highest coded number of the field that a row is of.
+fn highest_in(row: u64) -> u16
+    ensures { result ≡ row / 65536 % 4096 }
 {
-    packed_row(k)
+    (row / 65536 % 4096) as u16
 }
 
-// The coded number of the field that a row is of.
-pub fn code_in(s: &[u8], row: u64) -> Coded
-    requires { TwoBytes (length s.now) (row / 4294967296) (row / 268435456 % 16) }
-    ensures { result.0 ≡ bit_field s.now (row / 4294967296) (row / 268435456 % 16) }
+// Its base.
+fn base(row: u64) -> i64
+    ensures { result ≡ base_of row }
 {
-    let at = (row / 4294967296) as usize;
-    let width = (row / 268435456 % 16) as usize;
-    Coded(bits::read(s, at, width) as u16)
+    (row % 65536) as i64 - 1000
 }
 
-// The coded number of field k.
-pub fn code(s: &[u8], k: usize) -> Coded
-    requires { (38 ≤ length s.now) × (1 ≤ k) × (k ≤ 46) }
-    ensures { result.0 ≡ get_or (codes_of s.now) (k - 1) 0 }
+// The scaled value of a coded number of the field that a row is of.
+pub fn scaled_in(row: u64, code: Coded) -> Scaled
+    ensures { result ≡ scaled_of (field_in row) code }
 {
-    code_in(s, row(k))
+    Scaled(code.0 as i64 + base(row))
+}
+
+// The coded number of a scaled value of the field that a row is of, none where the value is out of range.
+pub fn coded_in(row: u64, value: Scaled) -> Option<Coded>
+    ensures { result ≡ coding_of (field_in row) value }
+{
+    let low = base(row);
+    let high = low + highest_in(row) as i64;
+    let z = value.0;
+    if z < low + 1 || high < z {
+        return None;
+    }
+    Some(Coded((z - low) as u16))
+}
+
+// A field of the card: its number, 1 to 46, and its row.
+#[derive(Clone, Copy)]
+pub struct Field {
+    pub number: usize,
+    row: u64,
+    pub ghost low: { 1 ≤ number },
+    pub ghost high: { number ≤ 46 },
+    pub ghost row_of: { Row number row },
+}
+
+impl Field {
+    pub fn at(number: usize) -> Field
+        requires { (1 ≤ number) × (number ≤ 46) }
+        ensures { result.number ≡ number }
+    {
+        Field {
+            number,
+            row: row(number),
+        }
+    }
+
+    // The field of a number, which may be none.
+    pub fn numbered(number: usize) -> Result<Field, Refusal>
+        ensures { MatchResult result (λ field. field.number ≡ number) (λ refusal. (refusal ≡ Refusal.Number) × (is_field number ≡ false)) }
+    {
+        if !(1..=46).contains(&number) {
+            return Err(Refusal::Number);
+        }
+        Ok(Field::at(number))
+    }
+
+    // The field at a place, from 0, by its row. The runs over all 46 fields go over rows, so that each is a constant: a constant of
+    // type Field owes its facts wherever it stands.
+    pub fn of_row(place: usize, row: u64) -> Field
+        requires { RowAt place row }
+        ensures { result.number ≡ place + 1 }
+    {
+        Field {
+            number: place + 1,
+            row,
+        }
+    }
+
+    pub fn row(self) -> u64
+        ensures { Row self.number result }
+    {
+        self.row
+    }
+
+    // The bit at which it begins.
+    fn place(self) -> usize
+        ensures { result ≡ offset widths self.number }
+    {
+        (self.row / 4294967296) as usize
+    }
+
+    // Its bits.
+    fn width(self) -> usize
+        ensures { result ≡ get_or widths self.number 0 }
+    {
+        (self.row / 268435456 % 16) as usize
+    }
+
+    // Its highest coded number.
+    pub fn highest(self) -> u16
+        ensures { result ≡ (field_at self.number).highest }
+    {
+        highest_in(self.row)
+    }
+
+    #[tactic(auto, using(crate::proofs::Required::required_low, crate::proofs::Required::required_high, crate::proofs::Required::not_required))]
+    pub fn is_required(self) -> bool
+        ensures { result ≡ required self.number }
+    {
+        matches!(self.number, 1 | 2 | 3 | 6 | 7)
+    }
+
+    // Its coded number on a card.
+    pub fn code(self, buffer: &[u8]) -> Coded
+        requires { 38 ≤ length buffer.now }
+        ensures { result.0 ≡ get_or (codes_of buffer.now) (self.number - 1) 0 }
+    {
+        Coded(bits::read(buffer, self.place(), self.width()) as u16)
+    }
+
+    // Writes a coded number to it.
+    pub fn store(self, buffer: &mut [u8], code: Coded)
+        requires { (38 ≤ length buffer.old) × (code.0 ≤ (field_at self.number).highest) }
+        ensures { Carded buffer.old buffer.new (set (numbers_of buffer.old) self.number code.0) }
+    {
+        bits::write(buffer, self.place(), self.width(), u64::from(code.0));
+    }
+
+    // The scaled value of a coded number.
+    pub fn scaled(self, code: Coded) -> Scaled
+        ensures { result ≡ scaled_of (field_at self.number) code }
+    {
+        scaled_in(self.row, code)
+    }
+
+    // The coded number of a scaled value, none where the value is out of range.
+    pub fn coded(self, value: Scaled) -> Option<Coded>
+        ensures { result ≡ coding_of (field_at self.number) value }
+    {
+        coded_in(self.row, value)
+    }
 }
 
 // Whether a coded number is that of a missing field.
 pub fn is_missing(c: Coded) -> bool
     ensures { result ≡ eqb c.0 0 }
 {
-    let x = c.0;
-    x == 0
+    c.0 == 0
 }
 
 pub fn rptin(s: &[u8]) -> u16
@@ -220,86 +331,7 @@ pub fn count(s: &[u8]) -> usize
     requires { 38 ≤ length s.now }
     ensures { (result ≡ count_of s.now) × (result < 16) }
 {
-    (numbers::wide(s[37]) / 16) as usize
-}
-
-pub fn is_required(k: usize) -> bool
-    ensures { result ≡ required k }
-{
-    match k {
-        1 => true,
-        2 => true,
-        3 => true,
-        6 => true,
-        7 => true,
-        _ => false,
-    }
-}
-
-// The base of the field that a row is of.
-fn base(row: u64) -> i64
-    ensures { result ≡ base_of row }
-{
-    (row % 65536) as i64 - 1000
-}
-
-// The scaled value of a coded number of the field that a row is of.
-pub fn scaled_in(row: u64, c: Coded) -> Scaled
-    ensures { result ≡ scaled_of (field_in row) c }
-{
-    let x = c.0;
-    Scaled(x as i64 + base(row))
-}
-
-// The scaled value of a coded number of field k.
-pub fn scaled(k: usize, c: Coded) -> Scaled
-    requires { (1 ≤ k) × (k ≤ 46) }
-    ensures { result ≡ scaled_of (field_at k) c }
-{
-    scaled_in(row(k), c)
-}
-
-// The coded number of a scaled value of the field that a row is of.
-pub fn coded_in(row: u64, v: Scaled) -> Coding
-    ensures { result ≡ coding_of (field_in row) v }
-{
-    let low = base(row);
-    let high = low + (row / 65536 % 4096) as i64;
-    let z = v.0;
-    if z < low + 1 {
-        return Coding::Outside;
-    }
-    if high < z {
-        return Coding::Outside;
-    }
-    Coding::Code(Coded((z - low) as u16))
-}
-
-// The coded number of a scaled value of field k.
-pub fn coded(k: usize, v: Scaled) -> Coding
-    requires { (1 ≤ k) × (k ≤ 46) }
-    ensures { result ≡ coding_of (field_at k) v }
-{
-    coded_in(row(k), v)
-}
-
-// Writes a coded number to the field that a row is of.
-pub fn store_in(s: &mut [u8], row: u64, c: Coded)
-    requires { TwoBytes (length s.old) (row / 4294967296) (row / 268435456 % 16) × (c.0 < 2 ^ (row / 268435456 % 16)) }
-    ensures { (bits_of s.new ≡ splice (bits_of s.old) (row / 4294967296) (bits (row / 268435456 % 16) c.0)) × (length s.new ≡ length s.old) }
-{
-    let at = (row / 4294967296) as usize;
-    let width = (row / 268435456 % 16) as usize;
-    let x = c.0;
-    bits::write(s, at, width, x as u64);
-}
-
-// Writes a coded number to field k.
-pub fn store(s: &mut [u8], k: usize, c: Coded)
-    requires { (38 ≤ length s.old) × (1 ≤ k) × (k ≤ 46) × (c.0 ≤ (field_at k).highest) }
-    ensures { Carded s.old s.new (set (numbers_of s.old) k c.0) }
-{
-    store_in(s, row(k), c);
+    usize::from(s[37] / 16)
 }
 
 // Writes the checksum of a sum of coded fields.
@@ -307,19 +339,19 @@ pub fn set_checksum(s: &mut [u8], sum: u64)
     requires { 38 ≤ length s.old }
     ensures { Carded s.old s.new (set (numbers_of s.old) 47 (sum % 255)) }
 {
-    bits::write(s, 282, 14, numbers::short_remainder(sum) as u64);
+    bits::write(s, 282, 14, u64::from(numbers::short_remainder(sum)));
 }
 
 pub fn set_count(s: &mut [u8], n: usize)
     requires { (38 ≤ length s.old) × (n < 16) }
     ensures { Carded s.old s.new (set (numbers_of s.old) 48 n) }
 {
-    s[37] = (n as u64 * 16 + numbers::wide(s[37]) % 16) as u8;
+    s[37] = n as u8 * 16 + s[37] % 16;
 }
 
 pub fn set_rptin(s: &mut [u8], v: u16)
     requires { 38 ≤ length s.old }
     ensures { Carded s.old s.new (set (numbers_of s.old) 0 v) }
 {
-    bits::write(s, 0, 16, v as u64);
+    bits::write(s, 0, 16, u64::from(v));
 }

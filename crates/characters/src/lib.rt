@@ -7,14 +7,14 @@ ghost use Rattle.format.specs.ShipText.{up_from, char_table};
 ghost use Rattle.characters.specs.Table.{ReadBack};
 
 // Writes so many entries from a place on, each one more than the one before.
-fn put_run(out: &mut [u16], at: usize, count: usize, first: u16)
+#[tactic(auto, using(crate::proofs::Entries::run_none, crate::proofs::Entries::run_more))]
+fn put_run(out: &mut [u16], at: u8, count: usize, first: u16)
     requires { (at + count ≤ length out.old) × (first + count ≤ 65536) }
     ensures { out.new ≡ sets out.old at (up_from first count) }
 {
-    let mut i = 0;
-    while i < count {
+    let at = usize::from(at);
+    for i in 0..count {
         out[at + i] = first + i as u16;
-        i += 1;
     }
 }
 
@@ -31,18 +31,15 @@ pub fn generate(out: &mut [u16; 256])
     ensures { (out.new ≡ char_table) × ReadBack out.new }
 {
     put_escapes(out);
-    // 0 to 9, space
-    put_run(out, 48, 10, 0x1000);
-    put_run(out, 32, 1, 0x100a);
-    // A to I, J to R, S to Z
-    put_run(out, 65, 9, 0x20c1);
-    put_run(out, 74, 9, 0x20d1);
-    put_run(out, 83, 8, 0x20e2);
-    // / & + - { }
-    put_run(out, 47, 1, 0x20e1);
-    put_run(out, 38, 1, 0x20ca);
-    put_run(out, 43, 1, 0x20cb);
-    put_run(out, 45, 1, 0x20da);
-    put_run(out, 123, 1, 0x20c0);
-    put_run(out, 125, 1, 0x20d0);
+    put_run(out, b'0', 10, 0x1000);
+    put_run(out, b' ', 1, 0x100a);
+    put_run(out, b'A', 9, 0x20c1);
+    put_run(out, b'J', 9, 0x20d1);
+    put_run(out, b'S', 8, 0x20e2);
+    put_run(out, b'/', 1, 0x20e1);
+    put_run(out, b'&', 1, 0x20ca);
+    put_run(out, b'+', 1, 0x20cb);
+    put_run(out, b'-', 1, 0x20da);
+    put_run(out, b'{', 1, 0x20c0);
+    put_run(out, b'}', 1, 0x20d0);
 }

@@ -3,7 +3,7 @@
 use Prim.Native.Nat.{ℕ, zero, suc, ◌+◌, ◌-◌, ◌*◌, ◌/◌, ◌%◌, ◌^◌, ◌≤◌, ◌<◌}
 use native.Mathlib.Nat.{add-zero}
 use native.Mathlib.Omega.{arith}
-use mathlib.Core.Path.{◌≡◌, refl, sym, ap, ap₂, subst, ◌∙◌}
+use mathlib.Core.Path.{◌≡◌, sym, ap, ap₂, subst, ◌∙◌}
 use mathlib.Core.Bool.{Bool, true, false, not, ◌&&◌}
 use mathlib.Core.List.{List}
 use mathlib.Core.Option.{Option, none}
@@ -21,8 +21,8 @@ use Rattle.laws.proofs.Sequences.{test_case}
 use Rattle.card.proofs.Numbers.{number_at_lem, code_at}
 use Rattle.checks.specs.Answers.{checked_of, card_check}
 use Rattle.checks.specs.Parts.{Part, WordFields, fields_a, fields_b, fields_c, fields_d, fields_e, part_at, picked, laid, even, tops, needed, Passed, AllPassed, placed, kept, at_place, summed}
-use Rattle.checks.specs.declared.CardCheck.TheVariants.{Checksum}
-use Rattle.checks.specs.Walk.{code_refusal}
+use Rattle.std.specs.Prelude.{Ok}
+use Rattle.checks.specs.Walk.{code_check}
 use Rattle.checks.proofs.Turns as turns
 use Rattle.words.proofs.Turned.{field-within}
 use Rattle.checks.proofs.Parts.{shown, lower, apart, none_above, all_above, picked_at, every, every_at}
@@ -161,12 +161,12 @@ module _ (b : List ℕ) (h : 38 ≤ length b) (x : ℕ) (r : WordFields) (g : Go
     none_refused zero k l u = ap (turns.left b) (sym (add-zero (k - 1)))
     none_refused (suc n) k l u =
         let q : suc (k - 1) ≡ k = omega arith in
-        let fine : 0 ≡ code_refusal (suc (k - 1)) (code b k) =
+        let fine : Ok tt ≡ code_check (suc (k - 1)) (code b k) =
         turns.refusal_fine (suc (k - 1)) (code b k) (subst (λ (j : ℕ). code b k ≤ (field_at j).highest) (sym q) (top k l (omega arith)))
         (subst (λ (j : ℕ). required j && eqb (code b k) 0 ≡ false) (sym q) (present k l (omega arith))) in
         let p : suc k - 1 + n ≡ k - 1 + suc n = omega arith in
         let s : suc (k - 1) ≡ suc k - 1 = omega arith in
-        turns.walk_passed b (k - 1) 0 (omega arith) fine refl ∙ ap (turns.left b) s ∙ none_refused n (suc k) (omega arith) (omega arith) ∙ ap (turns.left b) p
+        turns.walk_passed b (k - 1) (omega arith) fine ∙ ap (turns.left b) s ∙ none_refused n (suc k) (omega arith) (omega arith) ∙ ap (turns.left b) p
 
   pub word_sum : all_valued x (part_at (λ j. 0) r.start) r.count r.first + turns.rest b (r.first - 1 + r.count) ≡ turns.rest b (r.first - 1)
   word_sum = sum-code r.count r.first (omega arith) (omega arith)
@@ -220,6 +220,6 @@ module _ (s : List ℕ) (h : 38 ≤ length s) (a b c d e : ℕ)
   unfolding checksum
   sum_is = near_mod _ _ (near_summed 8 (at_place a b c d e) valued_at near_at) ∙ ap (λ (n : ℕ). n % 255) all_codes
 
-  pub card_passed : AllPassed a b c d e → Checksum (summed 8 (at_place a b c d e) % 255) ≡ card_check s
+  pub card_passed : AllPassed a b c d e → Ok (summed 8 (at_place a b c d e) % 255) ≡ card_check s
   unfolding card_check
   card_passed t = ap₂ (λ (n : ℕ) (r : Option Refusal). checked_of r n) sum_is (sym (passed_left t))

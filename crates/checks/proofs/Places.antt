@@ -123,12 +123,12 @@ summed-one (suc n) a d h = go (ℕ_discrete a n) (summed-one n a d)
     go (yes q) more = ap₂ (λ (i : ℕ) (t : Bool). i + cond t d 0) (summed_past n a d (omega arith)) (eq-eqb a n q) ∙ omega arith
     go (no q) more = ap₂ (λ (i : ℕ) (t : Bool). i + cond t d 0) (more (omega arith)) (ne_eqb a n q) ∙ omega arith
 
--- the sum of what stands at place p, of two words and of three
-pub at_place_lem : (p : ℕ) {x y u v : ℕ} → x ≡ u → y ≡ v → (x + y) / 2 ^ p ≡ (u + v) / 2 ^ p
-at_place_lem p e f = ap₂ (λ (i j : ℕ). (i + j) / 2 ^ p) e f
+-- what stands at place p, and at place 0
+pub at_place_lem : (p : ℕ) {x u : ℕ} → x ≡ u → x / 2 ^ p ≡ u / 2 ^ p
+at_place_lem p e = ap (λ (i : ℕ). i / 2 ^ p) e
 
-pub first-place : {x y u v : ℕ} → x ≡ u → y ≡ v → x + y ≡ 0 + (u + v) / 2 ^ 0
-first-place e f = ap₂ ◌+◌ e f ∙ omega arith
+pub first-place : {x u : ℕ} → x ≡ u → x ≡ 0 + u / 2 ^ 0
+first-place e = e ∙ omega arith
 
 pub plus : {x y u v : ℕ} → x ≡ u → y ≡ v → x + y ≡ u + v
 plus e f = ap₂ ◌+◌ e f

@@ -19,8 +19,8 @@ use Rattle.laws.proofs.Bits.{total-step, total_end}
 use Rattle.laws.proofs.Fields.{no_field, field_at_lem, table-length, field_refusal, checks_at}
 use Rattle.card.proofs.Numbers.{codes-length}
 use Rattle.checks.specs.Answers.{checked_of, card_check}
-use Rattle.checks.specs.Walk.{code_refusal}
-use Rattle.checks.specs.declared.CardCheck.TheVariants.{Refused, Checksum}
+use Rattle.checks.specs.Walk.{by_tests, code_check}
+use Rattle.std.specs.Prelude.{Result, Ok, Err}
 
 -- ---- the coded fields from place i on
 
@@ -47,66 +47,70 @@ rest-step b i h = rw add-one at (total-step (codes_of b) i (rw codes-length h))
 -- ---- the walk: a field's refusal, and what it leaves
 
 module _ (k c : ℕ) where
-  pub refusal_above : (field_at k).highest < c → 2 ≡ code_refusal k c
-  unfolding code_refusal
+  pub refusal_above : (field_at k).highest < c → Err (record { number = 2; place = k }) ≡ code_check k c
+  unfolding code_check
   refusal_above h = rw (lt-ltb (field_at k).highest c h)
 
-  pub refusal_fine : c ≤ (field_at k).highest → required k && eqb c 0 ≡ false → 0 ≡ code_refusal k c
-  unfolding code_refusal
+  pub refusal_fine : c ≤ (field_at k).highest → required k && eqb c 0 ≡ false → Ok tt ≡ code_check k c
+  unfolding code_check
   refusal_fine h e = rw (le-ltb (field_at k).highest c h, e)
 
-  pub refusal_missing : c ≡ 0 → required k ≡ true → 3 ≡ code_refusal k c
-  unfolding code_refusal
+  pub refusal_missing : c ≡ 0 → required k ≡ true → Err (record { number = 3; place = k }) ≡ code_check k c
+  unfolding code_check
   refusal_missing e q = rw (e, q, le-ltb (field_at k).highest 0 (omega arith))
 
--- the refusal of a field by its two tests
-abbrev by_tests : Bool → Bool → ℕ
-by_tests s t = cond s 2 (cond t 3 0)
+-- the refusal of a field, or what comes behind it
+abbrev refused_or : Result Unit Refusal → Option Refusal → Option Refusal
+refused_or (Err r) more = some r
+refused_or (Ok u) more = more
 
-refused : (s t : Bool) (k : ℕ) (r : Option Refusal) → (by_tests s t ≡ 0 → ⊥)
-    → cond s (some (record { number = 2; place = k })) (cond t (some (record { number = 3; place = k })) r)
-    ≡ some (record { number = by_tests s t; place = k })
-refused true t k r h = refl
-refused false true k r h = refl
-refused false false k r h = absurd (h refl)
+tests_or : (s t : Bool) (k : ℕ) (more : Option Refusal)
+    → cond s (some (record { number = 2; place = k })) (cond t (some (record { number = 3; place = k })) more) ≡ refused_or (by_tests s t k) more
+tests_or true t k more = refl
+tests_or false true k more = refl
+tests_or false false k more = refl
 
-passed : (s t : Bool) (k : ℕ) (r : Option Refusal) → by_tests s t ≡ 0
-    → cond s (some (record { number = 2; place = k })) (cond t (some (record { number = 3; place = k })) r) ≡ r
-passed true t k r h = absurd (omega arith)
-passed false true k r h = absurd (omega arith)
-passed false false k r h = refl
-
--- a turn of the walk: n is the refusal of the field at place i
-module _ (b : List ℕ) (i n : ℕ) (h : i < 46) (e : n ≡ code_refusal (suc i) (get_or (codes_of b) i 0)) where
-  above : Bool
-  above = ltb (get_or table i no_field).highest (get_or (codes_of b) i 0)
-
-  missing : Bool
-  missing = required (suc i) && eqb (get_or (codes_of b) i 0) 0
-
-  turn_is : n ≡ by_tests above missing
-  unfolding code_refusal above missing
-  turn_is =
+-- a turn of the walk: the field at place i
+module _ (b : List ℕ) (i : ℕ) (h : i < 46) where
+  turn : left b i ≡ refused_or (code_check (suc i) (get_or (codes_of b) i 0)) (left b (suc i))
+  unfolding code_check
+  turn =
       let q : suc i - 1 ≡ i = omega arith in
-      e
-      ∙ ap (λ (f : Field). by_tests (ltb f.highest (get_or (codes_of b) i 0)) (required (suc i) && eqb (get_or (codes_of b) i 0) 0))
-      (field_at_lem (suc i) ∙ ap (λ (m : ℕ). get_or table m no_field) q)
+      let f : get_or table i no_field ≡ field_at (suc i) = sym (field_at_lem (suc i) ∙ ap (λ (m : ℕ). get_or table m no_field) q) in
+      left_step b i h
+      ∙ tests_or (ltb (get_or table i no_field).highest (get_or (codes_of b) i 0)) (required (suc i) && eqb (get_or (codes_of b) i 0) 0) (suc i) (left b (suc i))
+      ∙ ap (λ (f : Field). refused_or (by_tests (ltb f.highest (get_or (codes_of b) i 0)) (required (suc i) && eqb (get_or (codes_of b) i 0) 0) (suc i)) (left b (suc i))) f
 
   -- it is the first
-  pub walk_refused : (n ≡ 0 → ⊥) → left b i ≡ left b 0 → Refused n (i + 1) ≡ card_check b
-  unfolding card_check above missing
-  walk_refused z all =
-      let f : left b 0 ≡ some (record { number = n; place = suc i }) =
-      sym all ∙ left_step b i h ∙ refused above missing (suc i) (left b (suc i)) (λ x. z (turn_is ∙ x))
-      ∙ ap (λ (m : ℕ). some (record { number = m; place = suc i })) (sym turn_is) in
-      rw add-one (sym (ap (λ (r : Option Refusal). checked_of r (checksum (codes_of b))) f))
+  pub walk_refused : (r : Refusal) → Err r ≡ code_check (suc i) (get_or (codes_of b) i 0) → left b i ≡ left b 0 → Err r ≡ card_check b
+  unfolding card_check
+  walk_refused r e all =
+      let f : left b 0 ≡ some r = sym all ∙ turn ∙ ap (λ (x : Result Unit Refusal). refused_or x (left b (suc i))) (sym e) in
+      sym (ap (λ (x : Option Refusal). checked_of x (checksum (codes_of b))) f)
 
   -- or there is none
-  pub walk_passed : n ≡ 0 → left b i ≡ left b (suc i)
-  unfolding above missing
-  walk_passed z = left_step b i h ∙ passed above missing (suc i) (left b (suc i)) (sym turn_is ∙ z)
+  pub walk_passed : Ok tt ≡ code_check (suc i) (get_or (codes_of b) i 0) → left b i ≡ left b (suc i)
+  walk_passed e = turn ∙ ap (λ (x : Result Unit Refusal). refused_or x (left b (suc i))) (sym e)
 
-pub walk_end : (b : List ℕ) (i sum n : ℕ) → i ≡ 46 → left b i ≡ left b 0 → sum + rest b i ≡ rest b 0 → n ≡ sum % 255 → Checksum n ≡ card_check b
+-- of field k
+module _ (b : List ℕ) (k : ℕ) (l : 1 ≤ k) (h : k ≤ 46) where
+  place : suc (k - 1) ≡ k
+  place = omega arith
+
+  pub refused_at : (r : Refusal) → Err r ≡ code_check k (get_or (codes_of b) (k - 1) 0) → left b (k - 1) ≡ left b 0 → Err r ≡ card_check b
+  refused_at r e = walk_refused b (k - 1) (omega arith) r (e ∙ ap (λ (j : ℕ). code_check j (get_or (codes_of b) (k - 1) 0)) (sym place))
+
+  pub rest_at : rest b (k - 1) ≡ get_or (codes_of b) (k - 1) 0 + rest b (k + 1 - 1)
+  rest_at =
+      let q : suc (k - 1) ≡ k + 1 - 1 = omega arith in
+      rest-step b (k - 1) (omega arith) ∙ ap (λ (j : ℕ). get_or (codes_of b) (k - 1) 0 + rest b j) q
+
+  pub passed_at : Ok tt ≡ code_check k (get_or (codes_of b) (k - 1) 0) → left b (k - 1) ≡ left b (k + 1 - 1)
+  passed_at e =
+      let q : suc (k - 1) ≡ k + 1 - 1 = omega arith in
+      walk_passed b (k - 1) (omega arith) (e ∙ ap (λ (j : ℕ). code_check j (get_or (codes_of b) (k - 1) 0)) (sym place)) ∙ ap (left b) q
+
+pub walk_end : (b : List ℕ) (i sum n : ℕ) → i ≡ 46 → left b i ≡ left b 0 → sum + rest b i ≡ rest b 0 → n ≡ sum % 255 → Ok n ≡ card_check b
 unfolding card_check checksum
 walk_end b i sum n e all whole is =
     let f : left b 0 ≡ none = sym all ∙ ap (left b) e ∙ left_end b in

@@ -3,18 +3,13 @@
 
 ghost use Rattle.std.specs.Prelude.{◌≡◌, ◌+◌, ◌%◌, ◌≤◌, ◌<◌, length};
 ghost use Rattle.std.specs.Int.Bits.{bit_and, bit_xor};
+ghost use Rattle.format.specs.Reply.{by_number};
 ghost use Rattle.checks.specs.Answers.{card_check};
 ghost use Rattle.checks.specs.Parts.{AllPassed, summed, at_place};
-ghost use Rattle.checks.specs.Walk.{code_refusal};
+ghost use Rattle.checks.specs.Walk.{code_check};
 
-use format::Coded;
-
-// The first refusal's number and field, or the checksum of the fields.
-#[derive(Clone, Copy)]
-pub enum CardCheck {
-    Refused(u8, usize),
-    Checksum(u64),
-}
+use card::Field;
+use format::{Coded, Refusal};
 
 // ---- the check: of every other field of a word at once, so that what is added to one carries into a bit that was masked out
 
@@ -34,135 +29,133 @@ fn lacking(w: u64, mask: u64, carry: u64) -> u64
     above(w, mask, mask, carry) ^ carry
 }
 
-// 0 only where no field is above its highest and no required one is 0.
-fn faults(a: u64, b: u64, c: u64, d: u64, e: u64) -> u64
-    ensures { result ≡ 0 → AllPassed a b c d e }
-{
-    let t = above(a, 0xffc03c1f000ffe, 0x5dc00c070001ec, 0x100004020001000); // BOX10 MONTH HOUR Y
-    let t = t | above(a, 0x3fc3e0fff000, 0x1ef000, 0x400401000000); // YEAR DAY X
-    let t = t | above(b, 0x3ff00f39ce00f0, 0x17007094200b0, 0x40001042100100); // CD ST DS TC DI WI
-    let t = t | above(b, 0x1c00ff0c631ff00, 0xc0000000009500, 0x200100108420000); // XYI SID QI DC PB D
-    let t = t | above(c, 0x30fe1e003c000, 0x360a0024000, 0x4100200040000); // VI PW W2 TI
-    let t = t | above(c, 0xffcf01e1ffc3ff8, 0x500a00000180, 0x1001002020004000); // W VB W1 P A
-    let t = t | above(d, 0x7ff001ffc3c3cf0, 0x300000c0141040, 0x800002000404100); // WB S C CL H
-    let t = t | above(d, 0xffe003c3c30f, 0x60003014104, 0x1000004040410); // DPT BI NH HI CM
-    let t = t | above(e, 0xf03e03f07f0000, 0x400001801b0000, 0x100400400800000); // CH WP SD SH
-    let t = t | above(e, 0xfc1fc0f80c000, 0x6006c00004000, 0x10020010010000); // WD WH SP A6
-    let t = t | lacking(a, 0xffc03c00000ffe, 0x100004000001000); // BOX10 MONTH Y
-    t | lacking(a, 0x3fc000fff000, 0x400001000000) // YEAR X
+// The fields in five words of eight bytes: 1 to 7, 8 to 19, 20 to 28, 29 to 38, 39 to 46, each whole in one word with a bit above
+// it.
+#[derive(Clone, Copy)]
+struct FieldWords {
+    a: u64,
+    b: u64,
+    c: u64,
+    d: u64,
+    e: u64,
 }
 
-// ---- the checksum: modulo 255 a number does not change by a factor of 256, so fields at places that are equal modulo 8 are
-// summed where they stand
+impl FieldWords {
+    // 0 only where no field is above its highest and no required one is 0.
+    fn faults(self) -> u64
+        ensures { result ≡ 0 → AllPassed self.a self.b self.c self.d self.e }
+    {
+        let FieldWords { a, b, c, d, e } = self;
+        let t = above(a, 0xffc03c1f000ffe, 0x5dc00c070001ec, 0x100004020001000); // BOX10 MONTH HOUR Y
+        let t = t | above(a, 0x3fc3e0fff000, 0x1ef000, 0x400401000000); // YEAR DAY X
+        let t = t | above(b, 0x3ff00f39ce00f0, 0x17007094200b0, 0x40001042100100); // CD ST DS TC DI WI
+        let t = t | above(b, 0x1c00ff0c631ff00, 0xc0000000009500, 0x200100108420000); // XYI SID QI DC PB D
+        let t = t | above(c, 0x30fe1e003c000, 0x360a0024000, 0x4100200040000); // VI PW W2 TI
+        let t = t | above(c, 0xffcf01e1ffc3ff8, 0x500a00000180, 0x1001002020004000); // W VB W1 P A
+        let t = t | above(d, 0x7ff001ffc3c3cf0, 0x300000c0141040, 0x800002000404100); // WB S C CL H
+        let t = t | above(d, 0xffe003c3c30f, 0x60003014104, 0x1000004040410); // DPT BI NH HI CM
+        let t = t | above(e, 0xf03e03f07f0000, 0x400001801b0000, 0x100400400800000); // CH WP SD SH
+        let t = t | above(e, 0xfc1fc0f80c000, 0x6006c00004000, 0x10020010010000); // WD WH SP A6
+        let t = t | lacking(a, 0xffc03c00000ffe, 0x100004000001000); // BOX10 MONTH Y
+        t | lacking(a, 0x3fc000fff000, 0x400001000000) // YEAR X
+    }
 
-// The bits of two words that masks keep, added.
-fn two(x: u64, mx: u64, y: u64, my: u64) -> u64
-    requires { mx + my < 1152921504606846976 }
-    ensures { (result ≡ bit_and x mx + bit_and y my) × (result ≤ mx + my) }
-{
-    (x & mx) + (y & my)
-}
+    // The bits that the masks keep, added.
+    fn kept(self, a: u64, b: u64, c: u64, d: u64, e: u64) -> u64
+        requires { a + b + (c + (d + e)) < 1152921504606846976 }
+        ensures { (result ≡ bit_and self.a a + bit_and self.b b + (bit_and self.c c + (bit_and self.d d + bit_and self.e e)))
+            × (result ≤ a + b + (c + (d + e))) }
+    {
+        (self.a & a) + (self.b & b) + ((self.c & c) + ((self.d & d) + (self.e & e)))
+    }
 
-// Of three words.
-fn three(x: u64, mx: u64, y: u64, my: u64, z: u64, mz: u64) -> u64
-    requires { mx + (my + mz) < 1152921504606846976 }
-    ensures { (result ≡ bit_and x mx + (bit_and y my + bit_and z mz)) × (result ≤ mx + (my + mz)) }
-{
-    (x & mx) + two(y, my, z, mz)
-}
-
-// The sum at the places 0 to 3 of a byte.
-fn low_places(a: u64, b: u64, c: u64, d: u64, e: u64) -> u64
-    ensures { (result ≡ summed 4 (at_place a b c d e)) × (result < 4611686018427387904) }
-{
-    let x = two(a, 0x1f000000, b, 0xf0001ff00);
-    let y = three(c, 0x3000000000000, d, 0x7ff00000000030f, e, 0x7f0000);
-    let t = x + y;
-    let x = two(a, 0xffe, b, 0x60e0000);
-    let y = three(c, 0x1e00000000, d, 0, e, 0x3e0000000000);
-    let t = t + (x + y) / 2;
-    let x = two(a, 0x3c00000000, b, 0);
-    let y = three(c, 0xffc00001ffc0000, d, 0x1ffc3c3c00, e, 0x1fc00000000);
-    let t = t + (x + y) / 4;
-    let x = two(a, 0, b, 0x38000000);
-    let y = three(c, 0x3ff8, d, 0, e, 0);
-    t + (x + y) / 8
-}
-
-// The checksum of the fields in the words.
-fn checksum(a: u64, b: u64, c: u64, d: u64, e: u64) -> u64
-    ensures { result ≡ summed 8 (at_place a b c d e) % 255 }
-{
-    let t = low_places(a, b, c, d, e);
-    let x = two(a, 0xfff000, b, 0x3ffff0003000f0);
-    let y = three(c, 0xf00000000000, d, 0xf0, e, 0xf00003f0000000);
-    let t = t + (x + y) / 16;
-    let x = two(a, 0x3e0000000, b, 0);
-    let y = three(c, 0xfe1e0000000, d, 0xffe000000000, e, 0);
-    let t = t + (x + y) / 32;
-    let x = two(a, 0xffffc000000000, b, 0x1c00000c1c00000);
-    let y = three(c, 0x3c000, d, 0x3c3c000, e, 0xfc0000000c000);
-    let t = t + (x + y) / 64;
-    let x = two(a, 0, b, 0);
-    let y = three(c, 0, d, 0, e, 0xf800000);
-    let t = t + (x + y) / 128;
-    numbers::remainder(t)
+    // The checksum: modulo 255 a number does not change by a factor of 256, so fields at places that are equal modulo 8 are summed
+    // where they stand.
+    fn checksum(self) -> u64
+        ensures { result ≡ summed 8 (at_place self.a self.b self.c self.d self.e) % 255 }
+    {
+        let t = self.kept(
+            0x1f000000,
+            0xf0001ff00,
+            0x3000000000000,
+            0x7ff00000000030f,
+            0x7f0000,
+        );
+        let t = t + self.kept(0xffe, 0x60e0000, 0x1e00000000, 0, 0x3e0000000000) / 2;
+        let t = t
+            + self.kept(
+                0x3c00000000,
+                0,
+                0xffc00001ffc0000,
+                0x1ffc3c3c00,
+                0x1fc00000000,
+            ) / 4;
+        let t = t + self.kept(0, 0x38000000, 0x3ff8, 0, 0) / 8;
+        let t = t
+            + self.kept(
+                0xfff000,
+                0x3ffff0003000f0,
+                0xf00000000000,
+                0xf0,
+                0xf00003f0000000,
+            ) / 16;
+        let t = t + self.kept(0x3e0000000, 0, 0xfe1e0000000, 0xffe000000000, 0) / 32;
+        let t = t
+            + self.kept(
+                0xffffc000000000,
+                0x1c00000c1c00000,
+                0x3c000,
+                0x3c3c000,
+                0xfc0000000c000,
+            ) / 64;
+        let t = t + self.kept(0, 0, 0, 0, 0xf800000) / 128;
+        numbers::remainder(t)
+    }
 }
 
 // ---- the walk, field after field
 
-// The refusal, 2 or 3, of a coded number of field k, or 0.
-fn refusal(k: usize, c: Coded) -> u8
-    requires { (1 ≤ k) × (k ≤ 46) }
-    ensures { result ≡ code_refusal k c.0 }
+// Refuses a coded number of a field: above the highest, or missing where the field is required.
+fn refusal(field: Field, code: Coded) -> Result<(), Refusal>
+    ensures { by_number result ≡ code_check field.number code.0 }
 {
-    let x = c.0;
-    if card::row(k) / 65536 % 4096 < x as u64 {
-        return 2;
+    if field.highest() < code.0 {
+        return Err(Refusal::Code(field.number));
     }
-    if x != 0 {
-        return 0;
+    if code.0 == 0 && field.is_required() {
+        return Err(Refusal::Missing(field.number));
     }
-    if card::is_required(k) {
-        return 3;
-    }
-    0
+    Ok(())
 }
 
 // Checks field after field.
-fn walk(s: &[u8]) -> CardCheck
-    requires { 38 ≤ length s.now }
-    ensures { result ≡ card_check s.now }
+fn walk(buffer: &[u8]) -> Result<u64, Refusal>
+    requires { 38 ≤ length buffer.now }
+    ensures { by_number result ≡ card_check buffer.now }
 {
     let mut sum = 0;
-    let mut i = 0;
-    while i < 46 {
-        let k = i + 1;
-        let c = card::code(s, k);
-        let n = refusal(k, c);
-        if n != 0 {
-            return CardCheck::Refused(n, k);
-        }
-        let x = c.0;
-        sum += x as u64;
-        i = k;
+    for number in 1..=46 {
+        let field = Field::at(number);
+        let code = field.code(buffer);
+        refusal(field, code)?;
+        sum += u64::from(code.0);
     }
-    CardCheck::Checksum(numbers::remainder(sum))
+    Ok(numbers::remainder(sum))
 }
 
-// Checks the fields. Where there is a fault, the walk finds the first.
-pub fn check(s: &[u8]) -> CardCheck
-    requires { 38 ≤ length s.now }
-    ensures { result ≡ card_check s.now }
+// Checks the fields, and gives their checksum. Where there is a fault, the walk finds the first.
+pub fn check(buffer: &[u8]) -> Result<u64, Refusal>
+    requires { 38 ≤ length buffer.now }
+    ensures { by_number result ≡ card_check buffer.now }
 {
-    // fields 1 to 7, 8 to 19, 20 to 28, 29 to 38, 39 to 46, each whole in one word with a bit above it
-    let a = words::word(s, 1);
-    let b = words::word(s, 8);
-    let c = words::word(s, 15);
-    let d = words::word(s, 22);
-    let e = words::word(s, 29);
-    if faults(a, b, c, d, e) == 0 {
-        return CardCheck::Checksum(checksum(a, b, c, d, e));
+    let a = words::word(buffer, 1);
+    let b = words::word(buffer, 8);
+    let c = words::word(buffer, 15);
+    let d = words::word(buffer, 22);
+    let e = words::word(buffer, 29);
+    let fields = FieldWords { a, b, c, d, e };
+    if fields.faults() == 0 {
+        return Ok(fields.checksum());
     }
-    walk(s)
+    walk(buffer)
 }

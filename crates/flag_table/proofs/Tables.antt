@@ -1,22 +1,24 @@
 -- Tables of permitted flags: the marks of a lent one, what refuses it, and the one in which every mark is yes.
 -- Assumes nothing.
-use Prim.Native.Nat.{ℕ, zero, suc, ◌+◌, ◌-◌, ◌*◌, ◌≤◌, ◌<◌}
+use Prim.Native.Nat.{ℕ, zero, suc, ◌+◌, ◌-◌, ◌*◌, ◌/◌, ◌<◌}
 use native.Mathlib.Omega.{arith}
-use native.Mathlib.Numerals.{add-one}
 use mathlib.Core.Path.{◌≡◌, refl, sym, ap, ◌∙◌}
-use mathlib.Core.Bool.{Bool, true, false, not, ◌&&◌, ◌||◌}
+use mathlib.Core.Bool.{Bool, true, false, cond, not, ◌&&◌, ◌||◌}
 use mathlib.Core.List.{List, [], ◌∷◌}
 use mathlib.Core.Option.{Option, none, some}
-use lib.ListN.{length, get_or, take, drop, replicate, drop_of_length-le, get_or-replicate}
-use lib.Seq.{drop-cons, drop-drop, get_or-drop, get_or-take}
+use lib.ListN.{length, get_or, take, drop, replicate, get_or-replicate}
+use lib.Seq.{drop-drop, get_or-drop, get_or-take}
 use lib.Bits.{bit_or, or_add_and, or_lt, and_le_l, and_le_r}
 use lib.Dec.{eqb, leb}
-use borrow.Author.Tests.{le-leb, leb-true, leb-false, eq-eqb, ne_eqb}
-use Rattle.format.specs.Order.{Refusal, first, between, all_marks}
+use borrow.Author.Tests.{le-leb, lt-leb, leb-true, leb-false}
+use Rattle.std.specs.List.{fold}
+use Rattle.std.specs.Simd.{first_chunks}
+use Rattle.std.proofs.lemmas.List.Recursion.{and_is, or_is}
+use Rattle.format.specs.Order.{Refusal, check, first, between, all_marks}
 use Rattle.format.specs.Flags.{FlagTable, mark_of, all_yes}
-use Rattle.format.specs.Calls.{done_by}
+use Rattle.format.specs.Calls.{accepted, refused, done_by}
 use Rattle.format.specs.Loading.{rows, table_of, some_yes, every_row, load_checks, load_answer, in_force_by, in_force}
-use Rattle.laws.proofs.Sequences.{and_true, test_case}
+use Rattle.laws.proofs.Sequences.{and_true, and_right, and_assoc, test_case}
 use Rattle.laws.proofs.Order.{first_fits, first_skip, first-nil}
 use Rattle.flag_table.specs.Claims.{AnyValue, RowByRow}
 
@@ -41,166 +43,82 @@ row_by_row lent j v f r =
     ap (λ (row : List ℕ). get_or row (v - 1) 0) (rows_at 14 (j - 1) lent (omega arith))
     ∙ get_or-take 10 (drop (10 * (j - 1)) lent) (v - 1) 0 (omega arith) ∙ get_or-drop (10 * (j - 1)) lent (v - 1) 0
 
--- n rows from a place on, and n marks from k behind a place on
-abbrev rows_from : List ℕ → ℕ → ℕ → FlagTable
-rows_from lent at zero = []
-rows_from lent at (suc n) = take 10 (drop at lent) ∷ rows_from lent (at + 10) n
-
-abbrev marks_from : List ℕ → ℕ → ℕ → ℕ → List ℕ
-marks_from lent at k zero = []
-marks_from lent at k (suc n) = get_or lent (at + k) 0 ∷ marks_from lent at (suc k) n
-
-rows-from : (lent : List ℕ) (at n : ℕ) → rows_from lent at n ≡ rows n (drop at lent)
+-- the rows are the chunks of ten
+chunks_are : (n : ℕ) (lent : List ℕ) → first_chunks 10 n lent ≡ rows n lent
 unfolding rows
-rows-from lent at zero = refl
-rows-from lent at (suc n) = ap (λ (t : FlagTable). take 10 (drop at lent) ∷ t) (rows-from lent (at + 10) n ∙ ap (rows n) (sym (drop-drop 10 at lent)))
+chunks_are zero lent = refl
+chunks_are (suc n) lent = ap (λ (t : FlagTable). take 10 lent ∷ t) (chunks_are n (drop 10 lent))
 
-marks_from_lem : (lent : List ℕ) (at k n : ℕ) → at + k + n ≤ length lent → marks_from lent at k n ≡ take n (drop (at + k) lent)
-marks_from_lem lent at k zero h = refl
-marks_from_lem lent at k (suc n) h =
-    let e : at + suc k ≡ suc (at + k) = omega arith in
-    ap (λ (l : List ℕ). get_or lent (at + k) 0 ∷ l) (marks_from_lem lent at (suc k) n (omega arith) ∙ ap (λ (j : ℕ). take n (drop j lent)) e)
-    ∙ ap (take (suc n)) (sym (drop-cons lent (at + k) 0 (omega arith)))
-
-pub table_is : (lent : List ℕ) → rows_from lent 0 14 ≡ table_of lent
-table_is lent = rows-from lent 0 14
-
-pub row_is : (lent : List ℕ) (at : ℕ) → at + 10 ≤ length lent → get_or lent at 0 ∷ marks_from lent at 1 9 ≡ take 10 (drop at lent)
-row_is lent at h =
-    let e : at ≡ at + 0 = omega arith in
-    ap (λ (k : ℕ). get_or lent k 0 ∷ marks_from lent at 1 9) e ∙ marks_from_lem lent at 0 10 (omega arith) ∙ ap (λ (k : ℕ). take 10 (drop k lent)) (sym e)
+pub table_is : (table : FlagTable) (lent : List ℕ) → length lent ≡ 140 → table ≡ first_chunks 10 (length lent / 10) lent → table ≡ table_of lent
+table_is table lent l e =
+    let n : length lent / 10 ≡ 14 = omega arith in
+    e ∙ ap (λ (k : ℕ). first_chunks 10 k lent) n ∙ chunks_are 14 lent
 
 -- ---- the marks of a lent table
 
--- the bits of i bytes are joined
-pub record Joined (l : List ℕ) (i joined : ℕ) : Type 0 where
-  pub passed : i ≤ length l
-  pub sound : joined ≤ 1 → all_marks (drop i l) ≡ all_marks l
-  pub broken : 1 < joined → all_marks l ≡ false
+join_one : (n m : ℕ) → leb (bit_or n m) 1 ≡ leb n 1 && leb m 1
+join_one n m =
+    let sum = or_add_and n m in
+    let low = and_le_l n m in
+    let high = and_le_r n m in
+    test_case (leb n 1)
+    (λ t.
+    test_case (leb m 1)
+    (λ u.
+    let a = leb-true n 1 t in
+    let b = leb-true m 1 u in
+    rw (t, u) (le-leb (bit_or n m) 1 (let q = or_lt 1 n m (omega arith) (omega arith) in omega arith)))
+    (λ u. let b = leb-false m 1 u in rw (t, u) (lt-leb (bit_or n m) 1 (omega arith))))
+    (λ t. let a = leb-false n 1 t in rw t (lt-leb (bit_or n m) 1 (omega arith)))
 
-pub join_none : (l : List ℕ) → Joined l 0 0
-join_none l = record { passed = omega arith; sound = λ h. refl; broken = λ h. absurd (omega arith) }
-
-pub join_more : (l : List ℕ) (i joined : ℕ) → i < length l → Joined l i joined → Joined l (i + 1) (bit_or joined (get_or l i 0))
+-- the bits of all joined to n
+pub joined : (n : ℕ) (l : List ℕ) → leb (fold bit_or n l) 1 ≡ leb n 1 && all_marks l
 unfolding all_marks
-join_more l i joined h k =
-    let m = get_or l i 0 in
-    let sum = or_add_and joined m in
-    let low = and_le_l joined m in
-    let high = and_le_r joined m in
-    let next : all_marks (drop i l) ≡ leb m 1 && all_marks (drop (suc i) l) = ap all_marks (drop-cons l i 0 h) in
-    record {
-      passed = omega arith;
-      sound = λ b. rw (add-one i) (sym (next ∙ rw (le-leb m 1 (omega arith))) ∙ k.sound (omega arith));
-      broken = λ b.
-          test_case (leb joined 1)
-          (λ t.
-          let small = leb-true joined 1 t in
-          sym (k.sound small) ∙ next
-          ∙ test_case (leb m 1) (λ u. absurd (over small (leb-true m 1 u) b)) (λ u. rw u))
-          (λ t. k.broken (leb-false joined 1 t));
-    }
-  where
-    over : joined ≤ 1 → get_or l i 0 ≤ 1 → 1 < bit_or joined (get_or l i 0) → ⊥
-    over a b c = let q = or_lt 1 joined (get_or l i 0) (omega arith) (omega arith) in omega arith
+joined n [] = sym (and_right (leb n 1))
+joined n (m ∷ l) = joined (bit_or n m) l ∙ ap (λ (b : Bool). b && all_marks l) (join_one n m) ∙ and_assoc (leb n 1) (leb m 1) (all_marks l)
 
-pub join_end : (l : List ℕ) (i joined : ℕ) → length l ≤ i → Joined l i joined → leb joined 1 ≡ all_marks l
-unfolding all_marks
-join_end l i joined h k =
-    test_case (leb joined 1)
-    (λ t. t ∙ sym (ap all_marks (drop_of_length-le l h)) ∙ k.sound (leb-true joined 1 t))
-    (λ t. t ∙ sym (k.broken (leb-false joined 1 t)))
+-- r is whether each row has a yes
+pub each_row : (table : FlagTable) (r : Bool) → (r ≡ true → (i : ℕ) → i < length table → some_yes (get_or table i []) ≡ true)
+    → (r ≡ false → (i : ℕ) × (i < length table) × (some_yes (get_or table i []) ≡ false)) → r ≡ every_row table
+unfolding every_row
+each_row table r all one = and_is every_row some_yes refl (λ _ _. refl) table [] r all one
 
--- i marks of a row have been looked at
-pub record Looking (l : List ℕ) (i : ℕ) : Type 0 where
-  pub passed : i ≤ length l
-  pub same : some_yes (drop i l) ≡ some_yes l
-
-pub look_none : (l : List ℕ) → Looking l 0
-look_none l = record { passed = omega arith; same = refl }
-
-pub yes_more : (l : List ℕ) (i : ℕ) → i < length l → (get_or l i 0 ≡ 1 → ⊥) → Looking l i → Looking l (i + 1)
+-- r is whether a row has a yes
+pub any_yes : (row : List ℕ) (r : Bool) → (r ≡ true → (i : ℕ) × (i < length row) × (eqb (get_or row i 0) 1 ≡ true))
+    → (r ≡ false → (i : ℕ) → i < length row → eqb (get_or row i 0) 1 ≡ false) → r ≡ some_yes row
 unfolding some_yes
-yes_more l i h n k =
-    record { passed = omega arith; same = rw (add-one i) (sym (ap some_yes (drop-cons l i 0 h) ∙ rw (ne_eqb (get_or l i 0) 1 n)) ∙ k.same) }
-
-pub yes_found : (l : List ℕ) (i : ℕ) → i < length l → get_or l i 0 ≡ 1 → Looking l i → true ≡ some_yes l
-unfolding some_yes
-yes_found l i h e k = sym (ap some_yes (drop-cons l i 0 h) ∙ rw (eq-eqb (get_or l i 0) 1 e)) ∙ k.same
-
-pub yes_end : (l : List ℕ) (i : ℕ) → length l ≤ i → Looking l i → false ≡ some_yes l
-unfolding some_yes
-yes_end l i h k = sym (ap some_yes (drop_of_length-le l h)) ∙ k.same
-
--- the rows before a place have been looked at
-pub record Rowing (lent : List ℕ) (at : ℕ) : Type 0 where
-  pub i : ℕ
-  pub is : at ≡ 10 * i
-  pub few : i ≤ 14
-  pub same : every_row (rows (14 - i) (drop at lent)) ≡ every_row (table_of lent)
-
-pub rowing_none : (lent : List ℕ) → Rowing lent 0
-rowing_none lent = record { i = 0; is = refl; few = omega arith; same = refl }
-
-module _ (lent : List ℕ) (at : ℕ) (k : Rowing lent at) where
-  pub rowing_within : at < 140 → at + 10 ≤ 140
-  rowing_within h = omega (arith, k.is)
-
-  module _ (h : at < 140) where
-    row_first : every_row (table_of lent) ≡ some_yes (take 10 (drop at lent)) && every_row (rows (14 - suc k.i) (drop (at + 10) lent))
-    unfolding rows every_row
-    row_first =
-        let e : 14 - k.i ≡ suc (14 - suc k.i) = omega (arith, k.is) in
-        sym k.same ∙ ap (λ (n : ℕ). every_row (rows n (drop at lent))) e
-        ∙ ap (λ (l : List ℕ). some_yes (take 10 (drop at lent)) && every_row (rows (14 - suc k.i) l)) (drop-drop 10 at lent)
-
-    pub rowing_more : (t : Bool) → t ≡ some_yes (take 10 (drop at lent)) → t ≡ true → Rowing lent (at + 10)
-    rowing_more t e y =
-        record {
-          i = suc k.i;
-          is = omega (arith, k.is);
-          few = omega (arith, k.is);
-          same = sym (row_first ∙ ap (λ (b : Bool). b && every_row (rows (14 - suc k.i) (drop (at + 10) lent))) (sym e ∙ y));
-        }
-
-    pub rowing_not : (t : Bool) → t ≡ some_yes (take 10 (drop at lent)) → t ≡ false → false ≡ every_row (table_of lent)
-    rowing_not t e y = sym (row_first ∙ ap (λ (b : Bool). b && every_row (rows (14 - suc k.i) (drop (at + 10) lent))) (sym e ∙ y))
-
-  pub rowing_end : 140 ≤ at → true ≡ every_row (table_of lent)
-  unfolding rows every_row
-  rowing_end h = let e : 14 - k.i ≡ 0 = omega (arith, k.is, k.few) in ap (λ (n : ℕ). every_row (rows n (drop at lent))) (sym e) ∙ k.same
+any_yes row r one all = or_is some_yes (λ (m : ℕ). eqb m 1) refl (λ _ _. refl) row 0 r one all
 
 -- ---- loading
 
-module _ (lent : List ℕ) where
-  pub other_length : (length lent ≡ 140 → ⊥) → first (load_checks lent) ≡ some (record { number = 16; place = 0 })
-  unfolding load_checks
-  other_length n = first_fits _ _ (rw (ne_eqb (length lent) 140 n))
+abbrev loadable : List ℕ → Bool
+loadable lent = eqb (length lent) 140 && (all_marks lent && every_row (table_of lent))
 
-  module _ (l : length lent ≡ 140) (t : Bool) (e : t ≡ (all_marks lent && every_row (table_of lent))) where
-    fits_is : not (eqb (length lent) 140) || (not (all_marks lent) || not (every_row (table_of lent))) ≡ not t
-    fits_is = rw (eq-eqb (length lent) 140 l) (both (all_marks lent) (every_row (table_of lent)) ∙ ap not (sym e))
-      where
-        both : (a b : Bool) → not a || not b ≡ not (a && b)
-        both true b = refl
-        both false b = refl
+first_is : (lent : List ℕ) → first (load_checks lent) ≡ cond (loadable lent) none (some (record { number = 16; place = 0 }))
+unfolding load_checks
+first_is lent = go (eqb (length lent) 140) (all_marks lent) (every_row (table_of lent))
+  where
+    go : (a b d : Bool) → first (check (not a || (not b || not d)) 16 0 ∷ []) ≡ cond (a && (b && d)) none (some (record { number = 16; place = 0 }))
+    go true true true = first_skip _ _ refl ∙ first-nil
+    go true true false = first_fits _ _ refl
+    go true false d = first_fits _ _ refl
+    go false b d = first_fits _ _ refl
 
-    pub load_refused : t ≡ false → first (load_checks lent) ≡ some (record { number = 16; place = 0 })
-    unfolding load_checks
-    load_refused n = first_fits _ _ (fits_is ∙ ap not n)
+pub answer_is : (lent : List ℕ) → load_answer lent ≡ cond (loadable lent) (accepted []) (refused (record { number = 16; place = 0 }))
+unfolding load_answer
+answer_is lent = ap done_by (first_is lent) ∙ go (loadable lent)
+  where
+    go : (t : Bool) → done_by (cond t none (some (record { number = 16; place = 0 }))) ≡ cond t (accepted []) (refused (record { number = 16; place = 0 }))
+    go true = refl
+    go false = refl
 
-    pub load_accepted : t ≡ true → first (load_checks lent) ≡ none
-    unfolding load_checks
-    load_accepted y = first_skip _ _ (fits_is ∙ ap not y) ∙ first-nil
-
-  -- what refuses or accepts it decides the answer and the table
-  pub answer_by : (o : Option Refusal) → first (load_checks lent) ≡ o → done_by o ≡ load_answer lent
-  unfolding load_answer
-  answer_by o e = ap done_by (sym e)
-
-  pub force_by : (former : FlagTable) (o : Option Refusal) → first (load_checks lent) ≡ o → in_force_by o former lent ≡ in_force former lent
-  unfolding in_force
-  force_by former o e = ap (λ (x : Option Refusal). in_force_by x former lent) (sym e)
+pub force_is : (former : FlagTable) (lent : List ℕ) → in_force former lent ≡ cond (loadable lent) (table_of lent) former
+unfolding in_force
+force_is former lent = ap (λ (o : Option Refusal). in_force_by o former lent) (first_is lent) ∙ go (loadable lent)
+  where
+    go : (t : Bool) → in_force_by (cond t none (some (record { number = 16; place = 0 }))) former lent ≡ cond t (table_of lent) former
+    go true = refl
+    go false = refl
 
 -- ---- every value
 

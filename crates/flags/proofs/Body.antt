@@ -5,25 +5,25 @@ use native.Mathlib.Omega.{arith}
 use native.Mathlib.Numerals.{add-one}
 use native.Mathlib.Nat.{pow-le-pow_right, pow-suc, zero-lt-suc}
 use mathlib.Core.Path.{◌≡◌, refl, sym, ap, ap₂, ◌∙◌}
-use mathlib.Core.Bool.{Bool, true, false, not, ◌&&◌}
-use mathlib.Core.List.{List, [], ◌∷◌, ◌++◌, append_assoc}
-use lib.ListN.{length, get_or, take, drop, length-drop}
-use lib.Seq.{take_at, take-suc, take-add, take_all, drop-cons, drop-drop, get_or-drop, get_or-append-add}
+use mathlib.Core.Bool.{Bool, true, false, ◌&&◌, ◌||◌}
+use mathlib.Core.List.{List, [], ◌∷◌, ◌++◌, append_assoc, append-nil}
+use lib.ListN.{length, get_or, take, drop, length-drop, length-append}
+use lib.Seq.{take_at, take-suc, take-add, take_all, drop-cons, drop-drop, get_or-drop, get_or-take, get_or-append-add}
+use Rattle.std.proofs.lemmas.List.{length-take-le}
 use lib.Dec.{eqb, leb}
-use borrow.Author.Tests.{le-leb, eq-eqb, ne_eqb, eqb-true, eqb-false, leb-true, not-true}
+use borrow.Author.Tests.{le-leb, ne_eqb, eqb-true, eqb-false, leb-true}
 use Rattle.format.specs.Order.{between}
 use Rattle.format.specs.Bits.{bit_field, Bytes}
-use Rattle.format.specs.Nibbles.{nibbles}
-use Rattle.format.specs.Flags.{FlagTable, total_weight, all_missing, quality_code, flag_in_range, flag_fits, flags_fit, flags_valid}
+use Rattle.format.specs.Nibbles.{nibbles, Nibbles}
+use Rattle.format.specs.Flags.{FlagTable, total_weight, all_missing, quality_code, flag_fits, flags_fit, flags_valid}
 use Rattle.laws.proofs.Sequences.{and_true, and_right, and_assoc, test_case}
 use Rattle.laws.proofs.Nibbles.{length-nibbles, nibbles-drop}
 use Rattle.words.proofs.Turned.{join, byte}
-use Rattle.laws.proofs.Order.{between_in}
 use Rattle.laws.proofs.Flags.{missing_fits, flag_set_valid}
-use Rattle.flags.proofs.Row.{and_false_right, in_length, in_last, in_more, in_first, in_rest, fit_more}
+use Rattle.flags.proofs.Row.{in_length, in_last, in_more, in_first, in_rest, fit_more}
 use Rattle.flags.proofs.Planes.{over_last}
 use Rattle.flags.specs.Planes.{mask, over_of}
-use Rattle.flags.specs.Word.{nibbles_in, column_of, stands, Fault}
+use Rattle.flags.specs.Word.{nibbles_in, column_of, stands}
 use Rattle.flags.specs.Missing.{MissingPermitted}
 
 -- ---- n bytes of a packed buffer as a number
@@ -110,20 +110,35 @@ read_small row i w h k =
     let p : 16 ^ i ≤ 16 ^ 15 = pow-le-pow_right (zero-lt-suc 15) l in
     omega (arith, k.small)
 
-pub read_more : (row : List ℕ) (i w x : ℕ) → length row ≡ 16 → i < 16 → x < 16 → x ≡ get_or row i 0 → Reading row i w → Reading row (i + 1) (w * 16 + x)
-read_more row i w x l h lt e k =
-    let s = add-one i in
+row_length : (s : List ℕ) (at : ℕ) → at + 16 ≤ length s → length (take 16 (drop at s)) ≡ 16
+row_length s at l = length-take-le 16 (drop at s) (omega (arith, length-drop at s))
+
+-- the nibble at i of those from a place on
+item_is : (s : List ℕ) (at i : ℕ) → i < 16 → get_or (take (at + 16 - at) (drop at s)) i 0 ≡ get_or s (at + i) 0
+item_is s at i h = let e : i < at + 16 - at = omega arith in get_or-take (at + 16 - at) (drop at s) i 0 e ∙ get_or-drop at s i 0
+
+pub item_small : (s : List ℕ) (at i : ℕ) → Nibbles s → i < 16 → get_or (take (at + 16 - at) (drop at s)) i 0 < 16
+item_small s at i ns h = omega (arith, item_is s at i h, ns (at + i))
+
+pub read_more : (s : List ℕ) (at i w x : ℕ) → Nibbles s → at + 16 ≤ length s → i < 16 → x ≡ get_or (take (at + 16 - at) (drop at s)) i 0 → Reading (take 16 (drop at s)) i w
+    → Reading (take 16 (drop at s)) (i + 1) (w * 16 + x)
+read_more s at i w x ns l h e k =
+    let t = add-one i in
+    let row = take 16 (drop at s) in
+    let here : x ≡ get_or row i 0 = e ∙ item_is s at i h ∙ sym (get_or-take 16 (drop at s) i 0 h ∙ get_or-drop at s i 0) in
+    let long = row_length s at l in
+    let small : x < 16 = omega (arith, item_small s at i ns h) in
     record {
       passed = omega arith;
-      read = ap (λ (n : ℕ). nibbles_in n (w * 16 + x)) s ∙ in_more i w x lt ∙ ap₂ (λ (ns : List ℕ) (y : ℕ). ns ++ (y ∷ [])) k.read e
-          ∙ sym (take-suc row i 0 (omega arith)) ∙ ap (λ (n : ℕ). take n row) (sym s);
-      small = omega (arith, k.small, ap (λ (n : ℕ). 16 ^ n) s ∙ pow-suc 16 i);
+      read = ap (λ (n : ℕ). nibbles_in n (w * 16 + x)) t ∙ in_more i w x small ∙ ap₂ (λ (ns : List ℕ) (y : ℕ). ns ++ (y ∷ [])) k.read here
+          ∙ sym (take-suc row i 0 (omega arith)) ∙ ap (λ (n : ℕ). take n row) (sym t);
+      small = omega (arith, k.small, ap (λ (n : ℕ). 16 ^ n) t ∙ pow-suc 16 i);
     }
 
-pub read_all : (row : List ℕ) (i w : ℕ) → length row ≡ 16 → 16 ≤ i → Reading row i w → nibbles_in 16 w ≡ row
-read_all row i w l h k =
+pub read_all : (s : List ℕ) (at i w : ℕ) → at + 16 ≤ length s → 16 ≤ i → Reading (take 16 (drop at s)) i w → nibbles_in 16 w ≡ take 16 (drop at s)
+read_all s at i w l h k =
     let e : i ≡ 16 = omega (arith, k.passed) in
-    ap (λ (n : ℕ). nibbles_in n w) (sym e) ∙ k.read ∙ take_all i row (omega arith)
+    ap (λ (n : ℕ). nibbles_in n w) (sym e) ∙ k.read ∙ take_all i (take 16 (drop at s)) (omega (arith, row_length s at l))
 
 -- ---- the quality code
 
@@ -160,114 +175,96 @@ code_none n = rw (all_missing_lem n 0 (pow_pos' n))
 pub code_missing : (flags : ℕ) → flags ≡ 0 → (0 ≡ quality_code (nibbles_in 14 flags)) × (0 ≤ 43)
 code_missing flags e = (rw e (code_none 14), omega arith)
 
-pub code-given : (flags w : ℕ) → flags < 2 ^ 56 → (flags ≡ 0 → ⊥) → (w ≡ total_weight (nibbles_in 14 flags)) × (w ≤ 42)
+pub code_given : (flags w : ℕ) → flags < 2 ^ 56 → (flags ≡ 0 → ⊥) → (w ≡ total_weight (nibbles_in 14 flags)) × (w ≤ 42)
     → (1 + w ≡ quality_code (nibbles_in 14 flags)) × (1 + w ≤ 43)
 unfolding quality_code
-code-given flags w h n e = (rw (all_missing_lem 14 flags h, ne_eqb flags 0 n) (ap (λ (x : ℕ). 1 + x) e.0), omega (arith, e.1))
+code_given flags w h n e = (rw (all_missing_lem 14 flags h, ne_eqb flags 0 n) (ap (λ (x : ℕ). 1 + x) e.0), omega (arith, e.1))
 
 -- ---- the table
 
--- a flag set to a value of 1 to 10 is in range where its mark is 1
-pub outside : (marks : FlagTable) (j v : ℕ) (r : Bool) → r ≡ between 1 10 v → not r ≡ true → false ≡ flag_in_range marks j v
-outside marks j v r e n = rw (sym e ∙ not-true r n)
-
-pub inside : (v : ℕ) (r : Bool) → r ≡ between 1 10 v → not r ≡ false → (1 ≤ v) × (v ≤ 10)
-inside v r e n = between_in 1 10 v r e n
-
-pub by_mark : (marks : FlagTable) (j v : ℕ) (r : Bool) → r ≡ between 1 10 v → not r ≡ false → eqb (get_or (get_or marks (j - 1) []) (v - 1) 0) 1 ≡ flag_in_range marks j v
-by_mark marks j v r e n = let h = inside v r e n in rw (le-leb 1 v h.0, le-leb v 10 h.1)
-
--- the column of each value
-pub column_none : (v : ℕ) → v ≡ 0 → (9 ≡ column_of v) × (9 < 10)
-unfolding column_of
-column_none v e = (rw e, omega arith)
-
-pub column_some : (v : ℕ) → (v ≡ 0 → ⊥) → v ≤ 10 → (v - 1 ≡ column_of v) × (v - 1 < 10)
-unfolding column_of
-column_some v n h = (rw (le-leb 1 v (omega arith), le-leb v 10 h), omega arith)
-
--- a mark's distance from 1, where the flag is given, is 0 exactly where it may stand
-pub fault_none : (v mark x : ℕ) → v ≡ 0 → Fault v mark (x % 256 * ((v + 15) / 16))
+pub stands_is : (v mark : ℕ) → v ≤ 10 → eqb v 0 || eqb mark 1 ≡ stands v mark
 unfolding stands
-fault_none v mark x e = let z : (v + 15) / 16 ≡ 0 = omega arith in rw z (record { none = λ _. rw e; some = λ n. absurd (n (omega arith)); small = omega arith })
-
-pub fault_some : (v mark x : ℕ) → (v ≡ 0 → ⊥) → v ≤ 10 → x ≡ mark → x < 256 → Fault v mark ((x + 255) % 256 * ((v + 15) / 16))
-unfolding stands
-fault_some v mark x n h e l =
-    let z : (v + 15) / 16 ≡ 1 = omega arith in
-    let given = ne_eqb v 0 n in
-    let low = le-leb 1 v (omega arith) in
-    let high = le-leb v 10 h in
-    rw z
-    (record {
-      none = λ r. let m : mark ≡ 1 = omega arith in rw (given, low, high, eq-eqb mark 1 m);
-      some = λ r. rw (given, low, high, ne_eqb mark 1 (λ m. r (omega arith)));
-      small = omega arith;
-    })
-
-pub fault_is : (v mark x : ℕ) → v ≤ 10 → x ≡ mark → x < 256 → Fault v mark ((x + 255) % 256 * ((v + 15) / 16))
-fault_is v mark x h e l = test_case (eqb v 0) (λ t. fault_none v mark (x + 255) (eqb-true v 0 t)) (λ t. fault_some v mark x (eqb-false v 0 t) h e l)
-
-pub kept_small : (x v : ℕ) → v ≤ 10 → x % 256 * ((v + 15) / 16) ≤ 255
-kept_small x v h = go ((v + 15) / 16) (omega arith)
-  where
-    go : (b : ℕ) → b < 2 → x % 256 * b ≤ 255
-    go zero l = omega arith
-    go (suc zero) l = omega arith
-    go (suc (suc b)) l = absurd (omega arith)
+stands_is v mark h =
+    test_case (eqb v 0) (λ e. rw e)
+    (λ e. let n = eqb-false v 0 e in rw (e, le-leb 1 v (omega arith), le-leb v 10 h))
 
 -- the mark in the value's column decides
-stands_fits : (marks : FlagTable) (j v : ℕ) → stands v (get_or (get_or marks (j - 1) []) (column_of v) 0) ≡ flag_fits marks j v
+stands_fits : (marks : FlagTable) (n v : ℕ) → stands v (get_or (get_or marks n []) (column_of v) 0) ≡ flag_fits marks (suc n) v
 unfolding stands column_of
-stands_fits marks j v =
-    test_case (eqb v 0) (λ e. rw e)
-    (λ e. rw e (test_case (between 1 10 v) (λ b. rw b) (λ b. rw b)))
+stands_fits marks n v =
+    let e : n ≡ suc n - 1 = omega arith in
+    test_case (eqb v 0) (λ z. rw z)
+    (λ z.
+    rw z
+    (test_case (between 1 10 v)
+    (λ b. rw b (ap (λ (i : ℕ). eqb (get_or (get_or marks i []) (v - 1) 0) 1) e))
+    (λ b. rw b)))
 
--- n flags are left to be looked at
-pub record Fitting (marks : FlagTable) (flags n left faults : ℕ) : Type 0 where
-  pub few : n ≤ 14
-  pub small : faults + 256 * n ≤ 3584
-  pub low : over_of (mask n) left ≡ 0
-  pub sound : faults ≡ 0 → flags_fit marks 1 (nibbles_in n left) ≡ flags_fit marks 1 (nibbles_in 14 flags)
-  pub broken : (faults ≡ 0 → ⊥) → flags_fit marks 1 (nibbles_in 14 flags) ≡ false
+-- the flags of the first rows are left to be looked at; r is whether the others may stand
+pub record Fitting (marks : FlagTable) (flags : ℕ) (rows : FlagTable) (left : ℕ) (r : Bool) : Type 0 where
+  pub behind : FlagTable
+  pub whole : marks ≡ rows ++ behind
+  pub low : over_of (mask (length rows)) left ≡ 0
+  pub same : flags_fit marks 1 (nibbles_in (length rows) left) && r ≡ flags_fit marks 1 (nibbles_in 14 flags)
 
-pub fit_none : (marks : FlagTable) (flags : ℕ) → over_of (mask 14) flags ≡ 0 → Fitting marks flags 14 flags 0
-fit_none marks flags o = record { few = omega arith; small = omega arith; low = o; sound = λ e. refl; broken = λ n. absurd (n refl) }
+pub fit_none : (marks : FlagTable) (flags : ℕ) (rows : FlagTable) → rows ≡ marks → length marks ≡ 14 → over_of (mask 14) flags ≡ 0 → Fitting marks flags rows flags true
+fit_none marks flags rows e l o =
+    let n = ap length e ∙ l in
+    record {
+      behind = [];
+      whole = sym e ∙ sym (append-nil rows);
+      low = ap (λ (m : ℕ). over_of (mask m) flags) n ∙ o;
+      same = and_right (flags_fit marks 1 (nibbles_in (length rows) flags)) ∙ ap (λ (m : ℕ). flags_fit marks 1 (nibbles_in m flags)) n;
+    }
 
-module _ (marks : FlagTable) (flags n left faults : ℕ) (h : 0 < n) (k : Fitting marks flags n left faults) where
+module _ (marks : FlagTable) (flags : ℕ) (rows : FlagTable) (left : ℕ) (r : Bool) (rest : FlagTable) (row : List ℕ) (e : rows ≡ rest ++ (row ∷ []))
+    (k : Fitting marks flags rows left r) where
+  count : length rows ≡ suc (length rest)
+  count = ap length e ∙ omega (arith, length-append rest (row ∷ []))
+
+  lows : (over_of (mask (length rest)) (left / 16) ≡ 0) × (left % 16 ≤ 10)
+  lows = over_last (length rest) left (sym (ap (λ (n : ℕ). over_of (mask n) left) count) ∙ k.low)
+
   pub left_low : left % 16 ≤ 10
-  left_low = (over_last n left h k.low).1
+  left_low = lows.1
 
-  last_fits : faults ≡ 0 → flags_fit marks 1 (nibbles_in 14 flags) ≡ flags_fit marks 1 (nibbles_in (n - 1) (left / 16)) && flag_fits marks n (left % 16)
-  last_fits z =
-      let e : 1 + length (nibbles_in (n - 1) (left / 16)) ≡ n = omega (arith, in_length (n - 1) (left / 16)) in
-      sym (k.sound z) ∙ ap (flags_fit marks 1) (in_last n left h) ∙ fit_more marks 1 (nibbles_in (n - 1) (left / 16)) (left % 16)
-      ∙ ap (λ (j : ℕ). flags_fit marks 1 (nibbles_in (n - 1) (left / 16)) && flag_fits marks j (left % 16)) e
+  marks_are : marks ≡ rest ++ (row ∷ k.behind)
+  marks_are = k.whole ∙ ap (λ (l : FlagTable). l ++ k.behind) e ∙ append_assoc rest (row ∷ []) k.behind
 
-  pub fit_next : (column fault : ℕ) → column ≡ column_of (left % 16)
-      → Fault (left % 16) (get_or (get_or marks (n - 1) []) column 0) fault → Fitting marks flags (n - 1) (left / 16) (faults + fault)
-  fit_next column fault ec f =
-      let is : stands (left % 16) (get_or (get_or marks (n - 1) []) column 0) ≡ flag_fits marks n (left % 16) =
-      ap (λ (i : ℕ). stands (left % 16) (get_or (get_or marks (n - 1) []) i 0)) ec ∙ stands_fits marks n (left % 16) in
-      let rest = flags_fit marks 1 (nibbles_in (n - 1) (left / 16)) in
+  row_is : get_or marks (length rest) [] ≡ row
+  row_is = let z : length rest ≡ length rest + 0 = omega arith in
+      ap₂ (λ (l : FlagTable) (i : ℕ). get_or l i []) marks_are z ∙ get_or-append-add rest (row ∷ k.behind) 0 []
+
+  last_fits : flags_fit marks 1 (nibbles_in (length rows) left) ≡ flags_fit marks 1 (nibbles_in (length rest) (left / 16)) && flag_fits marks (suc (length rest)) (left % 16)
+  last_fits =
+      let n = length rest in
+      let j : 1 + length (nibbles_in n (left / 16)) ≡ suc n = omega (arith, in_length n (left / 16)) in
+      ap (λ (m : ℕ). flags_fit marks 1 (nibbles_in m left)) count ∙ ap (flags_fit marks 1) (in_last n left) ∙ fit_more marks 1 (nibbles_in n (left / 16)) (left % 16)
+      ∙ ap (λ (i : ℕ). flags_fit marks 1 (nibbles_in n (left / 16)) && flag_fits marks i (left % 16)) j
+
+  pub fit_next : (column : ℕ) (t : Bool) → column ≡ column_of (left % 16) → t ≡ stands (left % 16) (get_or row column 0) → Fitting marks flags rest (left / 16) (r && t)
+  fit_next column t ec et =
+      let n = length rest in
+      let is : t ≡ flag_fits marks (suc n) (left % 16) =
+      et ∙ ap₂ (λ (i : ℕ) (l : List ℕ). stands (left % 16) (get_or l i 0)) ec (sym row_is) ∙ stands_fits marks n (left % 16) in
+      let before = flags_fit marks 1 (nibbles_in n (left / 16)) in
       record {
-        few = omega (arith, k.few);
-        small = omega (arith, k.small, f.small);
-        low = (over_last n left h k.low).0;
-        sound = λ z. sym (last_fits (omega arith) ∙ ap (λ (b : Bool). rest && b) (sym is ∙ f.none (omega arith)) ∙ and_right rest);
-        broken = λ m.
-            test_case (eqb faults 0)
-            (λ z. let e = eqb-true faults 0 z in last_fits e ∙ ap (λ (b : Bool). rest && b) (sym is ∙ f.some (λ q. m (omega arith))) ∙ and_false_right rest)
-            (λ z. k.broken (eqb-false faults 0 z));
+        behind = row ∷ k.behind;
+        whole = marks_are;
+        low = lows.0;
+        same = turned before r t ∙ ap (λ (b : Bool). (before && b) && r) is ∙ ap (λ (b : Bool). b && r) (sym last_fits) ∙ k.same;
       }
+    where
+      turned : (a b d : Bool) → a && (b && d) ≡ (a && d) && b
+      turned false b d = refl
+      turned true true d = sym (and_right d)
+      turned true false true = refl
+      turned true false false = refl
 
-pub fit_all : (marks : FlagTable) (flags n left faults : ℕ) → n ≤ 0 → Fitting marks flags n left faults → eqb faults 0 ≡ flags_fit marks 1 (nibbles_in 14 flags)
+pub fit_all : (marks : FlagTable) (flags : ℕ) (rows : FlagTable) (left : ℕ) (r : Bool) → length rows ≡ 0 → Fitting marks flags rows left r → r ≡ flags_fit marks 1 (nibbles_in 14 flags)
 unfolding nibbles_in flags_fit
-fit_all marks flags zero left faults h k =
-    test_case (eqb faults 0)
-    (λ t. t ∙ k.sound (eqb-true faults 0 t))
-    (λ t. t ∙ sym (k.broken (eqb-false faults 0 t)))
-fit_all marks flags (suc n) left faults h k = absurd (omega arith)
+fit_all marks flags [] left r h k = k.same
+fit_all marks flags (row ∷ rows) left r h k = absurd (omega arith)
 
 -- ---- a body
 

@@ -150,6 +150,12 @@ pub plane_is : (k w : ℕ) → (bit_and (w / 2 ^ k) 0x11111111111111 ≡ plane_o
 unfolding mask
 plane_is k w = (refl, omega (arith, and_le_r (w / 2 ^ k) 0x11111111111111))
 
+pub or_small : (x y : ℕ) → x < 2 ^ 53 → y < 2 ^ 53 → bit_or x y < 2 ^ 53
+or_small x y = or_lt 53 x y
+
+pub and_small : (x y : ℕ) → x < 2 ^ 53 → y < 2 ^ 53 → bit_and x y < 2 ^ 53
+and_small x y = and_lt 53 x y
+
 abbrev Plane : ℕ → ℕ → ℕ → Type 0
 Plane k w r = (r ≡ plane_of k (mask 14) w) × (r < 2 ^ 53)
 
@@ -157,31 +163,19 @@ module _ (w a b c d : ℕ) (ea : Plane 3 w a) (eb : Plane 2 w b) (ec : Plane 1 w
   pub over_is : bit_and a (bit_or b (bit_and c d)) ≡ over_of (mask 14) w
   over_is = rw (ea.0, eb.0, ec.0, ed.0)
 
-  pub planes_small : (bit_or a b < 2 ^ 53) × (bit_or (bit_or a b) c < 2 ^ 53) × (bit_or a (bit_and (bit_and b c) d) < 2 ^ 53)
-  planes_small =
-      let two = or_lt 53 a b ea.1 eb.1 in
-      let bcd = and_lt 53 (bit_and b c) d (and_lt 53 b c eb.1 ec.1) ed.1 in
-      (two, or_lt 53 (bit_or a b) c two ec.1, or_lt 53 a (bit_and (bit_and b c) d) ea.1 bcd)
-
   reached_is : bit_or (bit_or a b) c + 2 * bit_or a b + 4 * bit_or a (bit_and (bit_and b c) d) ≡ reached_of (mask 14) w
   reached_is = rw (ea.0, eb.0, ec.0, ed.0)
 
   pub over_below : (o : ℕ) → o ≡ over_of (mask 14) w → 7 * o ≤ bit_or (bit_or a b) c + 2 * bit_or a b + 4 * bit_or a (bit_and (bit_and b c) d)
   over_below o e = omega (arith, over-within 14 w, reached_is)
 
-  pub steps_is : (o : ℕ) → o ≡ over_of (mask 14) w → bit_or (bit_or a b) c + 2 * bit_or a b + 4 * bit_or a (bit_and (bit_and b c) d) - 7 * o ≡ steps_of (mask 14) w
-  steps_is o e = ap₂ (λ (x y : ℕ). x - 7 * y) reached_is e
-
 -- none over 10, of which the last is one
-pub over_last : (n w : ℕ) → 0 < n → over_of (mask n) w ≡ 0 → (over_of (mask (n - 1)) (w / 16) ≡ 0) × (w % 16 ≤ 10)
+pub over_last : (n w : ℕ) → over_of (mask (suc n)) w ≡ 0 → (over_of (mask n) (w / 16) ≡ 0) × (w % 16 ≤ 10)
 unfolding mask
-over_last zero w h e = absurd (omega arith)
-over_last (suc n) w h e =
-    let k : suc n - 1 ≡ n = omega arith in
+over_last n w e =
     let m = over_more w (mask n) in
     let one : over_one (w % 16) ≡ 0 = omega arith in
-    let rest : over_of (mask n) (w / 16) ≡ 0 = omega arith in
-    (ap (λ (i : ℕ). over_of (mask i) (w / 16)) k ∙ rest, ten (leb (w % 16) 10) refl (sym (over-one (w % 16) (omega arith)) ∙ one))
+    (omega arith, ten (leb (w % 16) 10) refl (sym (over-one (w % 16) (omega arith)) ∙ one))
   where
     ten : (t : Bool) → leb (w % 16) 10 ≡ t → ◌≡◌ {A = ℕ} (cond t 0 1) 0 → w % 16 ≤ 10
     ten true q z = leb-true (w % 16) 10 q

@@ -1,6 +1,6 @@
 -- Nibbles held in one number, and what is told of flags with one more behind them.
 -- Assumes nothing.
-use Prim.Native.Nat.{ℕ, zero, suc, ◌+◌, ◌-◌, ◌*◌, ◌/◌, ◌%◌, ◌^◌, ◌<◌}
+use Prim.Native.Nat.{ℕ, zero, suc, ◌+◌, ◌*◌, ◌/◌, ◌%◌, ◌^◌, ◌<◌}
 use native.Mathlib.Omega.{arith}
 use native.Mathlib.Nat.{pow-suc, mul_assoc, mul_comm, div-div-eq-div-mul, div-add-mod'}
 use mathlib.Core.Path.{◌≡◌, refl, sym, ap, ap₂, ◌∙◌}
@@ -23,10 +23,9 @@ in_length zero w = refl
 in_length (suc n) w = omega (arith, length-append (nibbles_in n (w / 16)) (w % 16 ∷ []), in_length n (w / 16))
 
 -- the lowest nibble is the last
-pub in_last : (n w : ℕ) → 0 < n → nibbles_in n w ≡ nibbles_in (n - 1) (w / 16) ++ (w % 16 ∷ [])
+pub in_last : (n w : ℕ) → nibbles_in (suc n) w ≡ nibbles_in n (w / 16) ++ (w % 16 ∷ [])
 unfolding nibbles_in
-in_last zero w h = absurd (omega arith)
-in_last (suc n) w h = let e : n ≡ suc n - 1 = omega arith in ap (λ (k : ℕ). nibbles_in k (w / 16) ++ (w % 16 ∷ [])) e
+in_last n w = refl
 
 -- a nibble behind those of a number
 pub in_more : (n w x : ℕ) → x < 16 → nibbles_in (suc n) (w * 16 + x) ≡ nibbles_in n w ++ (x ∷ [])

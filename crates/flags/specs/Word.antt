@@ -1,5 +1,5 @@
 -- Nibbles held in one number; the column of a flag's value, and what its mark says of it.
-use Rattle.std.specs.Prelude.{ℕ, zero, suc, ◌-◌, ◌/◌, ◌%◌, ◌≤◌, ◌≡◌, Bool, true, false, cond, ◌&&◌, List, [], ◌∷◌, ◌++◌, eqb}
+use Rattle.std.specs.Prelude.{ℕ, zero, suc, ◌-◌, ◌/◌, ◌%◌, Bool, true, cond, ◌&&◌, List, [], ◌∷◌, ◌++◌, eqb}
 use Rattle.format.specs.Order.{between}
 
 -- the n low nibbles of a number, the highest first
@@ -14,9 +14,3 @@ column_of v = cond (between 1 10 v) (v - 1) 9
 -- a flag is missing, or has a value and the mark 1
 unfoldable pub stands : ℕ → ℕ → Bool
 stands v mark = cond (eqb v 0) true (between 1 10 v && eqb mark 1)
-
--- 0 exactly where that is so, and at most 256
-pub record Fault (v mark r : ℕ) : Type 0 where
-  pub none : r ≡ 0 → stands v mark ≡ true
-  pub some : (r ≡ 0 → ⊥) → stands v mark ≡ false
-  pub small : r ≤ 256

@@ -5,7 +5,7 @@ ghost use Rattle.std.specs.Prelude.{◌≡◌, ◌+◌, ◌*◌, ◌≤◌, ◌<
 ghost use Rattle.format.specs.Nibbles.{nibbles, Nibbles};
 ghost use Rattle.format.specs.Flags.{total_weight, flag_in_range, flags_fit, flags_valid, quality_code};
 ghost use Rattle.nibble.specs.View.{view, part};
-ghost use Rattle.flags.specs.Word.{nibbles_in, column_of, Fault};
+ghost use Rattle.flags.specs.Word.{nibbles_in, column_of, stands};
 ghost use Rattle.flags.specs.Planes.{mask, plane_of, over_of, steps_of};
 ghost use Rattle.flags.specs.Missing.{MissingPermitted};
 
@@ -24,7 +24,7 @@ fn sixteen_packed(s: &[u8], at: usize) -> u64
     if at % 2 == 0 {
         return w;
     }
-    w % 1152921504606846976 * 16 + numbers::wide(s[i + 8]) / 16
+    w % (1 << 60) * 16 + u64::from(s[i + 8]) / 16
 }
 
 // Of a buffer with a nibble a byte.
@@ -33,10 +33,8 @@ fn gather(s: &[u8], at: usize) -> u64
     ensures { nibbles_in 16 result ≡ take 16 (drop at s.now) }
 {
     let mut w = 0;
-    let mut i = 0;
-    while i < 16 {
-        w = w * 16 + numbers::wide(s[at + i]);
-        i += 1;
+    for nibble in &s[at..at + 16] {
+        w = w * 16 + u64::from(*nibble);
     }
     w
 }
@@ -45,17 +43,17 @@ fn sixteen(s: &[u8], c: Cursor) -> u64
     requires { Nibbles (view c.packed s.now) × (c.at + 16 ≤ length (view c.packed s.now)) × (c.at ≤ 2 ^ 32) }
     ensures { nibbles_in 16 result ≡ part s.now c 16 }
 {
-    let at = c.at;
-    let packed = c.packed;
-    if packed {
-        return sixteen_packed(s, at);
+    if c.packed {
+        sixteen_packed(s, c.at)
+    } else {
+        gather(s, c.at)
     }
-    gather(s, at)
 }
 
 // ---- fourteen flags at once: a bit of each, at the lowest place of its nibble
 
 // Bit k of each flag that a number holds.
+#[tactic(auto, using(crate::proofs::Planes::plane_is))]
 fn plane(flags: u64, k: u64) -> u64
     requires { k < 4 }
     ensures { (result ≡ plane_of k (mask 14) flags) × (result < 2 ^ 53) }
@@ -64,6 +62,7 @@ fn plane(flags: u64, k: u64) -> u64
 }
 
 // A bit for each flag over 10.
+#[tactic(auto, using(crate::proofs::Planes::over_is))]
 fn over_ten(flags: u64) -> u64
     ensures { result ≡ over_of (mask 14) flags }
 {
@@ -74,6 +73,7 @@ fn over_ten(flags: u64) -> u64
 }
 
 // For each flag as many bits as it weighs: one from 2 on, two from 4 on, three from 7 to 10.
+#[tactic(auto, using(crate::proofs::Planes::or_small, crate::proofs::Planes::and_small))]
 fn steps(flags: u64) -> u64
     ensures { result ≡ steps_of (mask 14) flags }
 {
@@ -90,10 +90,11 @@ fn steps(flags: u64) -> u64
 fn weigh(flags: u64) -> u64
     ensures { (result ≡ total_weight (nibbles_in 14 flags)) × (result ≤ 42) }
 {
-    u64::count_ones(steps(flags)) as u64
+    u64::from(steps(flags).count_ones())
 }
 
 // Their quality code.
+#[tactic(auto, using(crate::proofs::Body::code_missing, crate::proofs::Body::code_given))]
 fn code_of(flags: u64) -> u64
     requires { flags < 2 ^ 56 }
     ensures { (result ≡ quality_code (nibbles_in 14 flags)) × (result ≤ 43) }
@@ -120,13 +121,11 @@ pub fn in_range(j: usize, v: usize, marks: FlagTable) -> bool
     requires { (1 ≤ j) × (j ≤ 14) }
     ensures { result ≡ flag_in_range marks j v }
 {
-    if !numbers::within(1, 10, v) {
-        return false;
-    }
-    marks[j - 1][v - 1] == 1
+    (1..=10).contains(&v) && marks[j - 1][v - 1] == 1
 }
 
 // The column of a value. A missing flag gets the last one, so that a mark is looked up for every flag without a branch.
+#[tactic(auto, unfolding(crate::specs::Word::column_of))]
 fn column(v: u64) -> usize
     requires { v ≤ 10 }
     ensures { (result ≡ column_of v) × (result < 10) }
@@ -137,12 +136,13 @@ fn column(v: u64) -> usize
     (v - 1) as usize
 }
 
-// 0 where a flag of this value may stand, given its mark, which does not count where the flag is missing.
-fn fault(v: u64, mark: u8) -> u64
+// Whether a flag of this value may stand, given its mark, which does not count where the flag is missing. It looks at both.
+#[tactic(auto, using(crate::proofs::Body::stands_is))]
+fn stands(v: u64, mark: u8) -> bool
     requires { v ≤ 10 }
-    ensures { Fault v mark result }
+    ensures { result ≡ stands v mark }
 {
-    (numbers::wide(mark) + 255) % 256 * ((v + 15) / 16)
+    (v == 0) | (mark == 1)
 }
 
 // Whether fourteen flags, none over 10, may stand under a table. It looks at all of them and has no branch for a flag, which the
@@ -152,27 +152,21 @@ fn permitted(flags: u64, marks: &FlagTable) -> bool
     ensures { result ≡ flags_fit marks.now 1 (nibbles_in 14 flags) }
 {
     let mut left = flags;
-    let mut faults = 0;
-    let mut n: usize = 14;
-    while 0 < n {
+    let mut all = true;
+    for row in marks.iter().rev() {
         let v = left % 16;
-        let row = n - 1;
-        let k = column(v);
-        faults += fault(v, marks[row][k]);
+        all &= stands(v, row[column(v)]);
         left /= 16;
-        n -= 1;
     }
-    faults == 0
+    all
 }
 
 // Whether the fourteen flags that a number holds may stand under a table.
+#[tactic(auto, using(crate::proofs::Planes::over_unfit))]
 fn fit(flags: u64, marks: &FlagTable) -> bool
     ensures { result ≡ flags_fit marks.now 1 (nibbles_in 14 flags) }
 {
-    if over_ten(flags) == 0 {
-        return permitted(flags, marks);
-    }
-    false
+    over_ten(flags) == 0 && permitted(flags, marks)
 }
 
 // Whether len nibbles from a place on are a valid body of attachment 1 under a table.
@@ -184,11 +178,5 @@ pub fn valid(s: &[u8], c: Cursor, len: usize, marks: FlagTable) -> bool
         return false;
     }
     let w = sixteen(s, c);
-    if w == 0 {
-        return true;
-    }
-    if fit(w / 256, &marks) {
-        return w % 256 == code_of(w / 256);
-    }
-    false
+    w == 0 || fit(w / 256, &marks) && w % 256 == code_of(w / 256)
 }

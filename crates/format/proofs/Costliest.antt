@@ -7,8 +7,8 @@ use mathlib.Core.Path.{◌≡◌, refl, sym, ap}
 use mathlib.Core.List.{List, [], ◌∷◌}
 use mathlib.Core.Option.{none, some}
 use lib.ListN.{get_or, replicate}
-use Rattle.format.specs.Order.{Refusal, between, all_marks}
-use Rattle.format.specs.ShipText.{char_code, short, code_nibbles, Symbol, plain, original, symbol_of, symbols_in, admitted, all_admitted}
+use Rattle.format.specs.Order.{Refusal, all_marks}
+use Rattle.format.specs.ShipText.{char_code, short, code_nibbles, plain, original, symbol_of, symbols_in, admitted, all_admitted}
 use Rattle.format.specs.ShipText.{is_space, symbol_nibbles, fulls, rest, space_run, write_from, write_text, ends_in_space}
 use Rattle.format.specs.Calls.{Answer}
 use Rattle.format.specs.Reply.{refusal}

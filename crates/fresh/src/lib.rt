@@ -1,33 +1,62 @@
 // Starts a report of the five required values.
 #![tactic(auto)]
 
-ghost use Rattle.std.specs.Prelude.{◌≡◌, ◌≤◌, length};
-ghost use Rattle.format.specs.Field.{field_at};
+ghost use Rattle.std.specs.Prelude.{◌≡◌, ◌+◌, ◌≤◌, length};
+ghost use Rattle.format.specs.Reply.{by_number};
 ghost use Rattle.format.specs.Whole as spec;
 ghost use Rattle.card.specs.Answers.{Carded};
 ghost use Rattle.fresh.specs.Answers.{fresh_answer};
-ghost use Rattle.fresh.specs.Steps.{CodeOrZero, FiveFit, five_numbers, cleared};
+ghost use Rattle.fresh.specs.Steps.{required_code, FiveFit, five_numbers, cleared};
 
-use card::Coding;
-use format::{Coded, Scaled};
+use card::Field;
+use format::{Coded, Refusal, Scaled};
 
-#[derive(Clone, Copy)]
-pub enum Started {
-    // The refusal's number and place.
-    Refused(u8, usize),
-    Written,
+// The numbers of the required fields.
+const BOX10: usize = 1;
+
+const YEAR: usize = 2;
+
+const MONTH: usize = 3;
+
+const X: usize = 6;
+
+const Y: usize = 7;
+
+// Their codes.
+#[derive(Clone, Copy, Debug, PartialEq, Eq)]
+struct Codes {
+    box10: Coded,
+    year: Coded,
+    month: Coded,
+    x: Coded,
+    y: Coded,
 }
 
-// The code of a value of field k, or 0 where the value is out of range.
-fn code_or_zero(k: usize, v: Scaled) -> Coded
-    requires { (1 ≤ k) × (k ≤ 46) }
-    ensures { CodeOrZero (field_at k) v result.0 }
-{
-    let g = card::coded(k, v);
-    match g {
-        Coding::Outside => Coded(0),
-        Coding::Code(c) => c,
+impl Codes {
+    fn sum(self) -> u64
+        ensures { result ≡ self.box10.0 + self.year.0 + self.month.0 + self.x.0 + self.y.0 }
+    {
+        let Codes {
+            box10,
+            year,
+            month,
+            x,
+            y,
+        } = self;
+        u64::from(box10.0)
+            + u64::from(year.0)
+            + u64::from(month.0)
+            + u64::from(x.0)
+            + u64::from(y.0)
     }
+}
+
+// The code of a value of a required field, which has to be in range.
+fn required(number: usize, value: Scaled) -> Result<Coded, Refusal>
+    requires { (1 ≤ number) × (number ≤ 46) }
+    ensures { by_number result ≡ required_code number value }
+{
+    Field::at(number).coded(value).ok_or(Refusal::Value(number))
 }
 
 // Clears the first 38 bytes.
@@ -35,31 +64,21 @@ fn clear_card(out: &mut [u8])
     requires { 38 ≤ length out.old }
     ensures { out.new ≡ cleared out.old }
 {
-    let mut i = 0;
-    while i < 38 {
-        out[i] = 0;
-        i += 1;
-    }
+    out[..38].fill(0);
 }
 
-// Writes a card of these five codes, all else 0, and sets the checksum.
-fn write_fresh(out: &mut [u8], box10: Coded, year: Coded, month: Coded, x: Coded, y: Coded)
-    requires { (38 ≤ length out.old) × FiveFit box10.0 year.0 month.0 x.0 y.0 }
-    ensures { Carded (cleared out.old) out.new (five_numbers box10.0 year.0 month.0 x.0 y.0) }
+// Writes a card of these codes, all else 0, and sets the checksum.
+fn write_fresh(out: &mut [u8], codes: Codes)
+    requires { (38 ≤ length out.old) × FiveFit codes }
+    ensures { Carded (cleared out.old) out.new (five_numbers codes) }
 {
-    let a = box10.0;
-    let b = year.0;
-    let c = month.0;
-    let d = x.0;
-    let e = y.0;
-    let sum = a as u64 + b as u64 + c as u64 + d as u64 + e as u64;
     clear_card(out);
-    card::store(out, 1, box10);
-    card::store(out, 2, year);
-    card::store(out, 3, month);
-    card::store(out, 6, x);
-    card::store(out, 7, y);
-    card::set_checksum(out, sum);
+    Field::at(BOX10).store(out, codes.box10);
+    Field::at(YEAR).store(out, codes.year);
+    Field::at(MONTH).store(out, codes.month);
+    Field::at(X).store(out, codes.x);
+    Field::at(Y).store(out, codes.y);
+    card::set_checksum(out, codes.sum());
 }
 
 // The report of these five values, all else missing, to the first 38 bytes of out.
@@ -70,32 +89,19 @@ pub fn fresh(
     x: Scaled,
     y: Scaled,
     out: &mut [u8],
-) -> Started
+) -> Result<(), Refusal>
     ensures { record { answer = fresh_answer result; out = out.new } ≡ spec.fresh box10 year month x y out.old }
 {
-    let a = code_or_zero(1, box10);
-    if card::is_missing(a) {
-        return Started::Refused(9, 1);
-    }
-    let b = code_or_zero(2, year);
-    if card::is_missing(b) {
-        return Started::Refused(9, 2);
-    }
-    let c = code_or_zero(3, month);
-    if card::is_missing(c) {
-        return Started::Refused(9, 3);
-    }
-    let d = code_or_zero(6, x);
-    if card::is_missing(d) {
-        return Started::Refused(9, 6);
-    }
-    let e = code_or_zero(7, y);
-    if card::is_missing(e) {
-        return Started::Refused(9, 7);
-    }
+    let codes = Codes {
+        box10: required(BOX10, box10)?,
+        year: required(YEAR, year)?,
+        month: required(MONTH, month)?,
+        x: required(X, x)?,
+        y: required(Y, y)?,
+    };
     if out.len() < 38 {
-        return Started::Refused(13, 0);
+        return Err(Refusal::Room);
     }
-    write_fresh(out, a, b, c, d, e);
-    Started::Written
+    write_fresh(out, codes);
+    Ok(())
 }

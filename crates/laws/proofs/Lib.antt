@@ -11,6 +11,7 @@ pub mod Characters
 pub mod ShipText
 pub mod Agreement
 pub mod Stores
+pub mod Results
 pub mod Report
 pub mod Machine
 pub mod Indicators

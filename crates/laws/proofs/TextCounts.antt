@@ -19,8 +19,10 @@ use Rattle.format.specs.Report.{observation_of, body_valid}
 use Rattle.format.specs.Calls.{Call, edits, fetches, put_text, fetch_text, content_of, content, put_in, made, ship_text, Given, gives}
 use Rattle.format.specs.Buffer.{after, effect}
 use Rattle.format.specs.Reply.{answer_of, CountsId4}
-use Rattle.format.specs.declared.Reply.{Reply}
-use Rattle.format.specs.declared.Reply.TheVariants.{Refused, Done, Value, MissingValue, Flag, MissingFlag, Count, Nibbles, Text}
+use Rattle.std.specs.Prelude.{Result, Ok, Err}
+use Rattle.format.specs.declared.Refusal.{Refusal}
+use Rattle.format.specs.declared.Outcome.{Outcome}
+use Rattle.format.specs.declared.Outcome.TheVariants.{Nothing, Value, Flag, Count, Nibbles, Text}
 use Rattle.laws.proofs.Sequences.{cond_case}
 use Rattle.laws.proofs.Attachments.{Fine, empty, one}
 use Rattle.laws.proofs.ShipText.{text_back}
@@ -64,25 +66,23 @@ last_count (g ∷ []) = count_in g.number
 last_count (g ∷ h ∷ more) = last_count (h ∷ more)
 
 module _ (marks : FlagTable) (b : List ℕ) (bytes : Bytes b) (b' : List ℕ) (os : List (List ℕ)) where
-  counts : (c : Call) → ((gs : List Given) → Accepts marks b c gs b' → last_count gs ≡ length (content (observation_of b') 4)) → (r : Reply)
-      → after (answer_of r) b' os ≡ effect marks b c → CountsId4 r b'
-  counts c last (Refused n p) e = tt
-  counts c last Done e = tt
-  counts c last (Value v) e = tt
-  counts c last MissingValue e = tt
-  counts c last (Flag v) e = tt
-  counts c last MissingFlag e = tt
-  counts c last (Count n) e = tt
-  counts c last (Nibbles n) e = last _ (accepts marks b bytes c _ b' os e)
-  counts c last (Text n k m) e = last _ (accepts marks b bytes c _ b' os e)
+  counts : (c : Call) → ((gs : List Given) → Accepts marks b c gs b' → last_count gs ≡ length (content (observation_of b') 4))
+      → (r : Result Outcome Refusal) → after (answer_of r) b' os ≡ effect marks b c → CountsId4 r b'
+  counts c last (Err refused) e = tt
+  counts c last (Ok Nothing) e = tt
+  counts c last (Ok (Value v)) e = tt
+  counts c last (Ok (Flag v)) e = tt
+  counts c last (Ok (Count n)) e = tt
+  counts c last (Ok (Nibbles n)) e = last _ (accepts marks b bytes c _ b' os e)
+  counts c last (Ok (Text n k m)) e = last _ (accepts marks b bytes c _ b' os e)
 
-  pub put_counts : (t origins : List ℕ) (r : Reply) → after (answer_of r) b' os ≡ effect marks b (edits (put_text t origins)) → CountsId4 r b'
+  pub put_counts : (t origins : List ℕ) (r : Result Outcome Refusal) → after (answer_of r) b' os ≡ effect marks b (edits (put_text t origins)) → CountsId4 r b'
   unfolding gives made
   put_counts t origins =
       counts (edits (put_text t origins))
       (λ gs a. rw (a.left, put_content 4 (write_text (symbols_in t origins)) a.from.attachments) (ap last_count a.given))
 
-  pub fetch_counts : (out origins : List ℕ) (r : Reply) → after (answer_of r) b' os ≡ effect marks b (fetches (fetch_text out origins)) → CountsId4 r b'
+  pub fetch_counts : (out origins : List ℕ) (r : Result Outcome Refusal) → after (answer_of r) b' os ≡ effect marks b (fetches (fetch_text out origins)) → CountsId4 r b'
   unfolding gives
   fetch_counts out origins =
       counts (fetches (fetch_text out origins)) (λ gs a. rw a.left (ap last_count a.given ∙ read_count marks a.from a.good))

@@ -9,7 +9,12 @@ use mathlib.Core.List.{List, [], ◌∷◌, ◌++◌, append_assoc}
 use lib.ListN.{length, length-append}
 use lib.Dec.{ltb}
 use borrow.Author.Tests.{lt-ltb, le-ltb, ltb-true, ltb-false}
-use Rattle.format.specs.Lister.{digits_from, decimal}
+use Rattle.std.specs.Fmt as fmt
+use Rattle.std.proofs.lemmas.Fmt.{decimal_digit, decimal_step}
+use lib.IntN.{ℤ, pos, negsuc}
+use mir.Syntax.{w64}
+use mir.Val.{SFits}
+use Rattle.format.specs.Lister.{digits_from, decimal, signed_decimal}
 
 digits-one : (d n : ℕ) (more : List ℕ) → n < 10 → digits_from (suc d) n more ≡ (48 + n) ∷ more
 unfolding digits_from
@@ -60,3 +65,17 @@ decimal-short (suc k) n h =
     let p = pow-succ' 10 (suc k) in
     small_or_not n (λ s. rw (decimal-one n s) (omega arith))
     (λ l. let t = decimal-short k (n / 10) (omega arith) in rw (decimal_more n l, length-append) (omega arith))
+
+-- the digits are those that std prints
+is_from : (k n : ℕ) → n < k → n < 2 ^ 64 → fmt.decimal n ≡ decimal n
+is_from zero n h f = absurd (omega arith)
+is_from (suc k) n h f =
+    small_or_not n (λ s. decimal_digit n s ∙ sym (decimal-one n s))
+    (λ l. decimal_step n l f ∙ ap (λ (ds : List ℕ). ds ++ ((48 + n % 10) ∷ [])) (is_from k (n / 10) (omega arith) (omega arith)) ∙ sym (decimal_more n l))
+
+pub decimal_is : (n : ℕ) → n < 2 ^ 64 → fmt.decimal n ≡ decimal n
+decimal_is n f = is_from (suc n) n (omega arith) f
+
+pub signed_is : (z : ℤ) → SFits w64 z → fmt.signed_decimal z ≡ signed_decimal z
+signed_is (pos n) f = decimal_is n (omega (arith, f.sfits))
+signed_is (negsuc n) f = ap (λ (ds : List ℕ). 45 ∷ ds) (decimal_is (suc n) (omega (arith, f.sfits)))

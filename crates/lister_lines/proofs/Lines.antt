@@ -3,12 +3,15 @@
 use Prim.Native.Nat.{ℕ, suc, ◌+◌, ◌-◌, ◌*◌, ◌^◌, ◌≤◌, ◌<◌}
 use native.Mathlib.Omega.{arith}
 use native.Mathlib.Numerals.{add-one}
-use mathlib.Core.Path.{◌≡◌, refl, sym, ap, ap₂, ◌∙◌}
+use mathlib.Core.Path.{◌≡◌, refl, sym, ap, ap₂, subst, ◌∙◌}
 use mathlib.Core.Bool.{Bool, true, false, ◌&&◌}
-use mathlib.Core.List.{List, [], ◌∷◌, ◌++◌, append_assoc}
+use mathlib.Core.List.{List, [], ◌∷◌, ◌++◌, append_assoc, append-nil}
+use mir.Syntax.{w64}
+use mir.Val.{SFits}
+use Rattle.std.specs.Fmt as fmt
 use mathlib.Core.Option.{Option, none, some}
-use lib.ListN.{length, get_or, take, drop, length-append, drop_of_length-le}
-use lib.Seq.{drop-cons, take_all, length-take-le}
+use lib.ListN.{length, get_or, drop, length-append, drop_of_length-le}
+use lib.Seq.{drop-cons, take_all}
 use lib.Dec.{T, ltb, ltb→lt}
 use lib.IntN.{ℤ, pos, negsuc, nat_abs, sub_ℕ, ◌+ℤ◌}
 use Rattle.laws.proofs.Attachments.{attachments_length}
@@ -23,28 +26,45 @@ use Rattle.format.specs.declared.Scaled.{Scaled}
 use Rattle.format.proofs.Test.{left, right}
 use Rattle.laws.proofs.Fields.{table-length, Fair, FairAll, nil, cons, fair_range, coded_range, scaled-coded, codes-entries, checks_fair}
 use Rattle.laws.proofs.Report.{passes}
-use Rattle.card.proofs.Entries.{entry_there, entry_is, entries-length}
+use Rattle.card.proofs.Entries.{entry_there, entry_missing, entry_is, entries-length}
 use Rattle.card.proofs.Numbers.{codes-length}
 use Rattle.report.specs.Answers.{inspected}
 use Rattle.report.specs.declared.Report.{Report}
-use Rattle.report.specs.declared.Inspected.{Inspected}
+use Rattle.std.specs.Prelude.{Ok, Err}
+use Rattle.format.specs.Order as order
+use Rattle.format.specs.Report.{refused}
 use Rattle.report.proofs.Outcomes.{judge_refused, judge_fine}
 use Rattle.lister_lines.specs.Lines.{value_lines, lettered_lines, refusal_line}
-use Rattle.lister_lines.proofs.Decimal.{decimal-short}
+use Rattle.lister_lines.proofs.Decimal.{decimal-short, decimal_is, signed_is}
 
 -- ---- what a line is made of
 
-pub field-line : (k : ℕ) (f : Field) (c : Coded) (z : ℤ) → (c.0 ≡ 0 → ⊥) → z ≡ (scaled_of f c).0
-    → field_line k (entry_of f c) ≡ (decimal k ++ (32 ∷ [])) ++ (signed_decimal z ++ (10 ∷ []))
-field-line k f c z n e =
-    ap (field_line k) (entry_there f c n) ∙ ap (λ (y : ℤ). line (decimal k) (signed_decimal y)) (sym e)
-    ∙ sym (append_assoc (decimal k) (32 ∷ []) (signed_decimal z ++ (10 ∷ [])))
+module _ (k : ℕ) (f : Field) (c : Coded) (small : k ≤ 46) (some : c.0 ≡ 0 → ⊥) where
+  pub field-line : field_line k (entry_of f c) ≡ (fmt.decimal k ++ (32 ∷ [])) ++ (signed_decimal (scaled_of f c).0 ++ (10 ∷ []))
+  field-line =
+      ap (field_line k) (entry_there f c some)
+      ∙ sym (append_assoc (decimal k) (32 ∷ []) (signed_decimal (scaled_of f c).0 ++ (10 ∷ [])))
+      ∙ ap (λ (l : List ℕ). (l ++ (32 ∷ [])) ++ (signed_decimal (scaled_of f c).0 ++ (10 ∷ []))) (sym (decimal_is k (omega arith)))
 
-pub refusal-line : (n p : ℕ) → refusal_line n p ≡ 82 ∷ 32 ∷ ((decimal n ++ (32 ∷ [])) ++ (decimal p ++ (10 ∷ [])))
+  pub field_line-by : (z : ℤ) → SFits w64 z → z ≡ (scaled_of f c).0 → field_line k (entry_of f c) ≡ (fmt.decimal k ++ (32 ∷ [])) ++ (fmt.signed_decimal z ++ (10 ∷ []))
+  field_line-by z fits e =
+      field-line ∙ ap (λ (l : List ℕ). (fmt.decimal k ++ (32 ∷ [])) ++ (l ++ (10 ∷ []))) (ap signed_decimal (sym e) ∙ sym (signed_is z fits))
+
+-- a missing field has none
+pub no_line : (k : ℕ) (f : Field) (c : Coded) (b : List ℕ) → c.0 ≡ 0 → b ≡ b ++ field_line k (entry_of f c)
+no_line k f c b e = sym (append-nil b) ∙ ap (λ (l : List ℕ). b ++ l) (sym (ap (field_line k) (entry_missing f c e)))
+
+pub lettered-line : (l : List ℕ) (n : ℕ) → n < 2 ^ 64 → line l (decimal n) ≡ (l ++ (32 ∷ [])) ++ (fmt.decimal n ++ (10 ∷ []))
+lettered-line l n h =
+    sym (append_assoc l (32 ∷ []) (decimal n ++ (10 ∷ []))) ∙ ap (λ (m : List ℕ). (l ++ (32 ∷ [])) ++ (m ++ (10 ∷ []))) (sym (decimal_is n h))
+
+pub refusal-line : (n p : ℕ) → n < 2 ^ 64 → p < 2 ^ 64
+    → refusal_line n p ≡ (82 ∷ 32 ∷ []) ++ ((fmt.decimal n ++ (32 ∷ [])) ++ (fmt.decimal p ++ (10 ∷ [])))
 unfolding refusal_line
-refusal-line n p =
+refusal-line n p g h =
     ap (λ (l : List ℕ). 82 ∷ 32 ∷ l)
-    (append_assoc (decimal n) (32 ∷ decimal p) (10 ∷ []) ∙ sym (append_assoc (decimal n) (32 ∷ []) (decimal p ++ (10 ∷ []))))
+    (append_assoc (decimal n) (32 ∷ decimal p) (10 ∷ []) ∙ sym (append_assoc (decimal n) (32 ∷ []) (decimal p ++ (10 ∷ [])))
+    ∙ ap₂ (λ (l m : List ℕ). (l ++ (32 ∷ [])) ++ (m ++ (10 ∷ []))) (sym (decimal_is n g)) (sym (decimal_is p h)))
 
 -- the line of the field at place i, and those behind it
 pub lines_step : (b : List ℕ) (i : ℕ) (c : Coded) → i < 46 → c.0 ≡ get_or (codes_of b) (i + 1 - 1) 0
@@ -56,6 +76,14 @@ lines_step b i c h e =
     rw add-one
     (ap (field_lines (suc i)) (drop-cons (entries table (codes_of b)) i none (rw entries-length h))
     ∙ ap (λ (o : Option Scaled). field_line (suc i) o ++ field_lines (suc (suc i)) (drop (suc i) (entries table (codes_of b)))) (rw add-one at at))
+
+-- the same by the field's number
+pub lines_at : (b : List ℕ) (k : ℕ) (c : Coded) → 1 ≤ k → k ≤ 46 → c.0 ≡ get_or (codes_of b) (k - 1) 0
+    → value_lines b (k - 1) ≡ field_line k (entry_of (field_at k) c) ++ value_lines b k
+lines_at b k c low high e =
+    let same : k - 1 + 1 ≡ k = omega arith in
+    subst (λ (m : ℕ). value_lines b (k - 1) ≡ field_line m (entry_of (field_at m) c) ++ value_lines b m) same
+    (lines_step b (k - 1) c (omega arith) (e ∙ ap (λ (n : ℕ). get_or (codes_of b) (n - 1) 0) (sym same)))
 
 pub lines_end : (b : List ℕ) (i : ℕ) → 46 ≤ i → value_lines b i ≡ []
 unfolding value_lines field_lines
@@ -112,27 +140,28 @@ lines_short k (cons {f} {e} {fs} {es} g gs) t h =
 
 -- ---- what is listed, by outcome
 
-module _ (marks : FlagTable) (b : List ℕ) (x : Inspected) (is : x ≡ inspected marks b 0) where
-  pub refused_lists : (n p : ℕ) → x ≡ Inspected.Refused n p → listing_of (judge marks b) ≡ refusal_line n p
+module _ (marks : FlagTable) (b : List ℕ) where
+  pub refused_lists : (r : order.Refusal) (n p : ℕ) → n ≡ r.number → p ≡ r.place → Err r ≡ inspected marks b 0 → listing_of (judge marks b) ≡ refusal_line n p
   unfolding refusal_line
-  refused_lists n p e = ap listing_of (judge_refused marks b 0 n p x is e)
+  refused_lists r n p number place e =
+      ap listing_of (judge_refused marks b 0 r e) ∙ ap₂ (λ (k m : ℕ). listing_of (refused (record { number = k; place = m }))) (sym number) (sym place)
 
-  module _ (r : Report) (e : x ≡ Inspected.Fine r) where
+  module _ (r : Report) (e : Ok r ≡ inspected marks b 0) where
     codes-table : length (codes_of b) ≡ length table
     codes-table = codes-length b ∙ sym table-length
 
     pub fine_long : 38 ≤ length b
-    fine_long = (passes marks b (observation_of b) (judge_fine marks b 0 r x is e).0).0.long
+    fine_long = (passes marks b (observation_of b) (judge_fine marks b 0 r e).0).0.long
 
     module _ (n : ℕ) (stored : n ≡ checksum_of b) where
       -- the checksum that an accepted report stores is that of its fields
       sum_is : n ≡ checksum (codes_of b)
-      sum_is = stored ∙ (passes marks b (observation_of b) (judge_fine marks b 0 r x is e).0).0.sum
+      sum_is = stored ∙ (passes marks b (observation_of b) (judge_fine marks b 0 r e).0).0.sum
 
       pub fine_lists : listing_of (judge marks b) ≡ value_lines b 0 ++ lettered_lines n r.count
       unfolding value_lines lettered_lines observation_of
       fine_lists =
-          let f = judge_fine marks b 0 r x is e in
+          let f = judge_fine marks b 0 r e in
           let sum : checksum (codes table (entries table (codes_of b))) ≡ n = ap checksum (codes-entries table (codes_of b) codes-table) ∙ sym sum_is in
           let count : length (attachments_of (count_of b) (tail_of b)) ≡ r.count = attachments_length (count_of b) (tail_of b) ∙ sym (ap (λ (y : Report). y.count) f.1) in
           ap listing_of f.0
@@ -145,7 +174,7 @@ module _ (marks : FlagTable) (b : List ℕ) (x : Inspected) (is : x ≡ inspecte
       pub fine_short : r.count < 2 ^ 64 → length (value_lines b 0 ++ lettered_lines n r.count) ≤ 512
       unfolding value_lines lettered_lines
       fine_short g =
-          let p = (passes marks b (observation_of b) (judge_fine marks b 0 r x is e).0).0 in
+          let p = (passes marks b (observation_of b) (judge_fine marks b 0 r e).0).0 in
           let fields = lines_short 1 (checks_fair 1 table (codes_of b) codes-table p.fields).0 table_small (omega (arith, entries-length b)) in
           omega (
             arith,
@@ -161,12 +190,16 @@ module _ (marks : FlagTable) (b : List ℕ) (x : Inspected) (is : x ≡ inspecte
 
 pub refused_short : (n p : ℕ) → n < 256 → p < 2 ^ 64 → length (refusal_line n p) ≤ 512
 refused_short n p h g =
+    let number = decimal_is n (omega arith) in
+    let place = decimal_is p g in
     omega (
       arith,
-      ap length (refusal-line n p),
-      length-append (decimal n ++ (32 ∷ [])) (decimal p ++ (10 ∷ [])),
-      length-append (decimal n) (32 ∷ []),
-      length-append (decimal p) (10 ∷ []),
+      ap length (refusal-line n p (omega arith) g),
+      length-append (fmt.decimal n ++ (32 ∷ [])) (fmt.decimal p ++ (10 ∷ [])),
+      length-append (fmt.decimal n) (32 ∷ []),
+      length-append (fmt.decimal p) (10 ∷ []),
+      ap length number,
+      ap length place,
       decimal-short 2 n (omega arith),
       decimal-short 19 p (omega arith),
     )
@@ -174,11 +207,3 @@ refused_short n p h g =
 pub listing-short : (s : List ℕ) → length s ≤ 1856 → listing_of (judge all_yes s) ≡ listing s
 unfolding listing
 listing-short s h = ap (λ (l : List ℕ). listing_of (judge all_yes l)) (sym (take_all 1856 s h))
-
--- an output that begins with what was listed has as many bytes
-module _ (s last rest : List ℕ) (r : ℕ) (e : r ≡ length (listing s)) (f : last ≡ listing s ++ rest) where
-  pub listed_within : r ≤ length last
-  listed_within = omega (arith, e, ap length f, length-append (listing s) rest)
-
-  pub listed_taken : r ≡ length (take r last)
-  listed_taken = sym (length-take-le r last listed_within)

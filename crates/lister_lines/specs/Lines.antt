@@ -1,18 +1,17 @@
--- What the lister's functions put: a list from a place on, and the lists.
+-- What the lister's functions put behind the lines so far, and the lists.
 use Rattle.std.specs.Prelude.{ℕ, suc, ◌+◌, ◌≤◌, ◌≡◌, List, [], ◌∷◌, ◌++◌, length, drop}
-use Rattle.std.proofs.lemmas.List.Edits.{sets}
+use Rattle.arrayvec.specs.ArrayString.{ArrayString}
 use Rattle.format.specs.Field.{table, entries}
 use Rattle.format.specs.Report.{codes_of, refused}
 use Rattle.format.specs.Lister.{decimal, line, field_lines, listing_of}
 
--- there is room for xs from a place on
-abbrev pub Room : List ℕ → ℕ → List ℕ → Type 0
-Room out at xs = at + length xs ≤ length out
+-- there is room for xs behind the lines
+abbrev pub Room : ArrayString → List ℕ → Type 0
+Room lines xs = length lines.bytes + length xs ≤ 512
 
--- xs was put from a place on, and ends at e
-pub record Puts (before after : List ℕ) (at : ℕ) (xs : List ℕ) (e : ℕ) : Type 0 where
-  pub ends : e ≡ at + length xs
-  pub bytes : after ≡ sets before at xs
+-- xs was put behind the lines
+abbrev pub Puts : ArrayString → ArrayString → List ℕ → Type 0
+Puts before after xs = after.bytes ≡ before.bytes ++ xs
 
 -- the lines of the fields from place i on
 unfoldable pub value_lines : List ℕ → ℕ → List ℕ

@@ -1,131 +1,124 @@
 // The lister's lines: those of the present fields, of CK and of AC; or that of a refusal.
 #![tactic(auto)]
 
-ghost use Rattle.std.specs.Prelude.{◌≡◌, [], ◌∷◌, ◌++◌, ◌+◌, ◌≤◌, ◌<◌, length};
+ghost use Rattle.std.specs.Prelude.{◌≡◌, [], ◌∷◌, ◌++◌, ◌≤◌, ◌<◌, length};
 ghost use Rattle.format.specs.Field.{field_at, entry_of};
 ghost use Rattle.format.specs.Calls.{over};
 ghost use Rattle.format.specs.Flags.{all_yes};
 ghost use Rattle.format.specs.Report.{judge};
-ghost use Rattle.format.specs.Lister.{decimal, signed_decimal, line, field_line, listing_of, listing};
+ghost use Rattle.format.specs.Lister.{decimal, line, field_line, listing_of, listing};
 ghost use Rattle.lister_lines.specs.Lines.{Room, Puts, value_lines, lettered_lines, refusal_line};
 
+use arrayvec::ArrayString;
+use card::Field;
 use format::Coded;
-use report::Inspected;
+use itoa::{Buffer, Integer};
+use std::io;
 
-// Each function that puts writes from a place on, and gives the place behind what it wrote.
+// How many bytes of an input count.
+const COUNTING: usize = 1856;
 
-fn put_decimal(out: &mut [u8], at: usize, n: u64) -> usize
-    requires { Room out.old at (decimal n) }
-    ensures { Puts out.old out.new at (decimal n) result }
+// The lines that are put so far, which are ASCII.
+type Lines = ArrayString<512>;
+
+// A number and what stands behind it. `write!` promises the bytes that it writes of a `String` alone.
+fn put_number<I: Integer>(lines: &mut Lines, number: I, behind: &str)
+    requires { Room lines.old (I.text number ++ behind.now) }
+    ensures { Puts lines.old lines.new (I.text number ++ behind.now) }
 {
-    if n < 10 {
-        out[at] = (48 + n) as u8;
-        return at + 1;
+    lines.push_str(Buffer::new().format(number));
+    lines.push_str(behind);
+}
+
+// The line of a field by its coded number, none where it is missing.
+fn put_field(lines: &mut Lines, field: Field, code: Coded)
+    requires { Room lines.old (field_line field.number (entry_of (field_at field.number) code)) }
+    ensures { Puts lines.old lines.new (field_line field.number (entry_of (field_at field.number) code)) }
+{
+    if code.0 == 0 {
+        return;
     }
-    let e = put_decimal(out, at, n / 10);
-    out[e] = (48 + n % 10) as u8;
-    e + 1
+    put_number(lines, field.number, " ");
+    put_number(lines, field.scaled(code).0, "\n");
 }
 
-// A number and the byte that ends it.
-fn put_number(out: &mut [u8], at: usize, n: u64, end: u8) -> usize
-    requires { Room out.old at (decimal n ++ (end ∷ [])) }
-    ensures { Puts out.old out.new at (decimal n ++ (end ∷ [])) result }
+fn put_fields(lines: &mut Lines, buffer: &[u8])
+    requires { (38 ≤ length buffer.now) × Room lines.old (value_lines buffer.now 0) }
+    ensures { Puts lines.old lines.new (value_lines buffer.now 0) }
 {
-    let e = put_decimal(out, at, n);
-    out[e] = end;
-    e + 1
-}
-
-// A signed number and the end of the line.
-fn put_signed(out: &mut [u8], at: usize, v: i64) -> usize
-    requires { Room out.old at (signed_decimal v ++ (10 ∷ [])) }
-    ensures { Puts out.old out.new at (signed_decimal v ++ (10 ∷ [])) result }
-{
-    let n = numbers::unsigned_of(v);
-    if n < 9223372036854775808 {
-        return put_number(out, at, n, 10);
+    for number in 1..=46 {
+        let field = Field::at(number);
+        put_field(lines, field, field.code(buffer));
     }
-    out[at] = 45;
-    put_number(out, at + 1, 18446744073709551615 - n + 1, 10)
 }
 
-// The line of field k by its coded number, none where it is missing.
-fn put_field(out: &mut [u8], at: usize, k: usize, c: Coded) -> usize
-    requires { (1 ≤ k) × (k ≤ 46) × Room out.old at (field_line k (entry_of (field_at k) c)) }
-    ensures { Puts out.old out.new at (field_line k (entry_of (field_at k) c)) result }
+// The line of a letter and a number.
+fn put_lettered(lines: &mut Lines, letter: &str, number: u64)
+    requires { Room lines.old (line letter.now (decimal number)) }
+    ensures { Puts lines.old lines.new (line letter.now (decimal number)) }
 {
-    let x = c.0;
-    if x == 0 {
-        return at;
-    }
-    let e = put_number(out, at, k as u64, 32);
-    let v = card::scaled(k, c);
-    put_signed(out, e, v.0)
+    lines.push_str(letter);
+    lines.push_str(" ");
+    put_number(lines, number, "\n");
 }
 
-fn put_fields(s: &[u8], out: &mut [u8]) -> usize
-    requires { (38 ≤ length s.now) × Room out.old 0 (value_lines s.now 0) }
-    ensures { Puts out.old out.new 0 (value_lines s.now 0) result }
+fn put_observation(lines: &mut Lines, buffer: &[u8], checksum: u64, count: u64)
+    requires { (38 ≤ length buffer.now) × Room lines.old (value_lines buffer.now 0 ++ lettered_lines checksum count) }
+    ensures { Puts lines.old lines.new (value_lines buffer.now 0 ++ lettered_lines checksum count) }
 {
-    let mut at = 0;
-    let mut i = 0;
-    while i < 46 {
-        let k = i + 1;
-        let c = card::code(s, k);
-        at = put_field(out, at, k, c);
-        i = k;
-    }
-    at
+    put_fields(lines, buffer);
+    put_lettered(lines, "C", checksum);
+    put_lettered(lines, "A", count);
 }
 
-// A letter, a space, a number and the end of the line.
-fn put_lettered(out: &mut [u8], at: usize, letter: u8, n: u64) -> usize
-    requires { Room out.old at (line (letter ∷ []) (decimal n)) }
-    ensures { Puts out.old out.new at (line (letter ∷ []) (decimal n)) result }
+fn put_refusal(lines: &mut Lines, number: u8, place: usize)
+    requires { Room lines.old (refusal_line number place) }
+    ensures { Puts lines.old lines.new (refusal_line number place) }
 {
-    out[at] = letter;
-    out[at + 1] = 32;
-    put_number(out, at + 2, n, 10)
-}
-
-fn put_observation(s: &[u8], out: &mut [u8], ck: u64, ac: u64) -> usize
-    requires { (38 ≤ length s.now) × Room out.old 0 (value_lines s.now 0 ++ lettered_lines ck ac) }
-    ensures { Puts out.old out.new 0 (value_lines s.now 0 ++ lettered_lines ck ac) result }
-{
-    let f = put_fields(s, out);
-    let e = put_lettered(out, f, b'C', ck);
-    put_lettered(out, e, b'A', ac)
-}
-
-fn put_refusal(out: &mut [u8], number: u64, place: u64) -> usize
-    requires { Room out.old 0 (refusal_line number place) }
-    ensures { Puts out.old out.new 0 (refusal_line number place) result }
-{
-    out[0] = b'R';
-    out[1] = 32;
-    let e = put_number(out, 2, number, 32);
-    put_number(out, e, place, 10)
+    lines.push_str("R ");
+    put_number(lines, number, " ");
+    put_number(lines, place, "\n");
 }
 
 // The lines of a report, of which no flag is forbidden.
-fn list_all(s: &[u8], out: &mut [u8]) -> usize
-    requires { length out.old ≡ 512 }
-    ensures { (result ≡ length (listing_of (judge all_yes s.now))) × (out.new ≡ over (listing_of (judge all_yes s.now)) out.old) }
+fn lines_of(buffer: &[u8]) -> Lines
+    ensures { result.bytes ≡ listing_of (judge all_yes buffer.now) }
 {
-    let i = report::inspect(s, 0, flag_table::all_yes());
-    match i {
-        Inspected::Refused(n, p) => put_refusal(out, n as u64, p as u64),
-        Inspected::Fine(r) => put_observation(s, out, card::checksum(s), r.count as u64),
+    let mut lines = Lines::new();
+    match report::inspect(buffer, 0, flag_table::all_yes()) {
+        Ok(report) => {
+            let checksum = card::checksum(buffer);
+            put_observation(&mut lines, buffer, checksum, report.count as u64);
+        }
+        Err(refusal) => put_refusal(&mut lines, refusal.number(), refusal.place()),
     }
+    lines
 }
 
-// Writes the lines for an input to the front of out, and gives how many bytes they take.
-pub fn list(s: &[u8], out: &mut [u8; 512]) -> usize
-    ensures { (result ≡ length (listing s.now)) × (out.new ≡ over (listing s.now) out.old) }
+// The lines of an input, of which a longer one is cut.
+fn lines_of_input(input: &[u8]) -> Lines
+    ensures { result.bytes ≡ listing input.now }
 {
-    if 1856 < s.len() {
-        return list_all(&s[..1856], out);
+    if COUNTING < input.len() {
+        return lines_of(&input[..COUNTING]);
     }
-    list_all(s, out)
+    lines_of(input)
+}
+
+// Writes the lines for an input to the front of `out`, and gives how many bytes they take.
+pub fn list(input: &[u8], out: &mut [u8; 512]) -> usize
+    ensures { (result ≡ length (listing input.now)) × (out.new ≡ over (listing input.now) out.old) }
+{
+    let lines = lines_of_input(input);
+    out[..lines.len()].copy_from_slice(lines.as_bytes());
+    lines.len()
+}
+
+// Lists the report that standard input begins with to standard output.
+pub fn list_input(rt: &HostRuntime) -> io::Result<()> {
+    let mut input = [0u8; COUNTING];
+    let length = streams::read_full(&mut rt.stdin(), &mut input)?;
+    let mut out = [0u8; 512];
+    let listed = list(&input[..length], &mut out);
+    rt.write_all(&out[..listed])
 }

@@ -1,60 +1,82 @@
 -- What the definitions say of a call, said with its answer in numbers.
 -- Assumes nothing.
 use Prim.{Unit, tt}
-use Prim.Native.Nat.{ℕ, ◌<◌, ◌^◌}
+use Prim.Native.Nat.{ℕ, ◌+◌, ◌*◌, ◌≤◌, ◌<◌, ◌^◌}
 use native.Mathlib.Omega.{arith}
 use mathlib.Core.Path.{◌≡◌, refl, sym, ap, ap₂, subst, ◌∙◌}
 use mathlib.Core.Bool.{◌||◌}
 use mathlib.Core.List.{List, [], ◌∷◌, map}
 use mathlib.Core.Option.{Option, none, some}
-use lib.ListN.{length, set}
+use lib.ListN.{length}
 use lib.Dec.{ltb}
 use lib.IntN.{ℤ, pos}
-use mir.Syntax.{w64}
-use mir.Val.{SFits, to_z, of_z}
-use mir.ValLaws.{to_z-of_z, to_z_pos}
-use Rattle.numbers.specs.Words.{unsigned}
+use Rattle.std.specs.Prelude.{Result, Ok, Some, None}
+use Rattle.numbers.specs.Words.{signed, unsigned}
 use Rattle.format.specs.Bits.{Bytes}
 use Rattle.format.specs.Order.{Refusal, first}
 use Rattle.format.specs.Flags.{FlagTable}
 use Rattle.format.specs.Observation.{Observation}
-use Rattle.format.specs.Report.{Verdict, judge}
 use Rattle.format.specs.Calls as call
 use Rattle.format.specs.Calls.{Call, Given, accepted}
 use Rattle.format.specs.Buffer.{After, after, effect}
-use Rattle.format.specs.Reply.{refusal, answer_of}
-use Rattle.format.specs.declared.Reply.TheVariants.{Text}
-use Rattle.script.specs.Labels.{quantity_label, labels}
+use Rattle.format.specs.Reply.{answer_of, givens_of}
+use Rattle.format.specs.declared.Refusal as code
+use Rattle.format.specs.declared.Outcome.{Outcome}
+use Rattle.format.specs.declared.Outcome.TheVariants as outcome
+use Rattle.script.specs.Labels.{quantity_label, label_of, number_or_zero, labels, labelled_row}
+use Rattle.script.specs.declared.Labelled.{Labelled}
+use Rattle.script.proofs.Numbers.{signed-unsigned}
 use Rattle.format.specs.Whole.{Wrote, Unpacked, unpacked, pack_observation, pack_order, pack_gives, pack}
 use Rattle.format.specs.Costliest.{costliest_checks, costliest_refusal}
 use Rattle.laws.proofs.Sequences.{cond_case}
 use Rattle.laws.proofs.Report.{judged, size_range}
 use Rattle.laws.proofs.Whole.{judge-pack}
-use Rattle.laws.proofs.Bounds.{GivenFit, AnswerFits, effect_fits}
-use Rattle.report.specs.Answers.{judged_of}
-use Rattle.report.specs.declared.Judged.{Judged}
-use Rattle.report.specs.declared.Judged.TheVariants.{Refused, Accepted}
-use Rattle.unpack.specs.Answers.{contents_numbers}
-use Rattle.unpack.specs.declared.Contents.{Contents}
+use Rattle.laws.proofs.Bounds.{NumberFits, GivenFit, AnswerFits, effect_fits}
 use Rattle.pack.specs.Answers.{pack_answer}
-use Rattle.pack.specs.declared.Packed.{Packed}
 use Rattle.lmr5.specs.declared.Answer.{Answer}
-use Rattle.lmr5.specs.Numbered.{numbered, single, left, numbered_after, judging, numbered_wrote, Opened, opening, opened_by, numbered_unpacked, word}
+use Rattle.lmr5.specs.Numbered.{numbered, told, opening, numbered_unpacked, word}
 
--- a number that 64 bits hold is given as it is
-pub number-given : (label : ℕ) (z : ℤ) → SFits w64 z → single label (to_z w64 (of_z w64 z)) ≡ single label z
-number-given label z f = ap (single label) (to_z-of_z w64 z f)
+-- ---- a row of numbers with their labels, told
 
--- a count, and a flag's value
-pub count_given : (label n : ℕ) (r : Answer) → n < 2 ^ 63 → r ≡ single label (to_z w64 n) → r ≡ single label (pos n)
-count_given label n r f h = h ∙ ap (single label) (to_z_pos w64 n (omega arith))
+given_signed : (n : Option ℤ) → NumberFits n → signed (unsigned (number_or_zero n)) ≡ number_or_zero n
+unfolding signed unsigned
+given_signed none h = refl
+given_signed (some z) h = signed-unsigned z h
 
--- three
-pub three_given : (n k m : ℕ) → n < 2 ^ 63 → k < 2 ^ 63 → m < 2 ^ 63
-    → record { refusal = 0; given = 592387; place = 0; first = to_z w64 n; second = to_z w64 k; third = to_z w64 m } ≡ numbered (answer_of (Text n k m))
+nothing_signed : signed 0 ≡ pos 0
+unfolding signed
+nothing_signed = refl
+
+pub told_row : (gs : List Given) → length gs ≤ 3 → GivenFit gs → told (labelled_row 3 gs) ≡ numbered (accepted gs)
+unfolding labelled_row labels
+told_row [] l h = rw nothing_signed
+told_row (x ∷ []) l h = rw (nothing_signed, given_signed x.number h.0)
+told_row (x ∷ y ∷ []) l h = rw (nothing_signed, given_signed x.number h.0, given_signed y.number h.1.0)
+told_row (x ∷ y ∷ z ∷ []) l h =
+    let last : label_of z + 256 * 0 ≡ label_of z = omega arith in
+    rw (last, given_signed x.number h.0, given_signed y.number h.1.0, given_signed z.number h.1.1.0)
+told_row (x ∷ y ∷ z ∷ u ∷ gs) l h = absurd (omega arith)
+
+few : (o : Outcome) → length (givens_of o) ≤ 3
+few outcome.Nothing = omega arith
+few (outcome.Value (Some v)) = omega arith
+few (outcome.Value None) = omega arith
+few (outcome.Flag (Some v)) = omega arith
+few (outcome.Flag None) = omega arith
+few (outcome.Count n) = omega arith
+few (outcome.Nibbles n) = omega arith
+few (outcome.Text n k m) = omega arith
+
+pub told_outcome : (r : List Labelled) (o : Outcome) → r ≡ labelled_row 3 (givens_of o) → AnswerFits (answer_of (Ok o)) → told r ≡ numbered (answer_of (Ok o))
+told_outcome r o is h = ap told is ∙ told_row (givens_of o) (few o) h
+
+small_signed : (n : ℕ) → n < 2 ^ 63 → signed n ≡ pos n
+unfolding unsigned
+small_signed n h = signed-unsigned (pos n) h
+
+pub told_size : (n : ℕ) → n < 2 ^ 63 → told (record { label = 8; number = n } ∷ record { label = 0; number = 0 } ∷ record { label = 0; number = 0 } ∷ []) ≡ numbered (accepted (pack_gives n))
 unfolding labels quantity_label
-three_given n k m h g l =
-    rw (to_z_pos w64 n (omega arith), to_z_pos w64 k (omega arith), to_z_pos w64 m (omega arith))
+told_size n h = rw (nothing_signed, small_signed n h)
 
 -- ---- the numbers fit
 
@@ -77,8 +99,8 @@ packed_fits marks values word rptin ns out r h = go (first (pack_order marks (le
     go (some x) q = unfold pack in rw q tt
     go none q = let z = size_range marks s (judged marks _ s h (judge-pack marks values word rptin ns out r q)).good in unfold pack in rw q (omega arith, tt)
 
-pub pack_fits : (marks : FlagTable) (values : List ℤ) (word rptin : ℕ) (ns out o : List ℕ) (p : Packed) (n : ℕ)
-    → record { answer = pack_answer p; out = o } ≡ pack marks values word rptin ns out → p ≡ Packed.Written n → rptin < 2 ^ 16 → Bytes o → n < 2 ^ 63
+pub pack_fits : (marks : FlagTable) (values : List ℤ) (word rptin : ℕ) (ns out o : List ℕ) (p : Result ℕ code.Refusal) (n : ℕ)
+    → record { answer = pack_answer p; out = o } ≡ pack marks values word rptin ns out → p ≡ Ok n → rptin < 2 ^ 16 → Bytes o → n < 2 ^ 63
 pack_fits marks values word rptin ns out o p n e q r h =
     (subst SizeFits (sym (ap (λ (w : Wrote). w.answer) e) ∙ ap pack_answer q)
     (packed_fits marks values word rptin ns out r (subst Bytes (ap (λ (w : Wrote). w.out) e) h))).0
@@ -89,52 +111,8 @@ costliest_fits m text origins =
     cond_case (λ (o : Option Refusal). AnswerFits (call.done_by o)) (ltb 85 m) _ _ (λ _. omega arith)
     (λ _. cond_case (λ (o : Option Refusal). AnswerFits (call.done_by o)) (ltb (length text) m || ltb (length origins) m) _ _ (λ _. omega arith) (λ _. tt))
 
--- ---- each call
+-- ---- unpack
 
--- each of the twelve calls
-pub call_numbered : (a : call.Answer) (b : List ℕ) (o : List (List ℕ)) (w : After) (r : Answer) → after a b o ≡ w → r ≡ numbered a → left r b o ≡ numbered_after w
-call_numbered a b o w r h e = ap (λ (x : Answer). left x b o) e ∙ ap numbered_after h
-
--- judge
-abbrev pub judged_answer : Judged → call.Answer
-judged_answer (Refused n p) = refusal n p
-judged_answer (Accepted size) = accepted (pack_gives size)
-
-pub judge-numbered : (marks : FlagTable) (b : List ℕ) (j k : Judged) (r : Answer) → j ≡ judged_of (judge marks b) → j ≡ k → r ≡ numbered (judged_answer k) → r ≡ numbered (judging (judge marks b))
-judge-numbered marks b j k r h g e = e ∙ ap (λ (x : Judged). numbered (judged_answer x)) (sym g ∙ h) ∙ same (judge marks b)
-  where
-    same : (v : Verdict) → numbered (judged_answer (judged_of v)) ≡ numbered (judging v)
-    same (Verdict.refused r) = refl
-    same (Verdict.accepted s) = refl
-
--- fresh and pack
-pub wrote_numbered : (a : call.Answer) (o : List ℕ) (w : Wrote) (r : Answer) → record { answer = a; out = o } ≡ w → r ≡ numbered a
-    → record { answer = r; out = o } ≡ numbered_wrote w
-wrote_numbered a o w r h e = rw e (ap numbered_wrote h)
-
--- unpack
-pub unpack-numbered : (a : call.Answer) (vs : List ℤ) (ns before : List ℕ) (x : Opened) (u : Unpacked) → unpacked a vs ns ≡ u
-    → x ≡ opened_by a vs ns before
-    → x ≡ numbered_unpacked u before
-unpack-numbered a vs ns before x u h e = e ∙ ap (λ (v : Unpacked). numbered_unpacked v before) h
-
-pub unpack_refused : (n p : ℕ) (vs : List ℤ) (ns before : List ℕ) (r : Answer) → r ≡ numbered (refusal n p)
-    → record { answer = r; values = vs; tail = ns; contents = before } ≡ opened_by (refusal n p) vs ns before
-unpack_refused n p vs ns before r e = ap (λ (x : Answer). opening x vs ns before) e
-
-pub unpack-given : (gs : List Given) (vs : List ℤ) (ns before after : List ℕ) (r : Answer) → after ≡ map word gs → r ≡ numbered (accepted [])
-    → record { answer = r; values = vs; tail = ns; contents = after } ≡ opened_by (accepted gs) vs ns before
-unpack-given gs vs ns before after r h e = ap₂ (λ (x : Answer) (l : List ℕ). opening x vs ns l) e h
-
--- the six contents, stored one after the other
-pub six-set : (l : List ℕ) (c : Contents) → length l ≡ 6
-    → set (set (set (set (set (set l 0 c.word) 1 c.present) 2 c.rptin) 3 c.attachments) 4 c.bytes) 5 c.nibbles ≡ map word (contents_numbers c)
-unfolding unsigned
-six-set [] c h = absurd (omega arith)
-six-set (x ∷ []) c h = absurd (omega arith)
-six-set (x ∷ y ∷ []) c h = absurd (omega arith)
-six-set (x ∷ y ∷ z ∷ []) c h = absurd (omega arith)
-six-set (x ∷ y ∷ z ∷ u ∷ []) c h = absurd (omega arith)
-six-set (x ∷ y ∷ z ∷ u ∷ v ∷ []) c h = absurd (omega arith)
-six-set (x ∷ y ∷ z ∷ u ∷ v ∷ w ∷ []) c h = refl
-six-set (x ∷ y ∷ z ∷ u ∷ v ∷ w ∷ t ∷ l) c h = absurd (omega arith)
+pub unpack-given : (gs : List Given) (vs : List ℤ) (ns before after : List ℕ) (r : Answer) (u : Unpacked) → unpacked (accepted gs) vs ns ≡ u
+    → after ≡ map word gs → r ≡ numbered (accepted []) → opening r vs ns after ≡ numbered_unpacked u before
+unpack-given gs vs ns before after r u h g e = ap₂ (λ (x : Answer) (l : List ℕ). opening x vs ns l) e g ∙ ap (λ (v : Unpacked). numbered_unpacked v before) h

@@ -1,6 +1,6 @@
 -- The answers of the definitions as the numbers that a program in another language gets; include/lmr5.h describes them.
-use Rattle.std.specs.Prelude.{ℕ, zero, suc, List, [], ◌∷◌, map, ℤ, pos}
-use Rattle.numbers.specs.Words.{unsigned}
+use Rattle.std.specs.Prelude.{ℕ, zero, suc, ◌+◌, ◌*◌, List, [], ◌∷◌, get_or, map, ℤ, pos}
+use Rattle.numbers.specs.Words.{signed, unsigned}
 use Rattle.format.specs.Observation.{size}
 use Rattle.format.specs.Report.{Verdict}
 use Rattle.format.specs.Calls as call
@@ -8,6 +8,7 @@ use Rattle.format.specs.Calls.{Given, refused, accepted}
 use Rattle.format.specs.Buffer.{After}
 use Rattle.format.specs.Whole.{Wrote, Unpacked, pack_gives}
 use Rattle.script.specs.Labels.{number_or_zero, labels}
+use Rattle.script.specs.declared.Labelled.{Labelled}
 use Rattle.lmr5.specs.declared.Answer.{Answer}
 
 abbrev pub answer : ℕ → ℕ → ℕ → ℤ → ℤ → ℤ → Answer
@@ -25,9 +26,14 @@ abbrev pub numbered : call.Answer → Answer
 numbered (refused r) = answer r.number 0 r.place (pos 0) (pos 0) (pos 0)
 numbered (accepted gs) = answer 0 (labels gs) 0 (number_in gs 0) (number_in gs 1) (number_in gs 2)
 
--- an answer of one number, or of none where its label is 0
-abbrev pub single : ℕ → ℤ → Answer
-single label z = answer 0 label 0 z (pos 0) (pos 0)
+-- the same of a row of three numbers with their labels, as a log has them
+abbrev pub in_row : List Labelled → ℕ → Labelled
+in_row r i = get_or r i (record { label = 0; number = 0 })
+
+abbrev pub told : List Labelled → Answer
+told r =
+    answer 0 ((in_row r 0).label + 256 * ((in_row r 1).label + 256 * (in_row r 2).label)) 0
+    (signed (in_row r 0).number) (signed (in_row r 1).number) (signed (in_row r 2).number)
 
 -- ---- the twelve calls: the answer, the buffer and the outputs after one
 

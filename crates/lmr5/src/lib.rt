@@ -1,34 +1,32 @@
 // The calls for programs in C and other languages, over slices. Each is one call of the crates below; crate lmr5_c exports them.
 #![tactic(auto)]
 
-ghost use Rattle.std.specs.Prelude.{◌<◌, ◌^◌, ◌≡◌, [], ◌∷◌, map, length, pos};
+ghost use Rattle.std.specs.Prelude.{ℕ, ◌<◌, ◌^◌, ◌≡◌, [], ◌∷◌, Ok};
 ghost use Rattle.format.specs.Field.{scaled};
 ghost use Rattle.format.specs.Report.{judge};
 ghost use Rattle.format.specs.Calls as call;
 ghost use Rattle.format.specs.Buffer.{effect};
 ghost use Rattle.format.specs.Whole as spec;
-ghost use Rattle.format.specs.Reply.{refusal, answer_of};
+ghost use Rattle.format.specs.Reply.{refusal_of, answer_of};
 ghost use Rattle.format.specs.Flags.{all_yes};
 ghost use Rattle.format.specs.ShipText.{char_table};
 ghost use Rattle.format.specs.Loading.{load_answer, in_force};
 ghost use Rattle.format.specs.Finding.{find};
 ghost use Rattle.format.specs.Costliest.{costliest_refusal, CostliestLeaves};
 ghost use Rattle.laws.proofs.Bounds.{AnswerFits};
-ghost use Rattle.unpack.specs.Answers.{contents_numbers};
+ghost use Rattle.fresh.specs.Answers.{fresh_answer};
+ghost use Rattle.pack.specs.Answers.{pack_answer};
+ghost use Rattle.text_display.specs.Steps.{number_of, place_of, refusal_in};
 ghost use Rattle.characters.specs.Table.{ReadBack};
 ghost use Rattle.flag_table.specs.Claims.{AnyValue};
-ghost use Rattle.format.specs.declared.Reply.TheVariants.{Text};
 ghost use Rattle.script.specs.Script.{Performs};
-ghost use Rattle.lmr5.specs.Readers.{reader_of, ReaderOpened, Stepped};
-ghost use Rattle.lmr5.specs.Numbered.{numbered, single, left, numbered_after, judging, numbered_wrote, word, opening, numbered_unpacked};
+ghost use Rattle.lmr5.specs.Readers.{ReaderOpened, Stepped};
+ghost use Rattle.lmr5.specs.Numbered.{numbered, told, left, numbered_after, judging, numbered_wrote, opening, numbered_unpacked};
 
-use flag_table::Loading;
-use format::{FlagTable, Reply, Scaled};
-use fresh::Started;
-use pack::Packed;
-use report::Judged;
-use text_display::{Opening, Step};
-use unpack::{Contents, Unpacked};
+use format::{FlagTable, Refusal, Reply, Scaled};
+use script::{Label, Labelled, NONE};
+
+// `Answer`, `Performed` and `Symbol`, and the numbers of unpacked contents and of a reader, are the C interface (include/lmr5.h).
 
 // What a call answers: the refusal's number and place, both 0 where it is accepted; the labels of the numbers that it gives, the
 // first in the lowest byte, 0 where it gives none; and the numbers, 0 where one is missing or not given.
@@ -52,78 +50,68 @@ pub struct Performed {
     pub written: u64,
 }
 
-fn refused(n: u8, p: usize) -> Answer
-    ensures { result ≡ numbered (refusal n p) }
+fn refused(refusal: Refusal) -> Answer
+    ensures { result ≡ numbered (call.refused (refusal_of refusal)) }
 {
     Answer {
-        refusal: n as u32,
+        refusal: u32::from(refusal.number()),
         given: 0,
-        place: p as u64,
+        place: refusal.place() as u64,
         first: 0,
         second: 0,
         third: 0,
     }
 }
 
-// One number; none where its label is 0.
-fn given(label: u32, v: i64) -> Answer
-    ensures { result ≡ single label v }
+// A row of numbers with their labels.
+fn accepted(row: [Labelled; 3]) -> Answer
+    ensures { result ≡ told row }
 {
+    let [first, second, third] = row;
     Answer {
         refusal: 0,
-        given: label,
+        given: u32::from_le_bytes([first.label, second.label, third.label, 0]),
         place: 0,
-        first: v,
-        second: 0,
-        third: 0,
+        first: numbers::signed_of(first.number),
+        second: numbers::signed_of(second.number),
+        third: numbers::signed_of(third.number),
     }
 }
 
+#[tactic(auto, unfolding(script::specs::Labels::labels, numbers::specs::Words::signed))]
 fn done() -> Answer
     ensures { result ≡ numbered (call.accepted []) }
 {
-    given(0, 0)
+    accepted([NONE, NONE, NONE])
 }
 
-fn counted(label: u32, n: usize) -> Answer
-    requires { n < 2 ^ 63 }
-    ensures { result ≡ single label (pos n) }
+fn done_or(done_or_not: Result<(), Refusal>) -> Answer
+    ensures { result ≡ numbered (fresh_answer done_or_not) }
 {
-    given(label, n as i64)
-}
-
-// Three numbers.
-fn three(n: usize, set: u8, nibbles: u8) -> Answer
-    requires { n < 2 ^ 63 }
-    ensures { result ≡ numbered (answer_of (Text n set nibbles)) }
-{
-    Answer {
-        refusal: 0,
-        given: 592387,
-        place: 0,
-        first: n as i64,
-        second: set as i64,
-        third: nibbles as i64,
+    match done_or_not {
+        Err(refusal) => refused(refusal),
+        Ok(()) => done(),
     }
 }
 
-fn answer_of(r: Reply) -> Answer
-    requires { AnswerFits (answer_of r) }
-    ensures { result ≡ numbered (answer_of r) }
+// A size in bytes.
+fn sized(size: Result<usize, Refusal>) -> Answer
+    requires { (n : ℕ) → size ≡ Ok n → n < 2 ^ 63 }
+    ensures { result ≡ numbered (pack_answer size) }
 {
-    match r {
-        Reply::Refused(n, p) => refused(n, p),
-        Reply::Done => done(),
-        Reply::Value(v) => {
-            let z = v.0;
-            given(1, z)
-        }
-        Reply::MissingValue => given(129, 0),
-        Reply::Flag(v) => given(2, v as i64),
-        Reply::MissingFlag => given(130, 0),
-        Reply::Count(n) => counted(3, n),
-        Reply::Nibbles(n) => given(9, n as i64),
-        Reply::Text(n, set, nibbles) => three(n, set, nibbles),
+    match size {
+        Err(refusal) => refused(refusal),
+        Ok(size) => accepted([script::numbered(Label::Bytes, size as u64), NONE, NONE]),
+    }
+}
+
+fn answer_of(reply: Reply) -> Answer
+    requires { AnswerFits (answer_of reply) }
+    ensures { result ≡ numbered (answer_of reply) }
+{
+    match reply {
+        Err(refusal) => refused(refusal),
+        Ok(outcome) => accepted(script::given_by(outcome)),
     }
 }
 
@@ -139,11 +127,7 @@ pub fn lmr5_load_flags(marks: &[u8], table: &mut FlagTable) -> Answer
     ensures { (result ≡ numbered (load_answer marks.now)) × (table.new ≡ in_force table.old marks.now) }
 {
     *table = flag_table::load(marks, *table);
-    let l = flag_table::judge(marks);
-    match l {
-        Loading::Refused(n, p) => refused(n, p),
-        Loading::Loaded => done(),
-    }
+    done_or(flag_table::judge(marks))
 }
 
 // ---- whole reports
@@ -151,44 +135,24 @@ pub fn lmr5_load_flags(marks: &[u8], table: &mut FlagTable) -> Answer
 pub fn lmr5_judge(report: &[u8], table: &FlagTable) -> Answer
     ensures { result ≡ numbered (judging (judge table.now report.now)) }
 {
-    let j = report::judge(&*report, *table);
-    match j {
-        Judged::Refused(n, p) => refused(n, p),
-        Judged::Accepted(size) => counted(8, size),
-    }
+    sized(report::judge(&*report, *table))
 }
 
 pub fn lmr5_fresh(box10: i64, year: i64, month: i64, x: i64, y: i64, out: &mut [u8]) -> Answer
     ensures { record { answer = result; out = out.new } ≡ numbered_wrote (spec.fresh (scaled box10) (scaled year) (scaled month) (scaled x) (scaled y) out.old) }
 {
-    let f = fresh::fresh(
+    done_or(fresh::fresh(
         Scaled(box10),
         Scaled(year),
         Scaled(month),
         Scaled(x),
         Scaled(y),
         out,
-    );
-    match f {
-        Started::Refused(n, p) => refused(n, p),
-        Started::Written => done(),
-    }
+    ))
 }
 
-// Stores what unpacking gives beside the values and the tail: the presence word, fields present, RPTIN, AC, the size in
+// The contents are what unpacking gives beside the values and the tail: the presence word, fields present, RPTIN, AC, the size in
 // bytes, the tail in nibbles.
-fn store(c: Contents, contents: &mut [u64])
-    requires { length contents.old ≡ 6 }
-    ensures { contents.new ≡ map word (contents_numbers c) }
-{
-    contents[0] = c.word;
-    contents[1] = c.present as u64;
-    contents[2] = c.rptin as u64;
-    contents[3] = c.attachments as u64;
-    contents[4] = c.bytes as u64;
-    contents[5] = c.nibbles as u64;
-}
-
 pub fn lmr5_unpack(
     report: &[u8],
     values: &mut [i64],
@@ -199,11 +163,17 @@ pub fn lmr5_unpack(
     ensures { opening result values.new tail.new contents.new
         ≡ numbered_unpacked (spec.unpack table.now report.now values.old tail.old) contents.old }
 {
-    let u = unpack::unpack(&*report, values, tail, table);
-    match u {
-        Unpacked::Refused(n, p) => refused(n, p),
-        Unpacked::Given(c) => {
-            store(c, contents);
+    match unpack::unpack(&*report, values, tail, table) {
+        Err(refusal) => refused(refusal),
+        Ok(given) => {
+            *contents = [
+                given.word,
+                u64::from(given.present),
+                u64::from(given.rptin),
+                given.attachments as u64,
+                given.bytes as u64,
+                given.nibbles as u64,
+            ];
             done()
         }
     }
@@ -219,11 +189,7 @@ pub fn lmr5_pack(
 ) -> Answer
     ensures { record { answer = result; out = out.new } ≡ numbered_wrote (spec.pack table.now values.now word rptin tail.now out.old) }
 {
-    let p = pack::pack(values, word, rptin, tail, out, table);
-    match p {
-        Packed::Refused(n, k) => refused(n, k),
-        Packed::Written(size) => counted(8, size),
-    }
+    sized(pack::pack(values, word, rptin, tail, out, table))
 }
 
 // ---- fields and flags
@@ -332,57 +298,44 @@ pub struct Symbol {
     pub byte: u32,
 }
 
-// Stores the numbers of a reader that is opened.
-fn store_reader(reader: &mut [u64], o: Opening)
-    requires { length reader.old ≡ 5 }
-    ensures { reader.new ≡ reader_of o }
+// The number and the place of a refusal, 0 where there is none.
+fn refusal_numbers(refusal: Option<Refusal>) -> (u64, u64)
+    ensures { (result.0 ≡ number_of (refusal_in refusal)) × (result.1 ≡ place_of (refusal_in refusal)) }
 {
-    reader[0] = o.at as u64;
-    reader[1] = o.end as u64;
-    reader[2] = 0;
-    reader[3] = o.number as u64;
-    reader[4] = o.place as u64;
+    match refusal {
+        Some(refusal) => (u64::from(refusal.number()), refusal.place() as u64),
+        None => (0, 0),
+    }
 }
 
 pub fn lmr5_open_text(report: &[u8], reader: &mut [u64; 5], table: &FlagTable) -> Answer
     ensures { ReaderOpened table.now report.now reader.new result }
 {
-    let o = text_display::opened(report, table);
-    store_reader(reader, o);
-    if o.number == 0 {
-        return done();
+    let opening = text_display::opened(report, table);
+    let (number, place) = refusal_numbers(opening.refusal);
+    *reader = [opening.at as u64, opening.end as u64, 0, number, place];
+    match opening.refusal {
+        Some(refusal) => refused(refusal),
+        None => done(),
     }
-    refused(o.number, o.place)
 }
 
 // A step of a reader with these numbers, whatever they are, on any bytes.
-fn step(report: &[u8], reader: &mut [u64]) -> Symbol
-    requires { length reader.old ≡ 5 }
-    ensures { Stepped report.now reader.old reader.new result }
-{
-    let t = text_display::step_of(
-        report,
-        reader[0] as usize,
-        reader[1] as usize,
-        reader[2] as usize,
-    );
-    match t {
-        Step::End => Symbol { kind: 0, byte: 0 },
-        Step::Given(b, o, at, spaces) => {
-            reader[0] = at as u64;
-            reader[2] = spaces as u64;
-            Symbol {
-                kind: o as u32 + 1,
-                byte: b as u32,
-            }
-        }
-    }
-}
-
 pub fn lmr5_next_symbol(report: &[u8], reader: &mut [u64; 5]) -> Symbol
     ensures { Stepped report.now reader.old reader.new result }
 {
-    step(report, reader)
+    let [at, end, spaces, ..] = *reader;
+    match text_display::step_of(report, at as usize, end as usize, spaces as usize) {
+        None => Symbol { kind: 0, byte: 0 },
+        Some(step) => {
+            reader[0] = step.at as u64;
+            reader[2] = step.spaces as u64;
+            Symbol {
+                kind: u32::from(step.origin.mark()) + 1,
+                byte: u32::from(step.byte),
+            }
+        }
+    }
 }
 
 // ---- the table of the characters

@@ -4,23 +4,24 @@ use Prim.Native.Nat.{ℕ, ◌+◌, ◌-◌, ◌*◌, ◌/◌, ◌≤◌, ◌<◌
 use native.Mathlib.Nat.{add-zero}
 use native.Mathlib.Numerals.{add-one}
 use native.Mathlib.Omega.{arith}
-use mathlib.Core.Path.{◌≡◌, refl, sym, ap₂, ◌∙◌}
+use mathlib.Core.Path.{◌≡◌, refl, sym, ap, ◌∙◌}
 use mathlib.Core.Bool.{Bool, true, false, cond, ◌&&◌}
 use mathlib.Core.List.{List}
 use lib.ListN.{length, get_or, take, drop, length-drop, drop_of_length-le}
 use lib.Seq.{length-take-le, get_or-take, get_or-drop, take-take, drop-drop, drop-cons}
 use lib.Dec.{ltb, leb}
 use lib.Bits.{bit_or, or_lt, or_add_and, and_le_l, and_le_r}
-use borrow.Author.Tests.{le-leb, lt-leb, leb-true, leb-false, lt-ltb, le-ltb, ltb-true, ltb-false}
+use borrow.Author.Tests.{le-leb, leb-true, leb-false, lt-ltb}
+use Rattle.std.specs.Prelude.{Some, None}
+use Rattle.std.proofs.lemmas.Bool.Decides.{nat_tests}
 use Rattle.format.specs.Nibbles.{length_at, id_at, Nibbles}
 use Rattle.format.specs.Calls.{all_nibbles}
 use Rattle.laws.proofs.Bits.{drop_below}
-use Rattle.laws.proofs.Sequences.{and_right, and_assoc, test_case}
+use Rattle.laws.proofs.Sequences.{and_right, and_assoc}
 use Rattle.laws.proofs.Nibbles.{length-nibbles}
 use Rattle.nibble.specs.View.{view, from, part, moved, step_at, header_at}
 use Rattle.nibble.specs.declared.Cursor.{Cursor}
-use Rattle.nibble.specs.declared.Step.TheVariants.{Nibble}
-use Rattle.nibble.specs.declared.Header.TheVariants.{Head, Short}
+use Rattle.nibble.specs.declared.Header.{Header}
 
 -- a packed buffer has two nibbles a byte, each below 16
 pub packed_length : (b : List ℕ) → length (view true b) ≡ 2 * length b
@@ -28,10 +29,7 @@ packed_length b = length-nibbles b
 
 -- a place is inside a packed buffer where its byte is
 pub packed_inside : (b : List ℕ) (at : ℕ) → ltb (at / 2) (length b) ≡ ltb at (length (view true b))
-packed_inside b at =
-    test_case (ltb (at / 2) (length b))
-    (λ t. t ∙ sym (lt-ltb at (length (view true b)) (omega (arith, ltb-true (at / 2) (length b) t, packed_length b))))
-    (λ t. t ∙ sym (le-ltb at (length (view true b)) (omega (arith, ltb-false (at / 2) (length b) t, packed_length b))))
+packed_inside b at = grind (arith, nat_tests, packed_length b)
 
 module _ (b : List ℕ) (c : Cursor) where
   pub from-length : length (from b c) ≡ length (view c.packed b) - c.at
@@ -57,40 +55,46 @@ module _ (b : List ℕ) (c : Cursor) where
 
 -- what reading at a cursor answers
 module _ (b : List ℕ) (c k : Cursor) where
-  pub step_is : (v : ℕ) → c.at < length (view c.packed b) → v ≡ get_or (view c.packed b) c.at 0 → k ≡ moved c 1 → Nibble v k ≡ step_at b c
-  step_is v h e f = ap₂ Nibble e f ∙ simp (lt-ltb _ _ h)
+  pub step_is : (v : ℕ) → c.at < length (view c.packed b) → v ≡ get_or (view c.packed b) c.at 0 → k ≡ moved c 1 → Some (v, k) ≡ step_at b c
+  step_is v h e f = rw (lt-ltb _ _ h, e, f)
 
   pub header_is : (x y i : ℕ) → c.at + 2 < length (view c.packed b) → x ≡ get_or (view c.packed b) c.at 0 → y ≡ get_or (view c.packed b) (c.at + 1) 0
       → i ≡ get_or (view c.packed b) (c.at + 2) 0
       → k ≡ moved c 3
-      → Head (x * 16 + y) i k ≡ header_at b c
+      → Some (record { al = x * 16 + y; id = i; body = k }) ≡ header_at b c
   header_is x y i h ex ey ei ek =
       let g : c.at + 3 ≤ length (view c.packed b) = omega arith in
       rw (le-leb _ _ g, ex, ey, ei, ek, from_at b c 0, from_at b c 1, from_at b c 2, add-zero c.at)
 
 -- what a header that was read says
-pub record IsHead (b : List ℕ) (c : Cursor) (al id : ℕ) (body : Cursor) : Type 0 where
+pub record IsHead (b : List ℕ) (c : Cursor) (h : Header) : Type 0 where
   pub inside : c.at + 3 ≤ length (view c.packed b)
-  pub read : al ≡ length_at (from b c)
-  pub told : id ≡ id_at (from b c)
-  pub behind : body ≡ moved c 3
+  pub read : h.al ≡ length_at (from b c)
+  pub told : h.id ≡ id_at (from b c)
+  pub behind : h.body ≡ moved c 3
 
-cond_head : (t : Bool) (x x' y y' : ℕ) (k k' : Cursor) → cond t (Head x y k) Short ≡ Head x' y' k' → (t ≡ true) × (x' ≡ x) × (y' ≡ y) × (k' ≡ k)
-cond_head true x x' y y' k k' e = (refl, cc, cc, cc)
-cond_head false x x' y y' k k' e = let z : ◌≡◌ {A = ℕ} 0 1 = cc in absurd (omega arith)
+pub cond_some : {A : Type 0} (t : Bool) (x y : A) → cond t (Some x) None ≡ Some y → (t ≡ true) × (y ≡ x)
+cond_some true x y e = (refl, cc)
+cond_some false x y e = cc
 
-cond_short : (t : Bool) (x y : ℕ) (k : Cursor) → cond t (Head x y k) Short ≡ Short → t ≡ false
-cond_short true x y k e = let z : ◌≡◌ {A = ℕ} 0 1 = cc in absurd (omega arith)
-cond_short false x y k e = refl
+pub cond_none : {A : Type 0} (t : Bool) (x : A) → cond t (Some x) None ≡ None → t ≡ false
+cond_none true x e = cc
+cond_none false x e = refl
 
-pub is_head : (b : List ℕ) (c : Cursor) (al id : ℕ) (body : Cursor) → header_at b c ≡ Head al id body → IsHead b c al id body
-is_head b c al id body e =
-    let p = cond_head (leb (c.at + 3) (length (view c.packed b))) (length_at (from b c)) al (id_at (from b c)) id (moved c 3) body e in
-    record { inside = leb-true (c.at + 3) (length (view c.packed b)) p.0; read = p.1; told = p.2; behind = p.3 }
+pub is_head : (b : List ℕ) (c : Cursor) (h : Header) → header_at b c ≡ Some h → IsHead b c h
+is_head b c h e =
+    let p = cond_some (leb (c.at + 3) (length (view c.packed b))) (record { al = length_at (from b c); id = id_at (from b c); body = moved c 3 }) h e in
+    record {
+      inside = leb-true (c.at + 3) (length (view c.packed b)) p.0;
+      read = ap (λ (k : Header). k.al) p.1;
+      told = ap (λ (k : Header). k.id) p.1;
+      behind = ap (λ (k : Header). k.body) p.1;
+    }
 
-pub is_short : (b : List ℕ) (c : Cursor) → header_at b c ≡ Short → length (view c.packed b) < c.at + 3
+pub is_short : (b : List ℕ) (c : Cursor) → header_at b c ≡ None → length (view c.packed b) < c.at + 3
 is_short b c e =
-    leb-false (c.at + 3) (length (view c.packed b)) (cond_short (leb (c.at + 3) (length (view c.packed b))) (length_at (from b c)) (id_at (from b c)) (moved c 3) e)
+    leb-false (c.at + 3) (length (view c.packed b))
+    (cond_none (leb (c.at + 3) (length (view c.packed b))) (record { al = length_at (from b c); id = id_at (from b c); body = moved c 3 }) e)
 
 -- ---- bytes that are nibbles each, from place i on
 
@@ -99,12 +103,7 @@ or_above a b = (omega (arith, or_add_and a b, and_le_r a b), omega (arith, or_ad
 
 -- no bit above the low four in two numbers, or in either
 or_leb : (a b : ℕ) → leb (bit_or a b) 15 ≡ leb a 15 && leb b 15
-or_leb a b =
-    test_case (leb a 15)
-    (λ t. test_case (leb b 15)
-    (λ u. le-leb (bit_or a b) 15 (omega (arith, or_lt 4 a b (omega (arith, leb-true a 15 t)) (omega (arith, leb-true b 15 u)))) ∙ rw (t, u))
-    (λ u. lt-leb (bit_or a b) 15 (omega (arith, (or_above a b).1, leb-false b 15 u)) ∙ rw (t, u)))
-    (λ t. lt-leb (bit_or a b) 15 (omega (arith, (or_above a b).0, leb-false a 15 t)) ∙ rw t)
+or_leb a b = grind (arith, nat_tests, or_lt 4 a b, or_above a b)
 
 module _ (ns : List ℕ) (i bits : ℕ) where
   -- the bits so far, and those of the next

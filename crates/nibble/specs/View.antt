@@ -1,11 +1,8 @@
 -- The nibbles of a buffer, and what reading at a place finds.
-use Rattle.std.specs.Prelude.{ℕ, ◌+◌, Bool, true, false, cond, List, length, get_or, take, drop, ltb, leb}
+use Rattle.std.specs.Prelude.{ℕ, ◌+◌, Bool, true, false, cond, List, length, get_or, take, drop, ltb, leb, Option, Some, None}
 use Rattle.format.specs.Nibbles.{nibbles, length_at, id_at}
 use Rattle.nibble.specs.declared.Cursor.{Cursor}
-use Rattle.nibble.specs.declared.Step.{Step}
-use Rattle.nibble.specs.declared.Step.TheVariants.{Nibble, End}
 use Rattle.nibble.specs.declared.Header.{Header}
-use Rattle.nibble.specs.declared.Header.TheVariants.{Head, Short}
 
 -- a buffer's nibbles: two a byte where it is packed, else one a byte
 abbrev pub view : Bool → List ℕ → List ℕ
@@ -24,10 +21,11 @@ abbrev pub moved : Cursor → ℕ → Cursor
 moved c n = record { at = c.at + n; packed = c.packed }
 
 -- the nibble at a cursor and the cursor behind it, or the end
-abbrev pub step_at : List ℕ → Cursor → Step
-step_at b c = cond (ltb c.at (length (view c.packed b))) (Nibble (get_or (view c.packed b) c.at 0) (moved c 1)) End
+abbrev pub step_at : List ℕ → Cursor → Option (ℕ × Cursor)
+step_at b c = cond (ltb c.at (length (view c.packed b))) (Some (get_or (view c.packed b) c.at 0, moved c 1)) None
 
 -- AL, AID and the cursor at the data, or that three nibbles do not fit
-abbrev pub header_at : List ℕ → Cursor → Header
+abbrev pub header_at : List ℕ → Cursor → Option Header
 header_at b c =
-    cond (leb (c.at + 3) (length (view c.packed b))) (Head (length_at (from b c)) (id_at (from b c)) (moved c 3)) Short
+    cond (leb (c.at + 3) (length (view c.packed b)))
+    (Some (record { al = length_at (from b c); id = id_at (from b c); body = moved c 3 })) None

@@ -13,7 +13,7 @@ fn two(ns: &[u8], p: usize) -> u16
     requires { (p + 1 < length ns.now) × Nibbles ns.now }
     ensures { (result % 256 ≡ get_or ns.now p 0) × (result / 256 ≡ get_or ns.now (p + 1) 0) × (result % 256 < 16) × (result / 256 < 16) }
 {
-    ns[p] as u16 + ns[p + 1] as u16 * 256
+    u16::from_le_bytes([ns[p], ns[p + 1]])
 }
 
 // Lays n bytes of the nibbles of ns from j on.
@@ -22,11 +22,9 @@ fn lay_bytes(s: &mut [u8], at: usize, ns: &[u8], j: usize, n: usize)
     ensures { nibbles s.new ≡ paste (nibbles s.old) at (drop j ns.now) (2 * n) }
 {
     let i = at / 2;
-    let mut k = 0;
-    while k < n {
+    for k in 0..n {
         let x = two(ns, j + 2 * k);
         s[i + k] = (x % 256 * 16 + x / 256) as u8;
-        k += 1;
     }
 }
 
@@ -54,13 +52,11 @@ fn fetch_bytes(s: &[u8], at: usize, out: &mut [u8], j: usize, n: usize)
     ensures { out.new ≡ paste out.old j (drop at (nibbles s.now)) (2 * n) }
 {
     let i = at / 2;
-    let mut k = 0;
-    while k < n {
+    for k in 0..n {
         let x = s[i + k];
         let p = j + 2 * k;
         out[p] = x / 16;
         out[p + 1] = x % 16;
-        k += 1;
     }
 }
 

@@ -4,11 +4,11 @@ use Prim.Native.Nat.{ℕ, zero, suc, ◌+◌, ◌*◌, ◌/◌, ◌%◌, ◌<◌
 use native.Mathlib.Omega.{arith}
 use native.Mathlib.Numerals.{add-one}
 use mathlib.Core.Path.{◌≡◌, refl, sym, ap, ap₂, ◌∙◌}
-use mathlib.Core.List.{List, [], ◌∷◌}
-use lib.ListN.{length, get_or, drop, set}
+use mathlib.Core.List.{List, [], ◌∷◌, ◌++◌}
+use lib.ListN.{length, get_or, take, drop, set, replicate}
 use lib.Seq.{paste, set-get_or, get_or-set_other}
 use Rattle.format.specs.Nibbles.{nibbles}
-use Rattle.laws.proofs.Nibbles.{length-nibbles, get_d_high, get_d_low}
+use Rattle.laws.proofs.Nibbles.{length-nibbles, nibbles-append, nibbles-take, nibbles-drop, get_d_high, get_d_low}
 use Rattle.nibble_edit.proofs.Paste.{paste_two, laid_then}
 
 two_suc : (i : ℕ) → 2 * suc i ≡ suc (suc (2 * i))
@@ -37,6 +37,20 @@ byte_turn b₀ b src at j k v even same fits long high low given =
     byte_laid b src (at / 2 + k) v (j + 2 * k) (omega arith) long high low
     ∙ laid_then (nibbles b₀) (nibbles b) src at j (2 * k) 2 (2 * (k + 1)) (2 * (at / 2 + k)) (j + 2 * k)
     (omega arith) (omega arith) refl (omega (arith, length-nibbles b₀)) (omega arith) given
+
+-- a run of bytes replaced is a run of twice as many nibbles replaced
+nibbles-paste : (b : List ℕ) (i : ℕ) (x : List ℕ) (n : ℕ) → nibbles (paste b i x n) ≡ paste (nibbles b) (2 * i) (nibbles x) (2 * n)
+nibbles-paste b i x n =
+    let e : 2 * (i + n) ≡ 2 * i + 2 * n = omega arith in
+    simp (nibbles-append, nibbles-take, nibbles-drop) (ap (λ (k : ℕ). take (2 * i) (nibbles b) ++ take (2 * n) (nibbles x) ++ drop k (nibbles b)) e)
+
+nibbles-zeros : (n : ℕ) → nibbles (replicate n 0) ≡ replicate (2 * n) 0
+unfolding nibbles
+nibbles-zeros zero = refl
+nibbles-zeros (suc n) = rw (two_suc n, nibbles-zeros n)
+
+pub bytes_cleared : (b : List ℕ) (i at n : ℕ) → 2 * i ≡ at → nibbles (paste b i (replicate n 0) n) ≡ paste (nibbles b) at (replicate (2 * n) 0) (2 * n)
+bytes_cleared b i at n e = nibbles-paste b i (replicate n 0) n ∙ rw (e, nibbles-zeros n)
 
 -- a byte of which one half is new is one nibble stored
 module _ (b : List ℕ) (at v : ℕ) (small : v < 16) where

@@ -22,6 +22,7 @@ pub fn put(s: &mut [u8], at: usize, v: u8)
 // ---- shift
 
 // Makes byte t of the two nibbles that start in byte f, at its low half if odd is 1.
+#[tactic(auto, using(crate::proofs::Stores::byte_moved, crate::proofs::Stores::halves_moved))]
 fn pair(s: &mut [u8], f: usize, t: usize, odd: usize)
     requires { (odd ≤ 1) × (f + odd < length s.old) × (t < length s.old) }
     ensures { nibbles s.new ≡ paste (nibbles s.old) (2 * t) (drop (2 * f + odd) (nibbles s.old)) 2 }
@@ -43,14 +44,12 @@ fn pairs_down(s: &mut [u8], from: usize, to: usize, n: usize)
     let f = from / 2;
     let t = to / 2;
     let odd = from % 2;
-    let mut k = 0;
-    while k < n {
+    for k in 0..n {
         pair(s, f + k, t + k, odd);
-        k += 1;
     }
 }
 
-// Moves 2 n nibbles up, to a whole byte.
+// Moves 2 n nibbles up, to a whole byte. A function of its own: one loop for both ways would ask at each byte which way it goes.
 fn pairs_up(s: &mut [u8], from: usize, to: usize, n: usize)
     requires { (to % 2 ≡ 0) × (from ≤ to) × (to + 2 * n ≤ 2 * length s.old) }
     ensures { nibbles s.new ≡ paste (nibbles s.old) to (drop from (nibbles s.old)) (2 * n) }
@@ -58,14 +57,13 @@ fn pairs_up(s: &mut [u8], from: usize, to: usize, n: usize)
     let f = from / 2;
     let t = to / 2;
     let odd = from % 2;
-    let mut k = n;
-    while 0 < k {
-        k -= 1;
+    for k in (0..n).rev() {
         pair(s, f + k, t + k, odd);
     }
 }
 
 // Moves 2 n nibbles to a whole byte, either way.
+#[tactic(auto, using(crate::proofs::Paste::paste_self))]
 fn pairs(s: &mut [u8], from: usize, to: usize, n: usize)
     requires { (to % 2 ≡ 0) × (from + 2 * n ≤ 2 * length s.old) × (to + 2 * n ≤ 2 * length s.old) }
     ensures { nibbles s.new ≡ paste (nibbles s.old) to (drop from (nibbles s.old)) (2 * n) }
@@ -105,11 +103,7 @@ fn clear_bytes(s: &mut [u8], at: usize, n: usize)
     ensures { nibbles s.new ≡ paste (nibbles s.old) at (replicate {A = ℕ} (2 * n) 0) (2 * n) }
 {
     let i = at / 2;
-    let mut k = 0;
-    while k < n {
-        s[i + k] = 0;
-        k += 1;
-    }
+    s[i..i + n].fill(0);
 }
 
 // Clears count nibbles from a place on.

@@ -1,9 +1,8 @@
 -- The folding of a number is its remainder by 255.
 -- Assumes nothing.
-use Prim.Native.Nat.{ℕ, zero, suc, ◌+◌, ◌*◌, ◌/◌, ◌%◌, ◌≤◌, ◌<◌}
+use Prim.Native.Nat.{ℕ, zero, suc, ◌%◌, ◌≤◌, ◌<◌}
 use native.Mathlib.Omega.{arith}
-use native.Mathlib.Nat.{mod-add-div'}
-use mathlib.Core.Path.{◌≡◌, refl, ap, subst, ◌∙◌}
+use mathlib.Core.Path.{◌≡◌, refl, ◌∙◌}
 use mathlib.Core.Bool.{Bool, true, false, cond}
 use lib.Dec.{eqb, ltb}
 use borrow.Author.Tests.{ltb-true, ltb-false, eqb-true, eqb-false}
@@ -14,15 +13,9 @@ record Ends (n r : ℕ) : Type 0 where
   pub same : r % 255 ≡ n % 255
   pub most : r ≤ 255
 
--- folded at m, whose remainder by 255 is 1
-at_same : (m k n : ℕ) → m ≡ 255 * k + 1 → (n % m + n / m) % 255 ≡ n % 255
-at_same m k n e =
-    let f : n / m * m ≡ 255 * (n / m * k) + n / m = ap (λ (x : ℕ). n / m * x) e ∙ omega arith in
-    omega (arith, mod-add-div' n m, f)
-
-pub fold_same : (n : ℕ) → fold_once n % 255 ≡ n % 255
+fold_same : (n : ℕ) → fold_once n % 255 ≡ n % 255
 unfolding fold_once
-fold_same n = at_same 256 1 n refl
+fold_same n = omega arith
 
 fold_less : (n : ℕ) → 255 < n → fold_once n < n
 unfolding fold_once
@@ -50,39 +43,3 @@ counted n r false e f = let i = eqb-false r 255 e in omega (arith, f.same, f.mos
 pub folding_remainder : (n : ℕ) → folding n ≡ n % 255
 unfolding folding
 folding_remainder n = counted n (fold_while n n) (eqb (fold_while n n) 255) refl (while_ends n n (omega arith))
-
--- ---- in 64 bits
-
--- folded at 2^32
-pub half_same : (n : ℕ) → (n % 4294967296 + n / 4294967296) % 255 ≡ n % 255
-half_same n = at_same 4294967296 16843009 n refl
-
-pub half_most : (n : ℕ) → n < 18446744073709551616 → n % 4294967296 + n / 4294967296 ≤ 8589934590
-half_most n w = omega arith
-
--- folded at 2^16
-pub quarter_same : (n : ℕ) → (n % 65536 + n / 65536) % 255 ≡ n % 255
-quarter_same n = at_same 65536 257 n refl
-
-pub quarter_most : (n : ℕ) → n ≤ 8589934590 → n % 65536 + n / 65536 < 1048576
-quarter_most n w = omega arith
-
--- a bound after so many turns, for a number of 20 bits
-pub bound : ℕ → ℕ
-bound zero = 1048575
-bound (suc zero) = 4350
-bound (suc (suc t)) = 271
-
-pub bound_first : (n : ℕ) → n < 1048576 → n ≤ bound 0
-unfolding bound
-bound_first n h = omega arith
-
-pub bound_falls : (t n : ℕ) → t < 2 → n ≤ bound t → fold_once n ≤ bound (suc t)
-unfolding bound fold_once
-bound_falls zero n l h = omega arith
-bound_falls (suc zero) n l h = omega arith
-bound_falls (suc (suc t)) n l h = omega arith
-
-pub bound_last : (t n : ℕ) → t ≤ 2 → 2 ≤ t → n ≤ bound t → n ≤ 271
-unfolding bound
-bound_last t n h l r = let e : t ≡ 2 = omega arith in subst (λ (k : ℕ). n ≤ bound k) e r

@@ -1,3 +1,2 @@
-pub mod Complement
 pub mod Examples
 pub mod Folding

@@ -11,40 +11,32 @@ ghost use Rattle.numbers.specs.Words.{signed, unsigned};
 pub fn wide(x: u8) -> u64
     ensures { (result ≡ x) × (result < 256) }
 {
-    x as u64
+    u64::from(x)
 }
 
 // The larger of two numbers.
 pub fn larger(a: usize, b: usize) -> usize
     ensures { result ≡ max a b }
 {
-    if a < b {
-        return b;
-    }
-    a
+    a.max(b)
 }
 
 // The lesser.
 pub fn lesser(a: usize, b: usize) -> usize
     ensures { result ≡ min a b }
 {
-    if a < b {
-        return a;
-    }
-    b
+    a.min(b)
 }
 
 // Whether low ≤ x ≤ high.
 pub fn within(low: usize, high: usize, x: usize) -> bool
     ensures { result ≡ between low high x }
 {
-    if x < low {
-        return false;
-    }
-    x <= high
+    (low..=high).contains(&x)
 }
 
 // One turn of the folding.
+#[tactic(auto, unfolding(crate::specs::Folding::fold_once))]
 fn fold(n: u64) -> u64
     ensures { result ≡ fold_once n }
 {
@@ -52,16 +44,12 @@ fn fold(n: u64) -> u64
 }
 
 // The remainder by 255 of a number of 20 bits. Two turns leave at most 271, and from 255 on the folding takes 255 away.
+#[tactic(auto, unfolding(crate::specs::Folding::fold_once))]
 fn fold_short(n: u64) -> u64
     requires { n < 1048576 }
     ensures { (result ≡ n % 255) × (result < 255) }
 {
-    let mut x = n;
-    let mut turns = 0u64;
-    while turns < 2 {
-        x = fold(x);
-        turns += 1;
-    }
+    let x = fold(fold(n));
     if x < 255 {
         return x;
     }
@@ -69,6 +57,7 @@ fn fold_short(n: u64) -> u64
 }
 
 // The remainder by 255, by folding. 2^32 and 2^16 have the remainder 1 as 256 does, so a number may be folded there first.
+#[tactic(auto, using(crate::proofs::Folding::folding_remainder))]
 pub fn remainder(n: u64) -> u64
     ensures { (result ≡ n % 255) × (result < 255) × (result ≡ folding n) }
 {
@@ -77,6 +66,7 @@ pub fn remainder(n: u64) -> u64
 }
 
 // The same, quicker where the number has 20 bits, and as a byte.
+#[tactic(auto, using(crate::proofs::Folding::folding_remainder))]
 pub fn short_remainder(n: u64) -> u8
     ensures { (result ≡ n % 255) × (result < 255) × (result ≡ folding n) }
 {
@@ -86,20 +76,16 @@ pub fn short_remainder(n: u64) -> u8
     remainder(n) as u8
 }
 
+#[tactic(auto, unfolding(crate::specs::Words::signed))]
 pub fn signed_of(n: u64) -> i64
     ensures { result ≡ signed n }
 {
-    if n < 9223372036854775808 {
-        return n as i64;
-    }
-    -1 - (18446744073709551615 - n) as i64
+    n.cast_signed()
 }
 
+#[tactic(auto, unfolding(crate::specs::Words::unsigned))]
 pub fn unsigned_of(v: i64) -> u64
     ensures { result ≡ unsigned v }
 {
-    if 0 <= v {
-        return v as u64;
-    }
-    18446744073709551615 - (-1 - v) as u64
+    v.cast_unsigned()
 }

@@ -1,6 +1,6 @@
 -- The checks of pack: the fields from a place on, and the tail's bytes.
 -- Assumes nothing.
-use Prim.Native.Nat.{ℕ, zero, suc, ◌+◌, ◌≤◌, ◌<◌}
+use Prim.Native.Nat.{ℕ, zero, suc, ◌+◌, ◌-◌, ◌≤◌, ◌<◌}
 use native.Mathlib.Numerals.{add-one}
 use native.Mathlib.Omega.{arith}
 use mathlib.Core.Path.{◌≡◌, refl, sym, ap, ◌∙◌}
@@ -15,15 +15,12 @@ use Rattle.format.specs.Whole.{bit_at, pack_checks}
 use Rattle.laws.proofs.Fields.{no_field, table-length}
 use Rattle.card.specs.Runs.{sum_run}
 use Rattle.card.proofs.Entries.{field_is}
-use Rattle.card.proofs.Runs.{sum-zero}
-use Rattle.write_values.specs.Lent.{value_refusal, refusal_at}
+use Rattle.std.specs.Prelude.{Ok, Err}
+use Rattle.write_values.specs.Lent.{by_tests, given_check, check_at, fault_at}
+use Rattle.write_values.proofs.Tests.{each_passes}
 use Rattle.pack.specs.Steps.{checked_by, fields_checked}
-use Rattle.pack.specs.declared.Checked.{Checked}
 
 -- ---- the fields from place i on
-
-abbrev by_tests : Bool → Bool → ℕ
-by_tests s t = cond s 10 (cond t 9 0)
 
 abbrev pub left : List ℤ → ℕ → ℕ → Option Refusal
 left values word i = first (pack_checks (suc i) (drop i table) word (drop i values))
@@ -41,81 +38,84 @@ checks_at k (f ∷ fs) word [] i l m = absurd (omega arith)
 checks_at k (f ∷ fs) word (v ∷ vs) zero l m = refl
 checks_at k (f ∷ fs) word (v ∷ vs) (suc i) l m = checks_at k fs word vs i (omega arith) (omega arith)
 
-refused : (s t : Bool) (k : ℕ) (r : Option Refusal) → (by_tests s t ≡ 0 → ⊥) → turned s t k r ≡ some (record { number = by_tests s t; place = k })
-refused true t k r h = refl
-refused false true k r h = refl
-refused false false k r h = absurd (h refl)
+refused : (s t : Bool) (k : ℕ) (r : Option Refusal) (e : Refusal) → Err e ≡ by_tests s t k → turned s t k r ≡ some e
+refused true t k r e q = ap some (cc)
+refused false true k r e q = ap some (cc)
+refused false false k r e q = absurd (cc)
 
-passed : (s t : Bool) (k : ℕ) (r : Option Refusal) → by_tests s t ≡ 0 → turned s t k r ≡ r
-passed true t k r h = absurd (omega arith)
-passed false true k r h = absurd (omega arith)
-passed false false k r h = refl
+passed : (s t : Bool) (k : ℕ) (r : Option Refusal) → Ok tt ≡ by_tests s t k → turned s t k r ≡ r
+passed true t k r q = absurd (cc)
+passed false true k r q = absurd (cc)
+passed false false k r q = refl
 
--- n is the refusal of the field at place i
-module _ (values : List ℤ) (word i n : ℕ) (long : 46 ≤ length values) (h : i < 46) (e : n ≡ value_refusal (i + 1) word (get_or values i (pos 0))) where
+-- the field at place i
+module _ (values : List ℤ) (word i : ℕ) (long : 46 ≤ length values) (h : i < 46) where
   missing : Bool
   missing = required (suc i) && not (bit_at word (suc i))
 
   outside : Bool
   outside = bit_at word (suc i) && not (in_range (get_or table i no_field) (scaled (get_or values i (pos 0))))
 
-  turn_is : n ≡ by_tests missing outside
-  unfolding value_refusal missing outside
-  turn_is = e ∙ rw (field_is i, add-one i)
+  check_is : check_at values word i ≡ by_tests missing outside (suc i)
+  unfolding given_check missing outside
+  check_is = rw (field_is i, add-one i)
 
   left_step : left values word i ≡ turned missing outside (suc i) (left values word (suc i))
   unfolding missing outside
   left_step = checks_at (suc i) table word values i (rw table-length h) (omega arith)
 
-  -- it is the first
-  pub field_refused : (n ≡ 0 → ⊥) → left values word i ≡ left values word 0 → Checked.Refused n (i + 1) ≡ fields_checked values word
+  -- it is the first that is refused
+  pub field_refused : (r : Refusal) → Err r ≡ check_at values word i → left values word i ≡ left values word 0 → Err r ≡ fields_checked values word
   unfolding fields_checked
-  field_refused z all =
-      let f : left values word 0 ≡ some (record { number = n; place = suc i }) =
-      sym all ∙ left_step ∙ refused missing outside (suc i) (left values word (suc i)) (λ x. z (turn_is ∙ x))
-      ∙ ap (λ (m : ℕ). some (record { number = m; place = suc i })) (sym turn_is) in
-      rw add-one (sym (ap checked_by f))
+  field_refused r q all =
+      let f : left values word 0 ≡ some r = sym all ∙ left_step ∙ refused missing outside (suc i) (left values word (suc i)) r (q ∙ check_is) in
+      sym (ap checked_by f)
 
-  -- or there is none
-  pub field_passed : n ≡ 0 → left values word i ≡ left values word (suc i)
-  field_passed z = left_step ∙ passed missing outside (suc i) (left values word (suc i)) (sym turn_is ∙ z)
+  -- or it passes
+  pub field_passed : Ok tt ≡ check_at values word i → left values word i ≡ left values word (suc i)
+  field_passed q = left_step ∙ passed missing outside (suc i) (left values word (suc i)) (q ∙ check_is)
 
-pub fields_passed : (values : List ℤ) (word i : ℕ) → i ≡ 46 → left values word i ≡ left values word 0 → Checked.Passed ≡ fields_checked values word
+pub fields_passed : (values : List ℤ) (word i : ℕ) → i ≡ 46 → left values word i ≡ left values word 0 → Ok tt ≡ fields_checked values word
 unfolding fields_checked first pack_checks
 fields_passed values word i e all =
     let end : left values word 46 ≡ none =
     ap (λ (fs : List Field). first (pack_checks 47 fs word (drop 46 values))) (drop_of_length-le table {i = 46} (rw table-length (omega arith))) in
     ap checked_by (sym (sym all ∙ ap (left values word) e ∙ end))
 
--- no field is refused where the sum of refusals is 0
-module _ (values : List ℤ) (word : ℕ) (long : 46 ≤ length values) (e : sum_run (refusal_at values word) 0 46 ≡ 0) where
+-- the same of field k
+module _ (values : List ℤ) (word k : ℕ) (long : 46 ≤ length values) (l : 1 ≤ k) (h : k ≤ 46) where
+  pub turn_refused : (r : Refusal) → Err r ≡ check_at values word (k - 1) → left values word (k - 1) ≡ left values word 0 → Err r ≡ fields_checked values word
+  turn_refused r e = field_refused values word (k - 1) long (omega arith) r e
+
+  pub turn_passed : Ok tt ≡ check_at values word (k - 1) → left values word (k - 1) ≡ left values word 0 → left values word (k + 1 - 1) ≡ left values word 0
+  turn_passed e all =
+      let q : k + 1 - 1 ≡ suc (k - 1) = omega arith in
+      ap (left values word) q ∙ sym (field_passed values word (k - 1) long (omega arith) e) ∙ all
+
+-- no field is refused where all pass
+module _ (values : List ℤ) (word : ℕ) (long : 46 ≤ length values) (e : sum_run (fault_at values word) 0 46 ≡ 0) where
   all_pass : (i : ℕ) → i ≤ 46 → left values word i ≡ left values word 0
   all_pass zero h = refl
-  all_pass (suc i) h =
-      sym (field_passed values word i _ long h refl (sum-zero (refusal_at values word) 46 0 i e (omega arith) (omega arith)))
-      ∙ all_pass i (omega arith)
+  all_pass (suc i) h = sym (field_passed values word i long h (each_passes values word e i h)) ∙ all_pass i (omega arith)
 
-  pub none_refused : Checked.Passed ≡ fields_checked values word
+  pub none_refused : Ok tt ≡ fields_checked values word
   none_refused = fields_passed values word 46 refl (all_pass 46 (omega arith))
 
 -- what the answer says
 
-checked_refused : (o : Option Refusal) (n k : ℕ) → Checked.Refused n k ≡ checked_by o → o ≡ some (record { number = n; place = k })
-checked_refused none n k e = let z : ◌≡◌ {A = ℕ} 0 1 = cc in absurd (omega arith)
-checked_refused (some r) n k e =
-    let a : r.number ≡ n = cc in
-    let b : r.place ≡ k = cc in
-    λ i. some (record { number = a i; place = b i })
+checked_refused : (o : Option Refusal) (r : Refusal) → Err r ≡ checked_by o → o ≡ some r
+checked_refused none r e = absurd (cc)
+checked_refused (some x) r e = ap some (cc)
 
-checked_passed : (o : Option Refusal) → Checked.Passed ≡ checked_by o → o ≡ none
+checked_passed : (o : Option Refusal) → Ok tt ≡ checked_by o → o ≡ none
 checked_passed none e = refl
-checked_passed (some r) e = let z : ◌≡◌ {A = ℕ} 0 1 = cc in absurd (omega arith)
+checked_passed (some r) e = absurd (cc)
 
-module _ (values : List ℤ) (word : ℕ) (x : Checked) (is : x ≡ fields_checked values word) where
-  pub says_refused : (n k : ℕ) → x ≡ Checked.Refused n k → first (pack_checks 1 table word values) ≡ some (record { number = n; place = k })
+module _ (values : List ℤ) (word : ℕ) where
+  pub says_refused : (r : Refusal) → Err r ≡ fields_checked values word → first (pack_checks 1 table word values) ≡ some r
   unfolding fields_checked
-  says_refused n k e = checked_refused (first (pack_checks 1 table word values)) n k (sym e ∙ is)
+  says_refused r e = checked_refused (first (pack_checks 1 table word values)) r e
 
-  pub says_passed : x ≡ Checked.Passed → first (pack_checks 1 table word values) ≡ none
+  pub says_passed : Ok tt ≡ fields_checked values word → first (pack_checks 1 table word values) ≡ none
   unfolding fields_checked
-  says_passed e = checked_passed (first (pack_checks 1 table word values)) (sym e ∙ is)
+  says_passed e = checked_passed (first (pack_checks 1 table word values)) e

@@ -2,7 +2,7 @@
 -- Assumes nothing.
 use Prim.Native.Nat.{ℕ, suc, ◌+◌, ◌-◌, ◌*◌, ◌/◌, ◌%◌, ◌^◌, ◌≤◌, ◌<◌, max}
 use native.Mathlib.Omega.{arith}
-use mathlib.Core.Path.{◌≡◌, refl, sym, ap, ap₂, subst, ◌∙◌}
+use mathlib.Core.Path.{◌≡◌, refl, sym, ap, ap₂, ◌∙◌}
 use mathlib.Core.Bool.{Bool, true, false, cond, not}
 use mathlib.Core.List.{List, [], ◌∷◌, ◌++◌, append_assoc}
 use mathlib.Core.Option.{Option, none, some}
@@ -21,8 +21,8 @@ use Rattle.format.specs.Calls.{Answer, all_nibbles, over}
 use Rattle.format.specs.Buffer.{zeros}
 use Rattle.format.specs.Reply.{refusal}
 use Rattle.format.specs.Whole.{bit_outside, pack_checks, count_in, pack_observation, pack_order, pack_gives, pack}
-use Rattle.tail.specs.Walk.{counted_by, tail_counted}
-use Rattle.tail.specs.declared.Counted.{Counted}
+use Rattle.std.specs.Prelude.{Ok, Err}
+use Rattle.tail.specs.Walk.{walked_by, tail_counted}
 use Rattle.card.specs.Answers.{Carded}
 use Rattle.write_values.specs.Lent.{codes_given}
 use Rattle.laws.proofs.Order.{first_skip, first_fits, first-append_skip, first-append_some}
@@ -37,30 +37,37 @@ use Rattle.pack.specs.Steps.{FieldsPass, TailPasses}
 
 -- ---- what the walk over a tail says
 
--- an answer is the first refusal, or says that there is none and the count
-abbrev Said : Option Refusal → ℕ → Counted → Type 0
-Said o count (Counted.Refused n p) = o ≡ some (record { number = n; place = p })
-Said o count (Counted.Ended n) = (o ≡ none) × (n ≡ count)
+walked_refused : (o : Option Refusal) (n : ℕ) (r : Refusal) → Err r ≡ walked_by o n → o ≡ some r
+walked_refused none n r e = absurd (cc)
+walked_refused (some x) n r e = ap some (cc)
 
-said : (o : Option Refusal) (count : ℕ) → Said o count (counted_by o count)
-said none count = (refl, refl)
-said (some r) count = refl
+walked_passed : (o : Option Refusal) (n m : ℕ) → Ok m ≡ walked_by o n → (o ≡ none) × (m ≡ n)
+walked_passed none n m e = (refl, cc)
+walked_passed (some r) n m e = absurd (cc)
 
-pub says : (marks : FlagTable) (ns : List ℕ) (w v : Counted) → w ≡ tail_counted marks ns → w ≡ v → Said (first (attachment_checks marks (count_in ns) 1 [] ns)) (count_in ns) v
-unfolding tail_counted
-says marks ns w v is e =
-    let o = first (attachment_checks marks (count_in ns) 1 [] ns) in
-    subst (Said o (count_in ns)) (sym is ∙ e) (said o (count_in ns))
+module _ (marks : FlagTable) (ns : List ℕ) where
+  pub walk_refused : (r : Refusal) → Err r ≡ tail_counted marks ns → first (attachment_checks marks (count_in ns) 1 [] ns) ≡ some r
+  unfolding tail_counted
+  walk_refused r e = walked_refused (first (attachment_checks marks (count_in ns) 1 [] ns)) (count_in ns) r e
+
+  pub walk_passed : (n : ℕ) → Ok n ≡ tail_counted marks ns → (first (attachment_checks marks (count_in ns) 1 [] ns) ≡ none) × (n ≡ count_in ns)
+  unfolding tail_counted
+  walk_passed n e = walked_passed (first (attachment_checks marks (count_in ns) 1 [] ns)) (count_in ns) n e
+
+-- ---- the fields
+
+pub fields_pass : {values : List ℤ} {word : ℕ} → 46 ≤ length values → bit_outside word ≡ false → first (pack_checks 1 table word values) ≡ none → FieldsPass values word
+fields_pass long inside fields = record { long = long; inside = inside; fields = fields }
 
 -- ---- the presence word
 
 pub bit_low : (word : ℕ) → word % 2 ≡ 1 → bit_outside word ≡ true
 bit_low word h = let z : word / 2 ^ 0 % 2 ≡ 1 = omega arith in rw (eq-eqb (word / 2 ^ 0 % 2) 1 z)
 
-pub bit_high : (word : ℕ) → (word % 2 ≡ 1 → ⊥) → (word / 140737488355328 ≡ 0 → ⊥) → bit_outside word ≡ true
+pub bit_high : (word : ℕ) → (word % 2 ≡ 1 → ⊥) → (word / 2 ^ 47 ≡ 0 → ⊥) → bit_outside word ≡ true
 bit_high word l h = let z : word / 2 ^ 0 % 2 ≡ 1 → ⊥ = λ e. l (omega arith) in rw (ne_eqb (word / 2 ^ 0 % 2) 1 z, ne_eqb (word / 2 ^ 47) 0 h)
 
-pub bits_inside : (word : ℕ) → (word % 2 ≡ 1 → ⊥) → word / 140737488355328 ≡ 0 → bit_outside word ≡ false
+pub bits_inside : (word : ℕ) → (word % 2 ≡ 1 → ⊥) → word / 2 ^ 47 ≡ 0 → bit_outside word ≡ false
 bits_inside word l h = let z : word / 2 ^ 0 % 2 ≡ 1 → ⊥ = λ e. l (omega arith) in rw (ne_eqb (word / 2 ^ 0 % 2) 1 z, eq-eqb (word / 2 ^ 47) 0 h)
 
 -- ---- the nibbles behind the card
@@ -99,23 +106,25 @@ laid-behind x ns n m en em h = go (odd n) refl
 -- ---- the outcomes
 
 module _ (marks : FlagTable) (values : List ℤ) (word rptin : ℕ) (ns out : List ℕ) where
-  refused : (n p : ℕ) → first (pack_order marks (length out) values word rptin ns) ≡ some (record { number = n; place = p })
-      → record { answer = refusal n p; out = out } ≡ pack marks values word rptin ns out
-  refused n p e = pack_outcome marks values word rptin ns out (some (record { number = n; place = p })) e
+  refused : (r : Refusal) → first (pack_order marks (length out) values word rptin ns) ≡ some r → record { answer = Answer.refused r; out = out } ≡ pack marks values word rptin ns out
+  refused r e = pack_outcome marks values word rptin ns out (some r) e
+
+  no_room : first (pack_order marks (length out) values word rptin ns) ≡ some (record { number = 13; place = 0 }) → record { answer = refusal 13 0; out = out } ≡ pack marks values word rptin ns out
+  no_room e = refused (record { number = 13; place = 0 }) e
 
   pub short_values : length values < 46 → record { answer = refusal 13 0; out = out } ≡ pack marks values word rptin ns out
   unfolding pack_order
-  short_values h = refused 13 0 (first_fits _ _ (lt-ltb (length values) 46 h))
+  short_values h = no_room (first_fits _ _ (lt-ltb (length values) 46 h))
 
   module _ (long : 46 ≤ length values) where
     pub word_refused : bit_outside word ≡ true → record { answer = refusal 8 0; out = out } ≡ pack marks values word rptin ns out
     unfolding pack_order
-    word_refused e = refused 8 0 (first_skip _ _ (le-ltb (length values) 46 long) ∙ first_fits _ _ e)
+    word_refused e = refused (record { number = 8; place = 0 }) (first_skip _ _ (le-ltb (length values) 46 long) ∙ first_fits _ _ e)
 
-    pub field_refused : (n k : ℕ) → bit_outside word ≡ false → first (pack_checks 1 table word values) ≡ some (record { number = n; place = k })
-        → record { answer = refusal n k; out = out } ≡ pack marks values word rptin ns out
+    pub field_refused : (r : Refusal) → bit_outside word ≡ false → first (pack_checks 1 table word values) ≡ some r
+        → record { answer = Answer.refused r; out = out } ≡ pack marks values word rptin ns out
     unfolding pack_order
-    field_refused n k i e = refused n k (first_skip _ _ (le-ltb (length values) 46 long) ∙ first_skip _ _ i ∙ first-append_some _ _ (record { number = n; place = k }) e)
+    field_refused r i e = refused r (first_skip _ _ (le-ltb (length values) 46 long) ∙ first_skip _ _ i ∙ first-append_some _ _ r e)
 
   module _ (p : FieldsPass values word) where
     behind_fields : (o : Option Refusal)
@@ -125,11 +134,11 @@ module _ (marks : FlagTable) (values : List ℤ) (word rptin : ℕ) (ns out : Li
     behind_fields o e = first_skip _ _ (le-ltb (length values) 46 p.long) ∙ first_skip _ _ p.inside ∙ first-append_skip _ _ p.fields ∙ e
 
     pub bytes_refused : false ≡ all_nibbles ns → record { answer = refusal 14 0; out = out } ≡ pack marks values word rptin ns out
-    bytes_refused e = refused 14 0 (behind_fields _ (first_fits _ _ (ap not (sym e))))
+    bytes_refused e = refused (record { number = 14; place = 0 }) (behind_fields _ (first_fits _ _ (ap not (sym e))))
 
-    pub tail_refused : (n k : ℕ) → all_nibbles ns ≡ true → first (attachment_checks marks (count_in ns) 1 [] ns) ≡ some (record { number = n; place = k })
-        → record { answer = refusal n k; out = out } ≡ pack marks values word rptin ns out
-    tail_refused n k a e = refused n k (behind_fields _ (first_skip _ _ (ap not a) ∙ first-append_some _ _ (record { number = n; place = k }) e))
+    pub tail_refused : (r : Refusal) → true ≡ all_nibbles ns → first (attachment_checks marks (count_in ns) 1 [] ns) ≡ some r
+        → record { answer = Answer.refused r; out = out } ≡ pack marks values word rptin ns out
+    tail_refused r a e = refused r (behind_fields _ (first_skip _ _ (ap not (sym a)) ∙ first-append_some _ _ r e))
 
   module _ (p : TailPasses marks values word ns) where
     checked : walks.Walked marks (count_in ns) [] ns
@@ -149,7 +158,7 @@ module _ (marks : FlagTable) (values : List ℤ) (word rptin : ℕ) (ns out : Li
 
     pub short_out : length out < (75 + length ns) / 2 + (75 + length ns) % 2 → record { answer = refusal 13 0; out = out } ≡ pack marks values word rptin ns out
     short_out h =
-        refused 13 0
+        no_room
         (behind_fields p.passed _
         (first_skip _ _ (ap not p.nibbles) ∙ first-append_skip _ _ p.attachments ∙ first_fits _ _ (lt-ltb (length out) (size (pack_observation values word rptin ns)) (omega (arith, size_of)))))
 

@@ -1,10 +1,10 @@
--- FORMAT 7.4, the answers of pack: a refusal's number and place, or what is given, for each case.
-use Rattle.format.specs.Calls.{Answer, accepted}
-use Rattle.format.specs.Reply.{refusal}
+-- FORMAT 7.4, the answers of pack: a refusal's number and place, or the report's size.
+use Rattle.std.specs.Prelude.{ℕ, Result, Ok, Err}
+use Rattle.format.specs.Calls.{Answer, refused, accepted}
+use Rattle.format.specs.Reply.{refusal_of}
 use Rattle.format.specs.Whole.{pack_gives}
-use Rattle.pack.specs.declared.Packed.{Packed}
-use Rattle.pack.specs.declared.Packed.TheVariants.{Refused, Written}
+use Rattle.format.specs.declared.Refusal.{Refusal}
 
-abbrev pub pack_answer : Packed → Answer
-pack_answer (Refused n p) = refusal n p
-pack_answer (Written size) = accepted (pack_gives size)
+abbrev pub pack_answer : Result ℕ Refusal → Answer
+pack_answer (Err e) = refused (refusal_of e)
+pack_answer (Ok size) = accepted (pack_gives size)

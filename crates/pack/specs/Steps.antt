@@ -1,5 +1,5 @@
 -- What the parts of pack know and answer.
-use Rattle.std.specs.Prelude.{ℕ, ◌≤◌, ◌≡◌, true, false, List, [], length, ℤ}
+use Rattle.std.specs.Prelude.{ℕ, ◌≤◌, ◌≡◌, true, false, List, [], length, ℤ, Result, Ok, Err}
 use Rattle.std.proofs.Math.Option.{Option, none, some}
 use Rattle.format.specs.Order.{Refusal, first}
 use Rattle.format.specs.Field.{table}
@@ -7,15 +7,13 @@ use Rattle.format.specs.Flags.{FlagTable}
 use Rattle.format.specs.Report.{attachment_checks}
 use Rattle.format.specs.Calls.{all_nibbles}
 use Rattle.format.specs.Whole.{bit_outside, pack_checks, count_in, Wrote, pack}
-use Rattle.pack.specs.declared.Checked.{Checked}
-use Rattle.pack.specs.declared.Checked.TheVariants.{Refused, Passed}
 
 -- the first refusal of a field, or that there is none
-abbrev pub checked_by : Option Refusal → Checked
-checked_by (some r) = Refused r.number r.place
-checked_by none = Passed
+abbrev pub checked_by : Option Refusal → Result Unit Refusal
+checked_by (some r) = Err r
+checked_by none = Ok tt
 
-unfoldable pub fields_checked : List ℤ → ℕ → Checked
+unfoldable pub fields_checked : List ℤ → ℕ → Result Unit Refusal
 fields_checked values word = checked_by (first (pack_checks 1 table word values))
 
 -- the values and the word have passed

@@ -1,110 +1,90 @@
 // Packs values and a tail to a report.
 #![tactic(auto)]
 
-ghost use Rattle.std.specs.Prelude.{◌≡◌, cond, ◌*◌, ◌≤◌, ◌^◌, length, set};
+ghost use Rattle.std.specs.Prelude.{◌≡◌, false, cond, ◌*◌, ◌≤◌, ◌^◌, length, set};
 ghost use Rattle.format.specs.Nibbles.{nibbles, odd};
-ghost use Rattle.format.specs.Whole.{count_in};
+ghost use Rattle.format.specs.Reply.{by_number};
+ghost use Rattle.format.specs.Whole.{bit_outside, count_in};
 ghost use Rattle.format.specs.Whole as spec;
 ghost use Rattle.pack.specs.Answers.{pack_answer};
-ghost use Rattle.pack.specs.Steps.{fields_checked, FieldsPass, TailPassesBySome, Packs};
+ghost use Rattle.pack.specs.Steps.{fields_checked, TailPassesBySome, Packs};
 
-use format::FlagTable;
-use tail::Counted;
+use card::Field;
+use format::{FlagTable, Refusal};
+use write_values::{Lent, Passed};
 
-#[derive(Clone, Copy)]
-pub enum Packed {
-    // The refusal's number and place.
-    Refused(u8, usize),
-    // The report's size in bytes.
-    Written(usize),
-}
+// The nibbles of the card: the tail is laid behind them.
+const CARD: usize = 75;
 
-// What checking the fields to be packed answers: the first refusal's number and field, or that there is none.
-#[derive(Clone, Copy)]
-enum Checked {
-    Refused(u8, usize),
-    Passed,
-}
+// The bits of a presence word: bit k is field k, and bit 0 is none.
+const BITS: u32 = 47;
 
 // Checks field after field.
-fn walk_fields(values: &[i64], word: u64) -> Checked
-    requires { 46 ≤ length values.now }
-    ensures { result ≡ fields_checked values.now word }
+fn walk_fields(lent: Lent) -> Result<(), Refusal>
+    ensures { by_number result ≡ fields_checked lent.entry.values.now lent.entry.word }
 {
-    let mut i = 0;
-    while i < 46 {
-        let k = i + 1;
-        let n = write_values::refusal(k, card::row(k), word, values[i]);
-        if n != 0 {
-            return Checked::Refused(n, k);
-        }
-        i = k;
+    for number in 1..=46 {
+        lent.refusal(Field::at(number))?;
     }
-    Checked::Passed
+    Ok(())
 }
 
 // Checks the fields in ascending order: straight lines tell whether any is refused, and a walk then finds the first.
-fn check_fields(values: &[i64], word: u64) -> Checked
-    requires { 46 ≤ length values.now }
-    ensures { result ≡ fields_checked values.now word }
+fn check_fields(lent: Lent) -> Result<(), Refusal>
+    ensures { by_number result ≡ fields_checked lent.entry.values.now lent.entry.word }
 {
-    if write_values::refusals(values, word) == 0 {
-        return Checked::Passed;
+    if lent.all_pass() {
+        return Ok(());
     }
-    walk_fields(values, word)
+    walk_fields(lent)
 }
 
 // Clears the nibble at a place, if the place is odd.
-fn pad(s: &mut [u8], at: usize)
-    requires { (at ≤ 2 * length s.old) × (at ≤ 2 ^ 32) }
-    ensures { (nibbles s.new ≡ cond (odd at) (set (nibbles s.old) at 0) (nibbles s.old)) × (length s.new ≡ length s.old) }
+fn pad(buffer: &mut [u8], at: usize)
+    requires { (at ≤ 2 * length buffer.old) × (at ≤ 2 ^ 32) }
+    ensures { (nibbles buffer.new ≡ cond (odd at) (set (nibbles buffer.old) at 0) (nibbles buffer.old)) × (length buffer.new ≡ length buffer.old) }
 {
     if at % 2 == 1 {
-        nibble_edit::put(s, at, 0);
-        return;
+        nibble_edit::put(buffer, at, 0);
     }
 }
 
-// Writes the report of what has passed, if the output is long enough.
-fn write(values: &[i64], word: u64, rptin: u16, tail: &[u8], count: usize, out: &mut [u8]) -> Packed
-    requires { TailPassesBySome values.now word tail.now × (count ≡ count_in tail.now) }
-    ensures { Packs values.now word rptin tail.now out.old (record { answer = pack_answer result; out = out.new }) }
-{
-    let n = 75 + tail.len();
-    let size = n / 2 + n % 2;
-    if out.len() < size {
-        return Packed::Refused(13, 0);
-    }
-    nibble_copy::lay(out, 75, tail);
-    pad(out, n);
-    write_values::write(out, rptin, values, word, count);
-    Packed::Written(size)
-}
-
-// Checks the tail, and writes the report.
-fn pack_tail(
-    values: &[i64],
-    word: u64,
+// What is packed.
+#[derive(Clone, Copy)]
+struct Given<'v, 't> {
+    passed: Passed<'v>,
     rptin: u16,
-    tail: &[u8],
-    out: &mut [u8],
-    marks: &FlagTable,
-) -> Packed
-    requires { FieldsPass values.now word }
-    ensures { record { answer = pack_answer result; out = out.new } ≡ spec.pack marks.now values.now word rptin tail.now out.old }
-{
-    if nibble::all_nibbles(tail) {
-        let w = tail::walk_tail(tail, marks);
-        match w {
-            Counted::Refused(n, p) => {
-                return Packed::Refused(n, p);
-            }
-            Counted::Ended(count) => {
-                return write(values, word, rptin, tail, count, out);
-            }
+    tail: &'t [u8],
+    ghost inside: { bit_outside passed.lent.word ≡ false },
+}
+
+impl Given<'_, '_> {
+    // Writes the report of what has passed, if the output is long enough.
+    fn write(self, count: usize, out: &mut [u8]) -> Result<usize, Refusal>
+        requires { TailPassesBySome self.passed.lent.values.now self.passed.lent.word self.tail.now × (count ≡ count_in self.tail.now) }
+        ensures { Packs self.entry.passed.lent.values.now self.entry.passed.lent.word self.entry.rptin self.entry.tail.now out.old (record { answer = pack_answer result; out = out.new }) }
+    {
+        let end = CARD + self.tail.len();
+        let size = end / 2 + end % 2;
+        if out.len() < size {
+            return Err(Refusal::Room);
         }
+        nibble_copy::lay(out, CARD, self.tail);
+        pad(out, end);
+        self.passed.write(out, self.rptin, count);
+        Ok(size)
     }
-    Packed::Refused(14, 0)
+
+    // Checks the tail, and writes the report.
+    fn pack(self, out: &mut [u8], table: &FlagTable) -> Result<usize, Refusal>
+        ensures { record { answer = pack_answer result; out = out.new } ≡ spec.pack table.now self.entry.passed.lent.values.now self.entry.passed.lent.word self.entry.rptin self.entry.tail.now out.old }
+    {
+        if !nibble::all_nibbles(self.tail) {
+            return Err(Refusal::Content);
+        }
+        let count = tail::walk_tail(self.tail, table)?;
+        self.write(count, out)
+    }
 }
 
 // The report of the values whose bits are set in word, of rptin and of a tail, to the front of out.
@@ -114,22 +94,22 @@ pub fn pack(
     rptin: u16,
     tail: &[u8],
     out: &mut [u8],
-    marks: &FlagTable,
-) -> Packed
-    ensures { record { answer = pack_answer result; out = out.new } ≡ spec.pack marks.now values.now word rptin tail.now out.old }
+    table: &FlagTable,
+) -> Result<usize, Refusal>
+    ensures { record { answer = pack_answer result; out = out.new } ≡ spec.pack table.now values.now word rptin tail.now out.old }
 {
     if values.len() < 46 {
-        return Packed::Refused(13, 0);
+        return Err(Refusal::Room);
     }
-    if word % 2 == 1 {
-        return Packed::Refused(8, 0);
+    if word % 2 == 1 || word >> BITS != 0 {
+        return Err(Refusal::Number);
     }
-    if word / 140737488355328 != 0 {
-        return Packed::Refused(8, 0);
-    }
-    let f = check_fields(values, word);
-    match f {
-        Checked::Refused(n, k) => Packed::Refused(n, k),
-        Checked::Passed => pack_tail(values, word, rptin, tail, out, marks),
-    }
+    let lent = Lent { values, word };
+    check_fields(lent)?;
+    let given = Given {
+        passed: Passed { lent },
+        rptin,
+        tail,
+    };
+    given.pack(out, table)
 }

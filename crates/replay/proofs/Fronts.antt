@@ -25,7 +25,10 @@ use Rattle.laws.proofs.Bounds.{content_low}
 use Rattle.laws.proofs.ShipText.{read_text_length}
 use Rattle.laws.proofs.Report.{judged}
 use Rattle.script.proofs.Log.{Alike, effect_outs}
-use Rattle.replay.specs.Counts.{fronted}
+
+-- an output that was lent, with its front taken from another: at most 2295 bytes, since no text has more symbols
+abbrev pub fronted : List ℕ → List ℕ → List ℕ
+fronted lent most = let k = min (length lent) 2295 in take k most ++ drop k lent
 
 -- the second output with v behind it
 abbrev longer : List ℕ → List (List ℕ) → List (List ℕ)

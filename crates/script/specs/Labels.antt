@@ -1,7 +1,11 @@
 -- FORMAT 8.2, labels: a number for what each given number is.
-use Rattle.std.specs.Prelude.{ℕ, ◌+◌, ◌-◌, ◌*◌, List, [], ◌∷◌, get_or, ℤ, pos}
+use Rattle.std.specs.Prelude.{ℕ, zero, suc, ◌+◌, ◌-◌, ◌*◌, List, [], ◌∷◌, get_or, ℤ, pos}
 use Rattle.std.proofs.Math.Option.{Option, none, some}
 use Rattle.format.specs.Calls.{Quantity, value, flag, count, word, present, rptin, attachments, bytes, nibbles, deck, Given}
+use Rattle.numbers.specs.Words.{unsigned}
+use Rattle.script.specs.declared.Label.{Label}
+use Rattle.script.specs.declared.Label.TheVariants as the
+use Rattle.script.specs.declared.Labelled.{Labelled}
 
 unfoldable pub quantity_label : Quantity → ℕ
 quantity_label value = 1
@@ -39,3 +43,24 @@ number_or_zero (some z) = z
 unfoldable pub labels : List Given → ℕ
 labels [] = 0
 labels (g ∷ gs) = label_of g + 256 * labels gs
+
+-- ---- as the code has them
+
+-- the labels that the code gives
+abbrev pub label_number : Label → ℕ
+label_number the.Value = 1
+label_number the.Flag = 2
+label_number the.Count = 3
+label_number the.Bytes = 8
+label_number the.Nibbles = 9
+label_number the.Deck = 10
+
+-- a number behind its label, in two's complement
+abbrev pub labelled_of : Given → Labelled
+labelled_of g = record { label = label_of g; number = unsigned (number_or_zero g.number) }
+
+-- a row of n of them, 0 and 0 where there is none
+unfoldable pub labelled_row : ℕ → List Given → List Labelled
+labelled_row zero gs = []
+labelled_row (suc n) [] = record { label = 0; number = 0 } ∷ labelled_row n []
+labelled_row (suc n) (g ∷ gs) = labelled_of g ∷ labelled_row n gs

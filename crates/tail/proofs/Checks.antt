@@ -1,14 +1,16 @@
 -- A look at an attachment is the first of its checks.
 -- Assumes nothing.
-use Prim.Native.Nat.{ℕ, suc, ◌+◌, ◌≤◌, ◌<◌}
+use Prim.Native.Nat.{ℕ, suc, ◌+◌, ◌-◌, ◌≤◌, ◌<◌}
 use native.Mathlib.Omega.{arith}
 use mathlib.Core.Path.{◌≡◌, refl, sym, ap, ◌∙◌}
 use mathlib.Core.Bool.{Bool, true, false, cond, not, ◌||◌}
 use mathlib.Core.List.{List, ◌∷◌}
 use mathlib.Core.Option.{Option, some}
+use Rattle.std.specs.Prelude.{Result, Ok, Err}
 use lib.ListN.{length}
 use lib.Dec.{ltb, eqb}
-use borrow.Author.Tests.{ltb-false, eq-eqb, ne_eqb, lt-ltb, le-ltb}
+use borrow.Author.Tests.{ltb-false, lt-ltb, le-ltb}
+use Rattle.std.proofs.lemmas.Bool.Decides.{nat_tests}
 use Rattle.format.specs.Order.{Refusal, first}
 use Rattle.format.specs.Flags.{FlagTable}
 use Rattle.format.specs.Nibbles.{length_at, id_at, behind, Nibbles}
@@ -18,116 +20,90 @@ use Rattle.laws.proofs.Sequences.{or_false}
 use Rattle.nibble.specs.View.{view, from, part, moved}
 use Rattle.nibble.specs.declared.Cursor.{Cursor}
 use Rattle.nibble.proofs.View.{IsHead, from-length, from-moved, from-nibbles}
-use Rattle.tail.specs.Look.{judged_at, looked_at}
-use Rattle.tail.specs.declared.Looked.{Looked}
-use Rattle.tail.specs.declared.Looked.TheVariants.{Fault, Fine}
+use Rattle.nibble.specs.declared.Header.{Header}
+use Rattle.tail.specs.Look.{refused, judged_at, head_at, looked_at}
 use Rattle.tail.proofs.Mask.{Seen}
 
--- ---- what each test of the code answers
+-- ---- what the tests of the code answer
 
-module _ (marks : FlagTable) (b : List ℕ) (c : Cursor) (al id mask : ℕ) where
-  pub empty_data : al ≡ 0 → Fault 5 ≡ judged_at marks b c al id mask
-  unfolding judged_at
-  empty_data e = rw (eq-eqb al 0 e)
-
-  module _ (n : al ≡ 0 → ⊥) where
-    pub no_id : id ≡ 0 → Fault 5 ≡ judged_at marks b c al id mask
-    unfolding judged_at
-    no_id e = rw (ne_eqb al 0 n, eq-eqb id 0 e)
-
-    module _ (m : id ≡ 0 → ⊥) where
-      pub seen_id : bit_at mask id ≡ true → Fault 5 ≡ judged_at marks b c al id mask
-      unfolding judged_at
-      seen_id e = rw (ne_eqb al 0 n, ne_eqb id 0 m, e)
-
-      module _ (e : bit_at mask id ≡ false) where
-        pub long_data : length (from b c) < al → Fault 1 ≡ judged_at marks b c al id mask
-        unfolding judged_at
-        long_data h = rw (ne_eqb al 0 n, ne_eqb id 0 m, e, lt-ltb (length (from b c)) al h)
-
-        pub judged_body : (t : Bool) → al ≤ length (from b c) → t ≡ body_valid marks id (part b c al) → cond t (Fine al id) (Fault 6) ≡ judged_at marks b c al id mask
-        unfolding judged_at
-        judged_body t h q = rw (ne_eqb al 0 n, ne_eqb id 0 m, e, le-ltb (length (from b c)) al h, ← q) (turned t)
-          where
-            turned : (t : Bool) → cond t (Fine al id) (Fault 6) ≡ cond (not t) (Fault 6) (Fine al id)
-            turned true = refl
-            turned false = refl
+-- whether data fit, by their last nibble
+pub data_fit : (b : List ℕ) (h : Header) → (h.al ≡ 0 → ⊥) → ltb (h.body.at + h.al - 1) (length (view h.body.packed b)) ≡ not (ltb (length (from b h.body)) h.al)
+data_fit b h n = grind (arith, nat_tests, from-length b h.body)
 
 -- a header that does not fit, and one that does
-pub look_short : (marks : FlagTable) (b : List ℕ) (c : Cursor) (mask : ℕ) → length (view c.packed b) < c.at + 3 → Fault 1 ≡ looked_at marks b c mask
-unfolding looked_at
-look_short marks b c mask h =
-    let g : length (from b c) < 3 = omega (arith, from-length b c) in
-    rw (lt-ltb (length (from b c)) 3 g)
+module _ (marks : FlagTable) (b : List ℕ) (c : Cursor) (mask i : ℕ) where
+  pub look_short : length (view c.packed b) < c.at + 3 → refused 1 i ≡ looked_at marks b c mask i
+  unfolding looked_at
+  look_short h =
+      let g : length (from b c) < 3 = omega (arith, from-length b c) in
+      rw (lt-ltb (length (from b c)) 3 g)
 
-pub look_judged : (marks : FlagTable) (b : List ℕ) (c body : Cursor) (al id mask : ℕ) → IsHead b c al id body → judged_at marks b body al id mask ≡ looked_at marks b c mask
-unfolding looked_at
-look_judged marks b c body al id mask h =
-    let i = h.inside in
-    let g : 3 ≤ length (from b c) = omega (arith, from-length b c) in
-    rw (le-ltb (length (from b c)) 3 g, h.behind, h.read, h.told)
+  pub look_judged : (h : Header) → IsHead b c h → judged_at marks b h mask i ≡ looked_at marks b c mask i
+  unfolding looked_at
+  look_judged h p =
+      let inside = p.inside in
+      let g : 3 ≤ length (from b c) = omega (arith, from-length b c) in
+      let e : head_at b c ≡ h = λ j. record { al = sym p.read j; id = sym p.told j; body = sym p.behind j } in
+      rw (le-ltb (length (from b c)) 3 g, e)
 
 -- ---- a look and the checks
 
--- the refusal at a position that a look tells, or else what the others find
-abbrev pub told : Looked → ℕ → Option Refusal → Option Refusal
-told (Fault n) i more = some (record { number = n; place = i })
-told (Fine al id) i more = more
+-- the refusal that a look tells, or else what the others find
+abbrev pub told : Result Header Refusal → Option Refusal → Option Refusal
+told (Err r) more = some r
+told (Ok h) more = more
 
 -- a look's tests become those of the checks
-told_cond : (t : Bool) (x y : Looked) (i : ℕ) (more : Option Refusal) → told (cond t x y) i more ≡ cond t (told x i more) (told y i more)
-told_cond true x y i more = refl
-told_cond false x y i more = refl
+told_cond : (t : Bool) (x y : Result Header Refusal) (more : Option Refusal) → told (cond t x y) more ≡ cond t (told x more) (told y more)
+told_cond true x y more = refl
+told_cond false x y more = refl
 
 -- the first check of an attachment and of those behind it
 pub look_checks : (marks : FlagTable) (b : List ℕ) (c : Cursor) (mask : ℕ) (seen : List ℕ) (n i : ℕ) → Seen mask seen
     → first (attachment_checks marks (suc n) i seen (from b c))
-    ≡ told (looked_at marks b c mask) i (first (attachment_checks marks n (suc i) (id_at (from b c) ∷ seen) (behind (from b c))))
+    ≡ told (looked_at marks b c mask i) (first (attachment_checks marks n (suc i) (id_at (from b c) ∷ seen) (behind (from b c))))
 unfolding looked_at judged_at attachment_checks first
 look_checks marks b c mask seen n i m = simp (told_cond, m.at, ← from-moved b c 3)
 
 -- an attachment that passes: what was read, that its id is new, and that its data fit
-pub record Passed (b : List ℕ) (c : Cursor) (mask al id : ℕ) : Type 0 where
-  pub read : al ≡ length_at (from b c)
-  pub told : id ≡ id_at (from b c)
-  pub new : bit_at mask id ≡ false
-  pub fits : c.at + (3 + al) ≤ length (view c.packed b)
+pub record Passed (b : List ℕ) (c : Cursor) (mask : ℕ) (h : Header) : Type 0 where
+  pub read : h ≡ head_at b c
+  pub new : bit_at mask h.id ≡ false
+  pub fits : c.at + (3 + h.al) ≤ length (view c.packed b)
 
 -- a test that passes to what follows it
-cond_fine : (t : Bool) (n al id : ℕ) (v : Looked) → cond t (Fault n) v ≡ Fine al id → (t ≡ false) × (v ≡ Fine al id)
-cond_fine true n al id v e = let z : ◌≡◌ {A = ℕ} 0 1 = cc in absurd (omega arith)
-cond_fine false n al id v e = (refl, e)
+cond_fine : (t : Bool) (r : Refusal) (v : Result Header Refusal) (h : Header) → cond t (Err r) v ≡ Ok h → (t ≡ false) × (v ≡ Ok h)
+cond_fine true r v h e = cc
+cond_fine false r v h e = (refl, e)
 
-pub passes : (marks : FlagTable) (b : List ℕ) (c : Cursor) (mask al id : ℕ) → looked_at marks b c mask ≡ Fine al id → Passed b c mask al id
+pub passes : (marks : FlagTable) (b : List ℕ) (c : Cursor) (mask i : ℕ) (h : Header) → looked_at marks b c mask i ≡ Ok h → Passed b c mask h
 unfolding looked_at judged_at
-passes marks b c mask al id e =
-    let l = length_at (from b c) in
-    let d = id_at (from b c) in
-    let e1 = cond_fine (ltb (length (from b c)) 3) 1 al id (judged_at marks b (moved c 3) l d mask) e in
-    let e2 = cond_fine (eqb l 0 || (eqb d 0 || bit_at mask d)) 5 al id _ e1.1 in
-    let e3 = cond_fine (ltb (length (from b (moved c 3))) l) 1 al id _ e2.1 in
-    let e4 = cond_fine (not (body_valid marks d (part b (moved c 3) l))) 6 al id (Fine l d) e3.1 in
-    let t1 = or_false (eqb l 0) (eqb d 0 || bit_at mask d) e2.0 in
-    let t2 = or_false (eqb d 0) (bit_at mask d) t1.1 in
+passes marks b c mask i h e =
+    let k = head_at b c in
+    let e1 = cond_fine (ltb (length (from b c)) 3) _ (judged_at marks b k mask i) h e in
+    let e2 = cond_fine (eqb k.al 0 || (eqb k.id 0 || bit_at mask k.id)) _ _ h e1.1 in
+    let e3 = cond_fine (ltb (length (from b k.body)) k.al) _ _ h e2.1 in
+    let e4 = cond_fine (not (body_valid marks k.id (part b k.body k.al))) _ (Ok k) h e3.1 in
+    let t1 = or_false (eqb k.al 0) (eqb k.id 0 || bit_at mask k.id) e2.0 in
+    let t2 = or_false (eqb k.id 0) (bit_at mask k.id) t1.1 in
     let h1 = ltb-false (length (from b c)) 3 e1.0 in
-    let h3 = ltb-false (length (from b (moved c 3))) l e3.0 in
-    let q : Fine l d ≡ Fine al id = e4.1 in
-    let ql : l ≡ al = cc in
-    let qd : d ≡ id = cc in
+    let h3 = ltb-false (length (from b k.body)) k.al e3.0 in
+    let q : Ok k ≡ Ok h = e4.1 in
+    let read : h ≡ k = cc in
+    let al : h.al ≡ k.al = ap (λ (x : Header). x.al) read in
     record {
-      read = sym ql;
-      told = sym qd;
-      new = ap (bit_at mask) (sym qd) ∙ t2.1;
+      read = read;
+      new = ap (λ (x : Header). bit_at mask x.id) read ∙ t2.1;
       fits = omega (arith, from-length b c, from-length b (moved c 3));
     }
 
 -- its AL and id, where the buffer is of nibbles
-pub passed_small : (b : List ℕ) (c : Cursor) (mask al id : ℕ) → Nibbles (view c.packed b) → Passed b c mask al id → (al < 256) × (id < 16)
-passed_small b c mask al id h p =
-    let n = from-nibbles b c h in
-    let n0 = n 0 in
-    let n1 = n 1 in
-    let n2 = n 2 in
-    let r = p.read in
-    let t = p.told in
+pub head_small : (b : List ℕ) (c : Cursor) (h : Header) → Nibbles (view c.packed b) → h ≡ head_at b c → (h.al < 256) × (h.id < 16)
+head_small b c h n e =
+    let k = from-nibbles b c n in
+    let n0 = k 0 in
+    let n1 = k 1 in
+    let n2 = k 2 in
+    let al : h.al ≡ length_at (from b c) = ap (λ (x : Header). x.al) e in
+    let id : h.id ≡ id_at (from b c) = ap (λ (x : Header). x.id) e in
     (omega arith, omega arith)

@@ -4,187 +4,168 @@
 ghost use Rattle.std.specs.Prelude.{◌≡◌, ◌+◌, ◌≤◌, ◌<◌, ◌^◌, length};
 ghost use Rattle.format.specs.Nibbles.{Nibbles};
 ghost use Rattle.format.specs.Report.{body_valid};
+ghost use Rattle.format.specs.Reply.{by_number};
 ghost use Rattle.nibble.specs.View.{view, part};
-ghost use Rattle.tail.specs.Look.{judged_at, looked_at, passed_by};
+ghost use Rattle.tail.specs.Look.{judged_at, looked_at, start_at, passed_by};
 ghost use Rattle.tail.specs.Walk.{walked, tail_counted};
 
-use format::FlagTable;
+use format::{FlagTable, Refusal};
 use nibble::{Cursor, Header};
 
-// Where attachments end, and the place of the header of an id and its AL, both 0 where the id does not stand.
-#[derive(Clone, Copy)]
-pub struct Tail {
-    pub end: usize,
+// Where an attachment stands: the place of its header, in nibbles, and its AL.
+#[derive(Clone, Copy, Debug, PartialEq, Eq)]
+pub struct Held {
     pub place: usize,
     pub al: usize,
 }
 
-#[derive(Clone, Copy)]
-pub enum Walked {
-    // The refusal's number, and the attachment's position from 1.
-    Refused(u8, usize),
-    Ended(Tail),
+// Where attachments end, and where the one of an id stands, if it does.
+#[derive(Clone, Copy, Debug, PartialEq, Eq)]
+pub struct Tail {
+    pub end: usize,
+    pub held: Option<Held>,
 }
 
-// What a walk to a tail's end answers.
-#[derive(Clone, Copy)]
-pub enum Counted {
-    // The refusal's number, and the attachment's position from 1.
-    Refused(u8, usize),
-    // How many attachments the tail holds.
-    Ended(usize),
-}
-
-// What a look at one attachment finds.
-#[derive(Clone, Copy)]
-enum Looked {
-    // The refusal's number.
-    Fault(u8),
-    // AL and AID.
-    Fine(usize, usize),
-}
-
-// A walk's cursor, the ids seen, and the place of the header of an id and its AL.
+// A walk's cursor, the ids seen, and where the id that is asked for stands, if it was passed.
 #[derive(Clone, Copy)]
 struct State {
     cursor: Cursor,
     mask: u64,
-    place: usize,
-    al: usize,
+    held: Option<Held>,
 }
 
+// The ids whose contents have rules of their own.
+const FLAGS: usize = 1;
+
+const SHIP_TEXT: usize = 4;
+
 // Whether len nibbles from a place on may stand under an id.
+#[tactic(auto, unfolding(format::specs::Report::body_valid))]
 pub fn body_valid(s: &[u8], c: Cursor, id: usize, len: usize, marks: &FlagTable) -> bool
     requires { Nibbles (view c.packed s.now) × (c.at + len ≤ length (view c.packed s.now)) × (c.at + len ≤ 2 ^ 32) × (len ≤ 4096) }
     ensures { result ≡ body_valid marks.now id (part s.now c len) }
 {
-    if id == 1 {
-        return flags::valid(s, c, len, *marks);
+    match id {
+        FLAGS => flags::valid(s, c, len, *marks),
+        SHIP_TEXT => text::valid(s, c, len),
+        _ => true,
     }
-    if id == 4 {
-        return text::valid(s, c, len);
-    }
-    true
 }
 
-// The attachment of this AL and AID whose data begin at a place.
-fn judged(s: &[u8], c: Cursor, al: usize, id: usize, mask: u64, marks: &FlagTable) -> Looked
-    requires { Nibbles (view c.packed s.now) × (c.at ≤ length (view c.packed s.now)) × (c.at ≤ 2 ^ 31) × (al < 256) × (id < 16) }
-    ensures { result ≡ judged_at marks.now s.now c al id mask }
+// The attachment of a header, at a position from 1.
+#[tactic(auto, using(crate::proofs::Checks::data_fit), unfolding(crate::specs::Look::judged_at))]
+fn judged(
+    s: &[u8],
+    header: Header,
+    mask: u64,
+    marks: &FlagTable,
+    position: usize,
+) -> Result<Header, Refusal>
+    requires { Nibbles (view header.body.packed s.now) × (header.body.at ≤ length (view header.body.packed s.now)) × (header.body.at ≤ 2 ^ 31) × (header.al < 256) × (header.id < 16) }
+    ensures { by_number result ≡ judged_at marks.now s.now header mask position }
 {
-    let last = c.at + al;
-    let packed = c.packed;
-    if al == 0 {
-        return Looked::Fault(5);
+    if header.al == 0 || header.id == 0 || (mask >> header.id) % 2 == 1 {
+        return Err(Refusal::Attachment(position));
     }
-    if id == 0 {
-        return Looked::Fault(5);
+    let last = header.body.at + header.al;
+    if !nibble::inside(s, last - 1, header.body.packed) {
+        return Err(Refusal::Short(position));
     }
-    if (mask >> id) % 2 == 1 {
-        return Looked::Fault(5);
+    if !body_valid(s, header.body, header.id, header.al, marks) {
+        return Err(Refusal::Body(position));
     }
-    if nibble::inside(s, last - 1, packed) {
-        if body_valid(s, c, id, al, marks) {
-            return Looked::Fine(al, id);
-        }
-        return Looked::Fault(6);
-    }
-    Looked::Fault(1)
+    Ok(header)
 }
 
-// The attachment at a place.
-fn look(s: &[u8], c: Cursor, mask: u64, marks: &FlagTable) -> Looked
+// The header of the attachment at a place and a position.
+#[tactic(auto, using(crate::proofs::Checks::look_short, crate::proofs::Checks::look_judged))]
+fn look(
+    s: &[u8],
+    c: Cursor,
+    mask: u64,
+    marks: &FlagTable,
+    position: usize,
+) -> Result<Header, Refusal>
     requires { Nibbles (view c.packed s.now) × (c.at ≤ 2 ^ 30) }
-    ensures { result ≡ looked_at marks.now s.now c mask }
+    ensures { by_number result ≡ looked_at marks.now s.now c mask position }
 {
-    let h = c.header(s);
-    match h {
-        Header::Short => Looked::Fault(1),
-        Header::Head(al, id, body) => judged(s, body, al, id, mask, marks),
-    }
+    let Some(header) = c.header(s) else {
+        return Err(Refusal::Short(position));
+    };
+    judged(s, header, mask, marks, position)
 }
 
-// The state behind an attachment.
-fn passed(st: State, al: usize, id: usize, want: usize) -> State
-    requires { (st.cursor.at ≤ 2 ^ 30) × (al < 256) × (id < 16) }
-    ensures { result ≡ passed_by st al id want }
-{
-    let at = st.cursor.at;
-    let cursor = st.cursor.skip(3 + al);
-    let mask = st.mask | (1 << id);
-    if id == want {
-        return State {
+impl State {
+    fn start(cursor: Cursor) -> State
+        ensures { result ≡ start_at cursor }
+    {
+        State {
             cursor,
-            mask,
-            place: at,
-            al,
-        };
+            mask: 0,
+            held: None,
+        }
     }
-    State {
-        cursor,
-        mask,
-        place: st.place,
-        al: st.al,
+
+    // The state behind an attachment.
+    fn passed(self, header: Header, want: usize) -> State
+        requires { (header.body.at ≤ 2 ^ 31) × (header.al < 256) × (header.id < 16) }
+        ensures { result ≡ passed_by self header want }
+    {
+        let held = if header.id == want {
+            Some(Held {
+                place: self.cursor.at,
+                al: header.al,
+            })
+        } else {
+            self.held
+        };
+        State {
+            cursor: header.body.skip(header.al),
+            mask: self.mask | (1 << header.id),
+            held,
+        }
     }
 }
 
 // Checks count attachments from a place on; where they end, and where an id stands among them.
-pub fn walk(s: &[u8], c: Cursor, count: usize, want: usize, marks: &FlagTable) -> Walked
+#[tactic(auto, using(crate::proofs::Turns::walk_start, crate::proofs::Turns::walk_look, crate::proofs::Turns::walk_fault, crate::proofs::Turns::walk_more))]
+pub fn walk(
+    s: &[u8],
+    c: Cursor,
+    count: usize,
+    want: usize,
+    marks: &FlagTable,
+) -> Result<Tail, Refusal>
     requires { Nibbles (view c.packed s.now) × (c.at ≤ length (view c.packed s.now)) × (c.at ≤ 65536) }
-    ensures { result ≡ walked marks.now s.now c count want }
+    ensures { by_number result ≡ walked marks.now s.now c count want }
 {
-    let mut st = State {
-        cursor: c,
-        mask: 0,
-        place: 0,
-        al: 0,
-    };
-    let mut i = 0;
-    while i < count {
-        let l = look(s, st.cursor, st.mask, marks);
-        match l {
-            Looked::Fault(n) => {
-                return Walked::Refused(n, i + 1);
-            }
-            Looked::Fine(al, id) => {
-                st = passed(st, al, id, want);
-            }
-        }
-        i += 1;
+    let mut state = State::start(c);
+    // Not over 1..=count, with which each turn takes longer.
+    for index in 0..count {
+        let header = look(s, state.cursor, state.mask, marks, index + 1)?;
+        state = state.passed(header, want);
     }
-    Walked::Ended(Tail {
-        end: st.cursor.at,
-        place: st.place,
-        al: st.al,
+    Ok(Tail {
+        end: state.cursor.at,
+        held: state.held,
     })
 }
 
 // Checks the attachments of a tail, one nibble a byte, to its end, and counts them.
-pub fn walk_tail(s: &[u8], marks: &FlagTable) -> Counted
+#[tactic(auto, using(crate::proofs::Turns::walk_look, crate::proofs::Count::count_start, crate::proofs::Count::count_fault))]
+pub fn walk_tail(s: &[u8], marks: &FlagTable) -> Result<usize, Refusal>
     requires { Nibbles s.now }
-    ensures { result ≡ tail_counted marks.now s.now }
+    ensures { by_number result ≡ tail_counted marks.now s.now }
 {
-    let mut st = State {
-        cursor: Cursor {
-            at: 0,
-            packed: false,
-        },
-        mask: 0,
-        place: 0,
-        al: 0,
-    };
+    let mut state = State::start(Cursor {
+        at: 0,
+        packed: false,
+    });
     let mut count = 0;
-    while st.cursor.at < s.len() {
-        let l = look(s, st.cursor, st.mask, marks);
-        match l {
-            Looked::Fault(n) => {
-                return Counted::Refused(n, count + 1);
-            }
-            Looked::Fine(al, id) => {
-                st = passed(st, al, id, 0);
-            }
-        }
+    while state.cursor.at < s.len() {
+        let header = look(s, state.cursor, state.mask, marks, count + 1)?;
+        state = state.passed(header, 0);
         count += 1;
     }
-    Counted::Ended(count)
+    Ok(count)
 }

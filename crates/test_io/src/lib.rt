@@ -3,54 +3,14 @@
 
 ghost use Rattle.std.specs.Prelude.{◌≤◌, IfOk};
 
-use flag_table::Loading;
-use format::FlagTable;
+use format::{DeckSet, FlagTable, Outcome, Refusal, Reply};
 use std::io;
 
-// What stands next on the input.
-#[derive(Clone, Copy)]
-pub enum Kind {
-    Byte(u8),
-    End,
-}
-
-pub fn next(rt: &HostRuntime) -> io::Result<Kind> {
-    let mut b = [0u8; 1];
-    let n = streams::read_full(&mut rt.stdin(), &mut b)?;
-    if n == 0 {
-        return Ok(Kind::End);
-    }
-    Ok(Kind::Byte(b[0]))
-}
-
-// A number of two bytes.
-pub fn get2(rt: &HostRuntime) -> io::Result<u64> {
-    let mut b = [0u8; 2];
-    get_bytes(rt, &mut b)?;
-    Ok(numbers::wide(b[0]) << 8 | numbers::wide(b[1]))
-}
-
-// A number of four bytes.
-pub fn get4(rt: &HostRuntime) -> io::Result<u64> {
-    Ok(get2(rt)? << 16 | get2(rt)?)
-}
-
-// A number of eight bytes.
-pub fn get8(rt: &HostRuntime) -> io::Result<u64> {
-    Ok(get4(rt)? << 32 | get4(rt)?)
-}
-
-// A signed number of eight bytes, in two's complement.
-pub fn get_signed(rt: &HostRuntime) -> io::Result<i64> {
-    Ok(numbers::signed_of(get8(rt)?))
-}
-
-// A length: a number of two bytes, at most most.
-pub fn get_length(rt: &HostRuntime, most: usize) -> io::Result<usize>
-    ensures { IfOk result (λ n. n ≤ most) }
-{
-    let n = get2(rt)? as usize;
-    Ok(if n <= most { n } else { most })
+// The next byte of the input, none at its end.
+pub fn next(rt: &HostRuntime) -> io::Result<Option<u8>> {
+    let mut byte = [0u8; 1];
+    let count = streams::read_full(&mut rt.stdin(), &mut byte)?;
+    Ok(if count == 0 { None } else { Some(byte[0]) })
 }
 
 // Bytes of the input; where it ends before, what stood there stays.
@@ -59,70 +19,142 @@ pub fn get_bytes(rt: &HostRuntime, part: &mut [u8]) -> io::Result<()> {
     Ok(())
 }
 
+// So many bytes of the input; 0 where it ends before.
+fn get_array<const N: usize>(rt: &HostRuntime) -> io::Result<[u8; N]> {
+    let mut bytes = [0u8; N];
+    get_bytes(rt, &mut bytes)?;
+    Ok(bytes)
+}
+
+pub fn get2(rt: &HostRuntime) -> io::Result<u16> {
+    Ok(u16::from_be_bytes(get_array(rt)?))
+}
+
+pub fn get4(rt: &HostRuntime) -> io::Result<u32> {
+    Ok(u32::from_be_bytes(get_array(rt)?))
+}
+
+pub fn get8(rt: &HostRuntime) -> io::Result<u64> {
+    Ok(u64::from_be_bytes(get_array(rt)?))
+}
+
+// A signed number of eight bytes, in two's complement.
+pub fn get_signed(rt: &HostRuntime) -> io::Result<i64> {
+    Ok(i64::from_be_bytes(get_array(rt)?))
+}
+
+// So many bytes of the input; 0 where it ends before.
+pub fn get_vec(rt: &HostRuntime, length: usize) -> io::Result<Vec<u8>> {
+    let mut bytes = vec![in rt.alloc(); 0u8; length]?;
+    get_bytes(rt, &mut bytes)?;
+    Ok(bytes)
+}
+
+// A length of two bytes, at most `most`.
+pub fn get_length(rt: &HostRuntime, most: usize) -> io::Result<usize>
+    ensures { IfOk result (λ length. length ≤ most) }
+{
+    Ok(most.min(get2(rt)? as usize))
+}
+
+// Bytes behind their length.
+pub fn get_buffer(rt: &HostRuntime, most: usize) -> io::Result<Vec<u8>> {
+    let length = get_length(rt, most)?;
+    get_vec(rt, length)
+}
+
+// Signed numbers behind how many they are.
+pub fn get_values(rt: &HostRuntime, most: usize) -> io::Result<Vec<i64>> {
+    let length = get_length(rt, most)?;
+    let mut values = vec![in rt.alloc(); 0i64; length]?;
+    for value in &mut values {
+        *value = get_signed(rt)?;
+    }
+    Ok(values)
+}
+
 pub fn put_bytes(rt: &HostRuntime, part: &[u8]) -> io::Result<()> {
     rt.write_all(part)
 }
 
-fn low(n: u64) -> u8 {
-    (n % 256) as u8
+pub fn put2(rt: &HostRuntime, number: u16) -> io::Result<()> {
+    put_bytes(rt, &number.to_be_bytes())
 }
 
-pub fn put2(rt: &HostRuntime, n: u64) -> io::Result<()> {
-    let b = [low(n / 256), low(n)];
-    put_bytes(rt, &b)
+// The low four bytes of a number.
+pub fn put4(rt: &HostRuntime, number: usize) -> io::Result<()> {
+    put_bytes(rt, &number.to_be_bytes()[4..])
 }
 
-pub fn put4(rt: &HostRuntime, n: u64) -> io::Result<()> {
-    let b = [low(n / 16777216), low(n / 65536), low(n / 256), low(n)];
-    put_bytes(rt, &b)
+pub fn put8(rt: &HostRuntime, number: u64) -> io::Result<()> {
+    put_bytes(rt, &number.to_be_bytes())
 }
 
-pub fn put8(rt: &HostRuntime, n: u64) -> io::Result<()> {
-    put4(rt, n / 4294967296)?;
-    put4(rt, n)
-}
-
-pub fn put_signed(rt: &HostRuntime, v: i64) -> io::Result<()> {
-    put8(rt, numbers::unsigned_of(v))
-}
-
-// The head of an answer: a tag, a number, and eight bytes.
-pub fn put_head(rt: &HostRuntime, tag: u8, number: u8, n: u64) -> io::Result<()> {
-    let b = [tag, number];
-    put_bytes(rt, &b)?;
-    put8(rt, n)
-}
-
-pub fn put_refused(rt: &HostRuntime, number: u8, place: usize) -> io::Result<()> {
-    put_head(rt, 0, number, place as u64)
-}
-
-fn put_loading(rt: &HostRuntime, l: Loading) -> io::Result<()> {
-    match l {
-        Loading::Refused(number, place) => put_refused(rt, number, place),
-        Loading::Loaded => put_head(rt, 1, 0, 0),
-    }
-}
-
-fn put_rows(rt: &HostRuntime, marks: &FlagTable) -> io::Result<()> {
-    let mut i = 0;
-    while i < 14 {
-        put_bytes(rt, &marks[i])?;
-        i += 1;
+pub fn put_values(rt: &HostRuntime, values: &[i64]) -> io::Result<()> {
+    for value in values {
+        put_bytes(rt, &value.to_be_bytes())?;
     }
     Ok(())
 }
 
-fn load_lent(rt: &HostRuntime, lent: &mut [u8], marks: &mut FlagTable) -> io::Result<()> {
-    get_bytes(rt, lent)?;
-    put_loading(rt, flag_table::judge(lent))?;
-    *marks = flag_table::load(lent, *marks);
-    put_rows(rt, marks)
+// The head of an answer: a tag, a number, and eight bytes.
+fn put_head(rt: &HostRuntime, tag: u8, number: u8, place: usize) -> io::Result<()> {
+    put_bytes(rt, &[tag, number])?;
+    put8(rt, place as u64)
+}
+
+pub fn put_refused(rt: &HostRuntime, refusal: Refusal) -> io::Result<()> {
+    put_head(rt, 0, refusal.number(), refusal.place())
+}
+
+// The answer of a call that gives nothing.
+pub fn put_done(rt: &HostRuntime, answer: Result<(), Refusal>) -> io::Result<()> {
+    match answer {
+        Ok(()) => put_head(rt, 1, 0, 0),
+        Err(refusal) => put_refused(rt, refusal),
+    }
+}
+
+// The answer of a call that gives a number.
+pub fn put_size(rt: &HostRuntime, answer: Result<usize, Refusal>) -> io::Result<()> {
+    match answer {
+        Ok(size) => put_head(rt, 2, 0, size),
+        Err(refusal) => put_refused(rt, refusal),
+    }
+}
+
+fn set_number(set: DeckSet) -> u64 {
+    match set {
+        DeckSet::Unknown => 0,
+        DeckSet::Ebcdic => 1,
+        DeckSet::Ascii => 2,
+    }
+}
+
+// The answer of a call on a buffer.
+pub fn put_reply(rt: &HostRuntime, reply: Reply) -> io::Result<()> {
+    match reply {
+        Err(refusal) => put_refused(rt, refusal),
+        Ok(Outcome::Nothing) => put_done(rt, Ok(())),
+        Ok(Outcome::Count(count)) => put_size(rt, Ok(count)),
+        Ok(Outcome::Nibbles(nibbles)) => put_size(rt, Ok(usize::from(nibbles))),
+        Ok(Outcome::Text(count, set, nibbles)) => {
+            put_size(rt, Ok(count))?;
+            put8(rt, set_number(set))?;
+            put8(rt, u64::from(nibbles))
+        }
+        // No call of the vectors gives a field's value or a flag's.
+        Ok(Outcome::Value(_) | Outcome::Flag(_)) => Ok(()),
+    }
 }
 
 // Loads a table that stands on the input, and writes the answer and the table in force after it.
-pub fn load(rt: &HostRuntime, marks: &mut FlagTable) -> io::Result<()> {
-    let mut lent = [0u8; 200];
-    let n = get_length(rt, 200)?;
-    load_lent(rt, &mut lent[..n], marks)
+pub fn load(rt: &HostRuntime, table: &mut FlagTable) -> io::Result<()> {
+    let lent = get_buffer(rt, 200)?;
+    put_done(rt, flag_table::judge(&lent))?;
+    *table = flag_table::load(&lent, *table);
+    for row in &*table {
+        put_bytes(rt, row)?;
+    }
+    Ok(())
 }

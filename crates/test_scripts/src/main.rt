@@ -1,96 +1,53 @@
 // Runs lists of calls as scripts over vectors of the independent implementation.
 #![tactic(auto)]
 
-ghost use Rattle.std.specs.Prelude.{◌≤◌, ◌<◌, IfOk};
-
 use format::FlagTable;
 use std::io;
-use test_io::Kind;
 
-// A byte of the input; 0 at its end.
-fn byte(rt: &HostRuntime) -> io::Result<usize>
-    ensures { IfOk result (λ n. n < 256) }
-{
-    let k = test_io::next(rt)?;
-    let Kind::Byte(b) = k else {
-        return Ok(0);
-    };
-    Ok(b as usize)
-}
+// The most bytes of a vector's buffer, and of its script and its log.
+const BUFFER: usize = 2000;
 
-fn least(n: usize, most: usize) -> usize
-    ensures { result ≤ most }
-{
-    if n <= most { n } else { most }
-}
+const SCRIPT: usize = 60000;
 
-// A length of four bytes, at most most.
-fn get_long(rt: &HostRuntime, most: usize) -> io::Result<usize>
-    ensures { IfOk result (λ n. n ≤ most) }
-{
-    Ok(least(test_io::get4(rt)? as usize, most))
-}
+// The high byte of a length that begins a table instead of a list.
+const LOAD: u8 = 255;
 
-fn replay_in(
-    rt: &HostRuntime,
-    b: &mut [u8],
-    script: &[u8],
-    log: &mut [u8],
-    marks: &FlagTable,
-) -> io::Result<()> {
-    let r = replay::replay(b, script, log, marks);
-    test_io::put4(rt, r.calls as u64)?;
-    test_io::put4(rt, r.taken as u64)?;
-    test_io::put4(rt, r.written as u64)?;
-    test_io::put_bytes(rt, b)?;
-    test_io::put_bytes(rt, log)
-}
+// What a log holds before it is written.
+const BLANK: u8 = 165;
 
-fn with_script(
-    rt: &HostRuntime,
-    b: &mut [u8],
-    script: &mut [u8],
-    marks: &FlagTable,
-) -> io::Result<()> {
-    test_io::get_bytes(rt, script)?;
-    let mut log = [165u8; 60000];
-    let n = get_long(rt, 60000)?;
-    replay_in(rt, b, script, &mut log[..n], marks)
-}
-
-fn with_buffer(rt: &HostRuntime, b: &mut [u8], marks: &FlagTable) -> io::Result<()> {
-    test_io::get_bytes(rt, b)?;
-    let mut script = [0u8; 60000];
-    let n = get_long(rt, 60000)?;
-    with_script(rt, b, &mut script[..n], marks)
+// A length of four bytes, at most that of a script.
+fn get_long(rt: &HostRuntime) -> io::Result<usize> {
+    Ok(SCRIPT.min(test_io::get4(rt)? as usize))
 }
 
 // One list under a table, of whose buffer's length the high byte is given.
-fn one(rt: &HostRuntime, high: u8, marks: &FlagTable) -> io::Result<()> {
-    let n = least(high as usize * 256 + byte(rt)?, 2000);
-    let mut b = [0u8; 2000];
-    with_buffer(rt, &mut b[..n], marks)
+fn run(rt: &HostRuntime, high: u8, table: &FlagTable) -> io::Result<()> {
+    let low = test_io::next(rt)?.unwrap_or(0);
+    let length = BUFFER.min(usize::from(u16::from_be_bytes([high, low])));
+    let mut buffer = test_io::get_vec(rt, length)?;
+    let length = get_long(rt)?;
+    let script = test_io::get_vec(rt, length)?;
+    let length = get_long(rt)?;
+    let mut log = vec![in rt.alloc(); BLANK; length]?;
+    let performed = replay::replay(&mut buffer, &script, &mut log, table);
+    test_io::put4(rt, performed.calls)?;
+    test_io::put4(rt, performed.taken)?;
+    test_io::put4(rt, performed.written)?;
+    test_io::put_bytes(rt, &buffer)?;
+    test_io::put_bytes(rt, &log)
 }
 
-// A table loaded, or one list; false at the end of the input.
-fn next(rt: &HostRuntime, marks: &mut FlagTable) -> io::Result<bool> {
-    let k = test_io::next(rt)?;
-    let Kind::Byte(high) = k else {
-        return Ok(false);
-    };
-    if high == 255 {
-        test_io::load(rt, marks)?;
-        return Ok(true);
-    }
-    one(rt, high, marks)?;
-    Ok(true)
-}
-
+// Lists and tables to the end of the input.
 fn main(rt: HostRuntime) -> io::Result<()> {
-    let mut marks = flag_table::all_yes();
+    let mut table = flag_table::all_yes();
     for _ in 0..100000u32 {
-        if !next(&rt, &mut marks)? {
+        let Some(high) = test_io::next(&rt)? else {
             break;
+        };
+        if high == LOAD {
+            test_io::load(&rt, &mut table)?;
+        } else {
+            run(&rt, high, &table)?;
         }
     }
     Ok(())

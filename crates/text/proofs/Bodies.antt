@@ -8,7 +8,7 @@ use mathlib.Core.Bool.{Bool}
 use mathlib.Core.List.{List, ◌∷◌}
 use lib.Dec.{eqb}
 use lib.ListN.{length, get_or, take, drop, length-drop}
-use lib.Seq.{drop-cons, drop-drop}
+use lib.Seq.{drop-cons, drop-drop, take_all}
 use Rattle.format.specs.Nibbles.{nibbles}
 use Rattle.format.specs.ShipText.{text_valid}
 use Rattle.laws.proofs.Nibbles.{length-nibbles, nibbles-drop}
@@ -59,8 +59,8 @@ module _ (end p n : ℕ) (s : List ℕ) (i : ℕ) (l : Left end p n (drop i s)) 
   pub nibble_inside : i < length s
   nibble_inside = omega (arith, l.inside, length-drop i s)
 
-  pub left_nibble : (q : ℕ) → q ≡ next_state p (get_or s i 0) → Left end q (n - 1) (drop (i + 1) s)
-  left_nibble q e = left-first end p n q (get_or s i 0) (drop i s) (drop (i + 1) s) (from s i nibble_inside) l h e
+  pub left_nibble : (q m : ℕ) → q ≡ next_state p (get_or s i 0) → m ≡ n - 1 → Left end q m (drop (i + 1) s)
+  left_nibble q m e f = subst (λ (k : ℕ). Left end q k (drop (i + 1) s)) (sym f) (left-first end p n q (get_or s i 0) (drop i s) (drop (i + 1) s) (from s i nibble_inside) l h e)
 
 -- ---- two nibbles a byte
 
@@ -75,22 +75,36 @@ module _ (end p n : ℕ) (s : List ℕ) (i : ℕ) (l : Left end p n (nibbles (dr
   pub left_half : n ≤ 1 → (q : ℕ) → q ≡ next_state p (get_or s i 0 / 16) → q ≡ end
   left_half k q e = left_none end q (n - 1) _ (left_high q e) (omega arith)
 
-  pub left_byte : 1 < n → (q : ℕ) → q ≡ byte_next p (get_or s i 0) → Left end q (n - 2) (nibbles (drop (i + 1) s))
+  pub left_byte : 1 < n → (q j : ℕ) → q ≡ byte_next p (get_or s i 0) → j ≡ n - 2 → Left end q j (nibbles (drop (i + 1) s))
   unfolding byte_next
-  left_byte k q e =
+  left_byte k q j e f =
       let b = get_or s i 0 in
       let v = nibbles (drop (i + 1) s) in
       let m = next_state p (b / 16) in
-      let two : n - 1 - 1 ≡ n - 2 = omega arith in
+      let two : n - 1 - 1 ≡ j = omega arith in
       subst (λ (k : ℕ). Left end q k v) two (left-first end m (n - 1) q (b % 16) (b % 16 ∷ v) v refl (left_high m refl) (omega arith) e)
+
+-- a part, from its two ends
+pub same_part : (s : List ℕ) (at len : ℕ) → take (at + len - at) (drop at s) ≡ take len (drop at s)
+same_part s at len = let e : at + len - at ≡ len = omega arith in ap (λ (k : ℕ). take k (drop at s)) e
 
 -- ---- where a packed body begins: at a byte, or in the middle of one
 
-module _ (s : List ℕ) (at len : ℕ) (h : at + len ≤ length (nibbles s)) where
-  pub left-even : at % 2 ≡ 0 → Left (place_after 4 (take len (drop at (nibbles s)))) 4 len (nibbles (drop (at / 2) s))
+-- the bytes from one on
+abbrev pub rest : List ℕ → ℕ → List ℕ
+rest s k = take (length s - k) (drop k s)
+
+rest_is : (s : List ℕ) (k : ℕ) → rest s k ≡ drop k s
+rest_is s k = take_all (length s - k) (drop k s) (omega (arith, length-drop k s))
+
+module _ (s : List ℕ) (at len : ℕ) (within : at + len ≤ 2 * length s) where
+  h : at + len ≤ length (nibbles s)
+  h = omega (arith, length-nibbles s)
+
+  pub left-even : at % 2 ≡ 0 → Left (place_after 4 (take len (drop at (nibbles s)))) 4 len (nibbles (rest s (at / 2)))
   left-even k =
       let e : at ≡ 2 * (at / 2) = omega arith in
-      rw (nibbles-drop (at / 2) s, ← e) (left_body len (drop at (nibbles s)) (omega (arith, length-drop at (nibbles s))))
+      rw (rest_is s (at / 2), nibbles-drop (at / 2) s, ← e) (left_body len (drop at (nibbles s)) (omega (arith, h, length-drop at (nibbles s))))
 
   pub odd_inside : 0 < len → at / 2 < length s
   odd_inside k = omega (arith, length-nibbles s)
@@ -104,6 +118,7 @@ module _ (s : List ℕ) (at len : ℕ) (h : at + len ≤ length (nibbles s)) whe
       ∙ ap (drop 1) (sym (nibbles-drop (at / 2) s) ∙ ap nibbles (from s (at / 2) (odd_inside m)))
 
   pub left-odd : (at % 2 ≡ 0 → ⊥) → 0 < len → (q : ℕ) → q ≡ next_state 4 (get_or s (at / 2) 0 % 16)
-      → Left (place_after 4 (take len (drop at (nibbles s)))) q (len - 1) (nibbles (drop (at / 2 + 1) s))
+      → Left (place_after 4 (take len (drop at (nibbles s)))) q (len - 1) (nibbles (rest s (at / 2 + 1)))
   left-odd k m q e =
-      left-first _ 4 len q _ _ _ (middle k m) (left_body len (drop at (nibbles s)) (omega (arith, length-drop at (nibbles s)))) m e
+      rw (rest_is s (at / 2 + 1))
+      (left-first _ 4 len q _ _ _ (middle k m) (left_body len (drop at (nibbles s)) (omega (arith, h, length-drop at (nibbles s)))) m e)

@@ -264,14 +264,5 @@ held_end w h =
 
 -- ---- the last arm of a match
 
--- none of 0 to m - 1
-abbrev None : ℕ → ℕ → Type 0
-None zero n = Unit {0}
-None (suc m) n = None m n × (n ≡ m → ⊥)
-
-pub none_le : (m n : ℕ) → None m n → m ≤ n
-none_le zero n r = omega arith
-none_le (suc m) n r = let h = none_le m n r.0 in let e : n ≡ m → ⊥ = r.1 in omega arith
-
-pub beyond_rows : (n : ℕ) → None 16 n → 0 ≡ get_or state_rows n 0
-beyond_rows n r = sym (beyond state_rows n (none_le 16 n r))
+pub beyond_rows : (n : ℕ) → 16 ≤ n → 0 ≡ get_or state_rows n 0
+beyond_rows n h = sym (beyond state_rows n h)

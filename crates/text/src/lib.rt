@@ -1,7 +1,7 @@
 // The ship text of attachment 4: whether a body is valid.
 #![tactic(auto)]
 
-ghost use Rattle.std.specs.Prelude.{◌≡◌, ◌+◌, ◌≤◌, ◌<◌, ◌^◌, eqb, length, get_or, take, drop};
+ghost use Rattle.std.specs.Prelude.{◌≡◌, ◌+◌, ◌*◌, ◌≤◌, ◌<◌, ◌^◌, eqb, length, get_or, take, drop};
 ghost use Rattle.format.specs.Nibbles.{nibbles};
 ghost use Rattle.format.specs.ShipText.{text_valid};
 ghost use Rattle.nibble.specs.View.{view, part};
@@ -12,7 +12,7 @@ use nibble::Cursor;
 
 // ---- one nibble
 
-// For each state four bits: the state after a nibble.
+// For each state four bits: the state after a nibble. A match is one load; a const table would be built anew in each turn of a loop.
 fn row(n: u8) -> u64
     ensures { (result ≡ get_or state_rows n 0) × (result < 2 ^ 44) }
 {
@@ -47,7 +47,7 @@ fn after(st: u64, n: u8) -> u64
 
 // ---- the two nibbles of a byte
 
-// For each state six bits: the place of the state after both nibbles.
+// For each state six bits: the place of the state after both nibbles. Again a match, which is one load.
 fn byte_row(b: u8) -> u64
     ensures { result ≡ byte_row b }
 {
@@ -321,53 +321,48 @@ fn after_byte(st: u64, b: u8) -> u64
 
 // ---- bodies
 
-// Whether a body is valid whose last n nibbles begin with a byte, by the state before them.
-fn valid_from(s: &[u8], from: usize, n: usize, state: u64) -> bool
-    requires { (n ≤ length (nibbles (drop from s.now))) × Placed state }
-    ensures { result ≡ eqb (place_after state (take n (nibbles (drop from s.now)))) 4 }
+// The place of the state in which no space waits: a body begins there, and a valid one ends there.
+const CLEAR: u64 = 4;
+
+// Whether a body is valid whose last n nibbles are the first ones of the bytes, by the state before them.
+fn valid_from(bytes: &[u8], n: usize, state: u64) -> bool
+    requires { (n ≤ 2 * length bytes.now) × Placed state }
+    ensures { result ≡ eqb (place_after state (take n (nibbles bytes.now))) 4 }
 {
-    let mut st = state / 4 * 6;
-    let mut i = from;
-    let mut left = n;
-    while 1 < left {
-        st = after_byte(st, s[i]);
-        i += 1;
-        left -= 2;
+    let mut place = state / 4 * 6;
+    for byte in &bytes[..n / 2] {
+        place = after_byte(place, *byte);
     }
-    if left == 0 {
-        return st % 64 == 6;
+    let state = place % 64 / 6 * 4;
+    if n % 2 == 0 {
+        return state == CLEAR;
     }
-    after(st % 64 / 6 * 4, s[i] / 16) == 4
+    after(state, bytes[n / 2] / 16) == CLEAR
 }
 
 // Two nibbles a byte. A body may begin in the middle of a byte, with its low half.
 fn valid_packed(s: &[u8], at: usize, len: usize) -> bool
-    requires { at + len ≤ length (nibbles s.now) }
+    requires { at + len ≤ 2 * length s.now }
     ensures { result ≡ text_valid (take len (drop at (nibbles s.now))) }
 {
     if at % 2 == 0 {
-        return valid_from(s, at / 2, len, 4);
+        return valid_from(&s[at / 2..], len, CLEAR);
     }
     if len == 0 {
         return true;
     }
-    valid_from(s, at / 2 + 1, len - 1, after(4, s[at / 2] % 16))
+    valid_from(&s[at / 2 + 1..], len - 1, after(CLEAR, s[at / 2] % 16))
 }
 
 // One nibble a byte.
-fn valid_spread(s: &[u8], at: usize, len: usize) -> bool
-    requires { at + len ≤ length s.now }
-    ensures { result ≡ text_valid (take len (drop at s.now)) }
+fn valid_spread(nibbles: &[u8]) -> bool
+    ensures { result ≡ text_valid nibbles.now }
 {
-    let mut st = 4;
-    let mut i = at;
-    let mut left = len;
-    while 0 < left {
-        st = after(st, s[i]);
-        i += 1;
-        left -= 1;
+    let mut state = CLEAR;
+    for n in nibbles {
+        state = after(state, *n);
     }
-    st == 4
+    state == CLEAR
 }
 
 // Whether the writer gives these nibbles for some text.
@@ -380,5 +375,5 @@ pub fn valid(s: &[u8], c: Cursor, len: usize) -> bool
     if packed {
         return valid_packed(s, at, len);
     }
-    valid_spread(s, at, len)
+    valid_spread(&s[at..at + len])
 }

@@ -1,3 +1,4 @@
 pub mod Displays
 pub mod Owning
 pub mod Readings
+pub mod Writing

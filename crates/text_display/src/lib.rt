@@ -1,243 +1,235 @@
 // The ship text for display: a reader that holds the slice of the report, and gives a symbol at each step.
 #![tactic(auto)]
 
-ghost use Rattle.std.specs.Prelude.{◌≡◌, [], ◌∷◌, ◌*◌, min, length};
+ghost use Rattle.std.specs.Prelude.{◌≡◌, [], ◌∷◌, ◌*◌, ◌≤◌, min, length};
 ghost use Rattle.format.specs.Bits.{Bytes};
 ghost use Rattle.format.specs.Calls as call;
 ghost use Rattle.format.specs.Buffer.{after, effect};
 ghost use Rattle.format.specs.Reply.{answer_of};
 ghost use Rattle.report.specs.Found.{FoundBySome};
-ghost use Rattle.text_display.specs.Reading.{Ends, Counted, EndsWithin, Written};
-ghost use Rattle.text_display.specs.Steps.{step_at, numbers_of, Opens, OpensAlways};
+ghost use Rattle.text_display.specs.Reading.{Written};
+ghost use Rattle.text_display.specs.Steps.{step_at, steps_left, numbers_of, Opens, OpensAlways};
 
-use format::{FlagTable, Reply};
-use report::{Inspected, Report};
+use format::{FlagTable, Outcome, Refusal, Reply};
+use report::Report;
+use text_reader::Origin;
+
+// The id of the ship text.
+const SHIP_TEXT: usize = 4;
+
+// The nibbles of an attachment's header.
+const HEADER: usize = 3;
+
+// The byte of a space.
+const SPACE: u8 = 32;
 
 // ---- the core, over a slice and numbers
 
-// A symbol's byte and its mark of origin, with the place and the spaces after it; or the end.
-#[derive(Clone, Copy)]
-pub enum Step {
-    Given(u8, u8, usize, usize),
-    End,
+// A symbol, by its byte and origin, with the place and the spaces after it.
+#[derive(Clone, Copy, Debug, PartialEq, Eq)]
+pub struct Step {
+    pub byte: u8,
+    pub origin: Origin,
+    pub at: usize,
+    pub spaces: usize,
 }
 
-// The place and the end of a reader that is opened, in nibbles; and its refusal's number and place, 0 where it has none.
-#[derive(Clone, Copy)]
+// The place and the end of a reader that is opened, in nibbles; and its refusal, if it has one.
+#[derive(Clone, Copy, Debug, PartialEq, Eq)]
 pub struct Opening {
     pub at: usize,
     pub end: usize,
-    pub number: u8,
-    pub place: usize,
+    pub refusal: Option<Refusal>,
 }
 
 // The end, or that of the slice where it is nearer.
-fn nearer(s: &[u8], end: usize) -> usize
-    ensures { result ≡ min end (2 * length s.now) }
+fn nearer(report: &[u8], end: usize) -> usize
+    ensures { result ≡ min end (2 * length report.now) }
 {
-    if end / 2 < s.len() {
-        return end;
-    }
-    s.len() * 2
+    end.min(report.len() * 2)
 }
 
-// A step on any bytes, from any place.
-fn step_at(s: &[u8], at: usize, end: usize, spaces: usize) -> Step
-    ensures { result ≡ step_at s.now at end spaces }
+// A step on any bytes, from any place, none at the end.
+fn step_at(report: &[u8], at: usize, end: usize, spaces: usize) -> Option<Step>
+    ensures { result ≡ step_at report.now at end spaces }
 {
     if 0 < spaces {
-        return Step::Given(32, 0, at, spaces - 1);
+        return Some(Step {
+            byte: SPACE,
+            origin: Origin::Plain,
+            at,
+            spaces: spaces - 1,
+        });
     }
-    let c = text_reader::code_at(s, at, nearer(s, end));
-    let n = c.nibbles;
-    if n == 0 {
-        return Step::End;
+    let code = text_reader::code_at(report, at, nearer(report, end))?;
+    Some(Step {
+        byte: code.byte,
+        origin: code.origin,
+        at: at + code.nibbles,
+        spaces: code.count - 1,
+    })
+}
+
+// An opening that is refused.
+fn refused(refusal: Refusal) -> Opening
+    ensures { result ≡ numbers_of 0 0 (Some refusal) }
+{
+    Opening {
+        at: 0,
+        end: 0,
+        refusal: Some(refusal),
     }
-    Step::Given(c.byte, c.origin, at + n, c.count - 1)
 }
 
 // Opens on a report that was inspected.
-fn numbers_found(s: &[u8], found: Report) -> Opening
-    requires { FoundBySome s.now 4 found × Bytes s.now }
-    ensures { OpensAlways s.now result }
+fn numbers_found(buffer: &[u8], report: Report) -> Opening
+    requires { FoundBySome buffer.now 4 report }
+    ensures { OpensAlways buffer.now result }
 {
-    let place = found.place;
-    if place == 0 {
-        return Opening {
-            at: 0,
-            end: 0,
-            number: 11,
-            place: 0,
-        };
-    }
+    let Some(held) = report.held else {
+        return refused(Refusal::NoSuch);
+    };
     Opening {
-        at: place + 3,
-        end: place + 3 + found.al,
-        number: 0,
-        place: 0,
+        at: held.place + HEADER,
+        end: held.place + HEADER + held.al,
+        refusal: None,
     }
 }
 
 // The numbers of a reader of the report's ship text.
-fn numbers(s: &[u8], marks: &FlagTable) -> Opening
-    ensures { Opens marks.now s.now result }
+fn numbers(buffer: &[u8], table: &FlagTable) -> Opening
+    ensures { Opens table.now buffer.now result }
 {
-    let i = report::inspect(s, 4, *marks);
-    match i {
-        Inspected::Refused(n, p) => Opening {
-            at: 0,
-            end: 0,
-            number: n,
-            place: p,
-        },
-        Inspected::Fine(found) => numbers_found(s, found),
+    match report::inspect(buffer, SHIP_TEXT, *table) {
+        Err(refusal) => refused(refusal),
+        Ok(report) => numbers_found(buffer, report),
     }
 }
 
 // ---- the reader
 
 // It stands at a place in nibbles, with the body's end, and has so many spaces of a run still to give. Where opening was refused
-// it has the refusal's number and place, and stands at its end.
-#[derive(Clone, Copy)]
+// it has the refusal, and stands at its end.
+#[derive(Clone, Copy, Debug, PartialEq, Eq)]
 pub struct Reader<'a> {
     pub report: &'a [u8],
     pub at: usize,
     pub end: usize,
     pub spaces: usize,
-    pub number: u8,
-    pub place: usize,
+    pub refusal: Option<Refusal>,
 }
 
-// Opens a reader of the report's ship text.
-pub fn open<'a>(report: &'a [u8], marks: &FlagTable) -> Reader<'a>
-    ensures { (result.report ≡ report.entry) × (result.spaces ≡ 0)
-        × Opens marks.now report.now (numbers_of result.at result.end result.number result.place) }
-{
-    let o = numbers(report, marks);
-    Reader {
-        report,
-        at: o.at,
-        end: o.end,
-        spaces: 0,
-        number: o.number,
-        place: o.place,
+// It gives its steps, and is moved on by each.
+impl<'a> Iterator for Reader<'a> {
+    ghost use Rattle.std.specs.Iterator.{YieldsFirst, item_count};
+    ghost use Rattle.text_display.specs.Steps.{steps_left};
+
+    type Item = Step;
+
+    ghost next_gives = { YieldsFirst steps_left };
+
+    ghost remaining = { item_count steps_left };
+
+    fn next(&mut self) -> Option<Step> {
+        let step = step_at(self.report, self.at, self.end, self.spaces)?;
+        self.at = step.at;
+        self.spaces = step.spaces;
+        Some(step)
     }
 }
 
-// The next symbol, or the end.
-pub fn next<'a>(r: Reader<'a>) -> Step
-    ensures { result ≡ step_at r.entry.report.now r.entry.at r.entry.end r.entry.spaces }
+// Opens a reader of the report's ship text.
+pub fn open<'a>(report: &'a [u8], table: &FlagTable) -> Reader<'a>
+    ensures { (result.report ≡ report.entry) × (result.spaces ≡ 0)
+        × Opens table.now report.now (numbers_of result.at result.end result.refusal) }
 {
-    step_at(r.report, r.at, r.end, r.spaces)
+    let opening = numbers(report, table);
+    Reader {
+        report,
+        at: opening.at,
+        end: opening.end,
+        spaces: 0,
+        refusal: opening.refusal,
+    }
+}
+
+// The next symbol, none at the end.
+pub fn next<'a>(reader: Reader<'a>) -> Option<Step>
+    ensures { result ≡ step_at reader.entry.report.now reader.entry.at reader.entry.end reader.entry.spaces }
+{
+    step_at(reader.report, reader.at, reader.end, reader.spaces)
 }
 
 // The reader behind a symbol, at the place and with the spaces that came with it.
-pub fn moved<'a>(r: Reader<'a>, at: usize, spaces: usize) -> Reader<'a>
-    ensures { (result.report ≡ r.entry.report) × (result.at ≡ at) × (result.end ≡ r.entry.end) × (result.spaces ≡ spaces)
-        × (result.number ≡ r.entry.number) × (result.place ≡ r.entry.place) }
+pub fn moved<'a>(reader: Reader<'a>, at: usize, spaces: usize) -> Reader<'a>
+    ensures { (result.report ≡ reader.entry.report) × (result.at ≡ at) × (result.end ≡ reader.entry.end) × (result.spaces ≡ spaces)
+        × (result.refusal ≡ reader.entry.refusal) }
 {
     Reader {
-        report: r.report,
         at,
-        end: r.end,
         spaces,
-        number: r.number,
-        place: r.place,
+        ..reader
     }
 }
 
 // ---- with plain parameters
 
 // A reader opened, and its numbers.
-pub fn opened(s: &[u8], marks: &FlagTable) -> Opening
-    ensures { Opens marks.now s.now result }
+pub fn opened(buffer: &[u8], table: &FlagTable) -> Opening
+    ensures { Opens table.now buffer.now result }
 {
-    let r = open(s, marks);
+    let reader = open(buffer, table);
     Opening {
-        at: r.at,
-        end: r.end,
-        number: r.number,
-        place: r.place,
+        at: reader.at,
+        end: reader.end,
+        refusal: reader.refusal,
     }
 }
 
 // A step of a reader with these numbers, whatever they are.
-pub fn step_of(s: &[u8], at: usize, end: usize, spaces: usize) -> Step
-    ensures { result ≡ step_at s.now at end spaces }
+pub fn step_of(buffer: &[u8], at: usize, end: usize, spaces: usize) -> Option<Step>
+    ensures { result ≡ step_at buffer.now at end spaces }
 {
     next(Reader {
-        report: s,
+        report: buffer,
         at,
         end,
         spaces,
-        number: 0,
-        place: 0,
+        refusal: None,
     })
 }
 
 // ---- read out
 
-// How many symbols a reader gives.
-fn count_out(s: &[u8], at: usize, end: usize) -> usize
-    requires { Ends s.now at end }
-    ensures { Counted s.now at end result }
+// Writes the bytes of the symbols that a reader has left, and their marks of origin.
+fn write_out(reader: Reader, out: &mut [u8], origins: &mut [u8])
+    requires { (length (steps_left reader) ≤ length out.old) × (length (steps_left reader) ≤ length origins.old) }
+    ensures { Written (steps_left reader.entry) out.old origins.old out.new origins.new }
 {
-    let mut place = at;
-    let mut spaces = 0;
-    let mut n = 0;
-    loop {
-        let t = step_of(s, place, end, spaces);
-        match t {
-            Step::End => return n,
-            Step::Given(_, _, a, w) => {
-                place = a;
-                spaces = w;
-                n += 1;
-            }
-        }
-    }
-}
-
-// Writes their bytes and their marks of origin.
-fn write_out(s: &[u8], at: usize, end: usize, out: &mut [u8], origins: &mut [u8])
-    requires { EndsWithin s.now at end (length out.old) (length origins.old) }
-    ensures { Written s.now at end out.old origins.old out.new origins.new }
-{
-    let mut place = at;
-    let mut spaces = 0;
-    let mut n = 0;
-    loop {
-        let t = step_of(s, place, end, spaces);
-        match t {
-            Step::End => return,
-            Step::Given(b, o, a, w) => {
-                out[n] = b;
-                origins[n] = o;
-                place = a;
-                spaces = w;
-                n += 1;
-            }
-        }
+    for (place, step) in reader.enumerate() {
+        let mark = step.origin.mark();
+        out[place] = step.byte;
+        origins[place] = mark;
     }
 }
 
 // Fetches the ship text by a reader: opened, read to its end to count the symbols, and read to its end once more.
-pub fn read_out(s: &[u8], out: &mut [u8], origins: &mut [u8], marks: &FlagTable) -> Reply
-    ensures { after (answer_of result) s.now (out.new ∷ origins.new ∷ [])
-        ≡ effect marks.now s.now (call.fetches (call.fetch_text out.old origins.old)) }
+pub fn read_out(buffer: &[u8], out: &mut [u8], origins: &mut [u8], table: &FlagTable) -> Reply
+    ensures { after (answer_of result) buffer.now (out.new ∷ origins.new ∷ [])
+        ≡ effect table.now buffer.now (call.fetches (call.fetch_text out.old origins.old)) }
 {
-    let o = opened(s, marks);
-    if o.number != 0 {
-        return Reply::Refused(o.number, o.place);
+    let reader = open(buffer, table);
+    if let Some(refusal) = reader.refusal {
+        return Err(refusal);
     }
-    let n = count_out(s, o.at, o.end);
-    if out.len() < n {
-        return Reply::Refused(13, 0);
+    let count = reader.count();
+    if out.len() < count {
+        return Err(Refusal::Room);
     }
-    if origins.len() < n {
-        return Reply::Refused(13, 0);
+    if origins.len() < count {
+        return Err(Refusal::Room);
     }
-    write_out(s, o.at, o.end, out, origins);
-    let nibbles = (o.end - o.at) as u8;
-    Reply::Text(n, call_fetches::deck_set(s), nibbles)
+    write_out(reader, out, origins);
+    let nibbles = (reader.end - reader.at) as u8;
+    Ok(Outcome::Text(count, call_fetches::deck_set(buffer), nibbles))
 }

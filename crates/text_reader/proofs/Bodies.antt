@@ -5,18 +5,24 @@ use native.Mathlib.Omega.{arith}
 use mathlib.Core.Path.{◌≡◌, refl, sym, ap, ap₂, subst, ◌∙◌}
 use mathlib.Core.Bool.{true}
 use mathlib.Core.List.{List, [], ◌∷◌, ◌++◌, map, append-nil, append_assoc, map-append}
-use lib.Dec.{leb}
+use lib.Dec.{leb, ltb}
 use lib.ListN.{length, take, drop, replicate, length-append, length-take, length-drop, length-map, length-replicate}
 use lib.Seq.{take-add, take-take, drop-drop, sets}
-use borrow.Author.Tests.{le-leb}
+use borrow.Author.Tests.{le-leb, ltb-true, ltb-false}
+use Rattle.format.specs.Nibbles.{nibbles}
 use Rattle.format.specs.ShipText.{TextState, Between}
 use Rattle.format.specs.ShipText.{Symbol, plain, spaces, read_from, end_from, at_end, text_valid, read_text}
 use Rattle.format.specs.Calls.{over}
+use Rattle.laws.proofs.Nibbles.{length-nibbles}
 use Rattle.laws.proofs.ShipText.{read_append, end_append, credit, read_length, read_text_length}
+use Rattle.text_reader.specs.declared.Body.{Body}
 use Rattle.text_reader.specs.declared.Code.{Code}
-use Rattle.text_reader.specs.Codes.{code_in}
+use Rattle.text_reader.specs.Codes.{code_at, code_in}
+use Rattle.text_reader.specs.Content.{content}
+use Rattle.std.specs.Prelude.{Some, None}
+use Rattle.laws.proofs.Sequences.{test_case}
 use Rattle.laws.proofs.Stores.{stores, stores_length, stores_over}
-use Rattle.text_reader.proofs.Reading.{symbol_in, Taken, taken, held, end_held, held-given, held_credit}
+use Rattle.text_reader.proofs.Reading.{symbol_in, none_some, some_same, code_end, Taken, taken, held, end_held, held-given, held_credit}
 
 map-replicate : {A : Type 0} (f : A → ℕ) (n : ℕ) (x : A) → map f (replicate n x) ≡ replicate n (f x)
 map-replicate f zero x = refl
@@ -114,26 +120,39 @@ module _ (v : List ℕ) (at len : ℕ) (valid : text_valid (take len (drop at v)
       let e : i ≡ len = omega arith in
       ap (laid v at) e ∙ ap (λ (w : ℕ). given v at len ++ spaces w) (end_held (reached v at len) valid) ∙ append-nil (given v at len)
 
-  module _ (fits : at + len ≤ length v) (count i : ℕ) (p : Parsed v at len count i) (h : i < len) where
+  module _ (fits : at + len ≤ length v) (count i : ℕ) (p : Parsed v at len count i) (end place : ℕ) (z : end ≡ at + len) (y : place ≡ at + i) where
     abbrev left : List ℕ
-    left = take (len - i) (drop (at + i) v)
+    left = take (end - place) (drop place v)
 
-    code_taken : Taken (held (reached v at i)) left (code_in left)
-    code_taken =
-        taken (held (reached v at i)) left (omega (arith, length-take (len - i) (drop (at + i) v), length-drop (at + i) v))
-        (ap (λ (st : TextState). at_end (end_from st left)) (sym p.state) ∙ ends i p.inside)
+    left_is : left ≡ take (len - i) (drop (at + i) v)
+    left_is = let k : end - place ≡ len - i = omega arith in ap₂ (λ (m j : ℕ). take m (drop j v)) k y
 
-    module _ (end : ℕ) (z : end ≡ at + len) (c : Code) (e : c ≡ code_in (take (end - (at + i)) (drop (at + i) v))) where
+    left_length : length left ≡ len - i
+    left_length = omega (arith, p.inside, length-take (end - place) (drop place v), length-drop place v)
+
+    code_taken : i < len → Taken (held (reached v at i)) left (code_at left) × (code_in left ≡ Some (code_at left))
+    code_taken h =
+        taken (held (reached v at i)) left (omega (arith, left_length))
+        (ap₂ (λ (st : TextState) (l : List ℕ). at_end (end_from st l)) (sym p.state) left_is ∙ ends i p.inside)
+
+    -- before the end there is a code
+    pub code_there : i < len → Some (code_at left) ≡ code_in left
+    code_there h = sym (code_taken h).1
+
+    -- and where there is none, that is the end
+    pub all_read : None ≡ code_in left → len ≤ i
+    all_read e = test_case (ltb i len) (λ f. absurd (none_some (e ∙ (code_taken (ltb-true i len f)).1))) (λ f. ltb-false i len f)
+
+    module _ (c : Code) (e : Some c ≡ code_in left) where
+      h : i < len
+      h = test_case (ltb i len) (λ f. ltb-true i len f) (λ f. let k = ltb-false i len f in absurd (none_some (code_end left (omega (arith, left_length)) ∙ sym e)))
+
       this : Taken (held (reached v at i)) left c
-      this =
-          let k : end - (at + i) ≡ len - i = omega arith in
-          subst (Taken (held (reached v at i)) left) (sym (e ∙ ap (λ (m : ℕ). code_in (take m (drop (at + i) v))) k)) code_taken
+      this = let t = code_taken h in subst (Taken (held (reached v at i)) left) (some_same (sym t.1 ∙ sym e)) t.0
 
       -- its nibbles, among those that are left
       front : take c.nibbles left ≡ take c.nibbles (drop (at + i) v)
-      front =
-          let k : c.nibbles ≤ len - i = omega (arith, this.inside, length-take (len - i) (drop (at + i) v)) in
-          take-take c.nibbles (len - i) (drop (at + i) v) k
+      front = ap (take c.nibbles) left_is ∙ take-take c.nibbles (len - i) (drop (at + i) v) (omega (arith, this.inside, left_length))
 
       reached_code : reached v at (i + c.nibbles) ≡ Between this.waits
       reached_code =
@@ -168,7 +187,7 @@ module _ (v : List ℕ) (at len : ℕ) (valid : text_valid (take len (drop at v)
           )
 
       pub code_inside : (0 < c.nibbles) × (i + c.nibbles ≤ len)
-      code_inside = (this.some, omega (arith, this.inside, length-take (len - i) (drop (at + i) v)))
+      code_inside = (this.some, omega (arith, h, this.inside, left_length))
 
       pub parse_more : Parsed v at len (count + c.count) (i + c.nibbles)
       unfolding held
@@ -205,7 +224,77 @@ module _ (v : List ℕ) (at len : ℕ) (valid : text_valid (take len (drop at v)
       let xs = read_text (take len (drop at v)) in
       stores_over d out (map f xs) (omega (arith, length-map xs f)) (e ∙ ap (λ (l : List Symbol). sets d 0 (map f l)) (laid_all i p.inside k))
 
+-- ---- the loops over a body
+
+-- a loop stands at a place in the body, behind so many symbols
+pub record Reached (b : Body) (end count place : ℕ) : Type 0 where
+  pub done : ℕ
+  pub there : place ≡ b.at + done
+  pub ends : end ≡ b.at + b.len
+  pub parsed : Parsed (nibbles b.report.now) b.at b.len count done
+
+abbrev pub reach_none : (b : Body) → Reached b (b.at + b.len) 0 b.at
+reach_none b = record { done = 0; there = omega arith; ends = refl; parsed = parse_none (nibbles b.report.now) b.at b.len }
+
+-- of the symbols so far what f gives of each is laid
+pub record Stored (b : Body) (f : Symbol → ℕ) (done : ℕ) (before after : List ℕ) : Type 0 where
+  pub is : after ≡ sets before 0 (map f (laid (nibbles b.report.now) b.at done))
+
+pub stored_none : (b : Body) (f : Symbol → ℕ) (before : List ℕ) → Stored b f 0 before before
+stored_none b f before = record { is = ap (λ (l : List Symbol). sets before 0 (map f l)) (laid_none (nibbles b.report.now) b.at) }
+
+module _ {b : Body} {end count place : ℕ} (r : Reached b end count place) where
+  abbrev v : List ℕ
+  v = nibbles b.report.now
+
+  pub lies : b.at + b.len ≤ length (nibbles b.report.now)
+  lies = omega (arith, length-nibbles b.report.now, b.inside)
+
+  module _ {c : Code} (e : Some c ≡ code_in (take (end - place) (drop place (nibbles b.report.now)))) where
+    abbrev pub reach_more : Reached b end (count + c.count) (place + c.nibbles)
+    reach_more = record {
+      done = r.done + c.nibbles;
+      there = omega (arith, r.there);
+      ends = r.ends;
+      parsed = parse_more v b.at b.len b.valid lies count r.done r.parsed end place r.ends r.there c e;
+    }
+
+    -- the next place is further on, and no sum wraps
+    pub reach_bounds : (0 < c.nibbles) × (place + c.nibbles ≤ b.at + b.len) × (end ≡ b.at + b.len) × (count + c.count ≤ 9 * b.len)
+    reach_bounds =
+        let inside = code_inside v b.at b.len b.valid lies count r.done r.parsed end place r.ends r.there c e in (
+          inside.0,
+          omega (arith, inside.1, r.there),
+          r.ends,
+          code_small v b.at b.len b.valid lies count r.done r.parsed end place r.ends r.there c e,
+        )
+
+    module _ {f : Symbol → ℕ} {before after : List ℕ} (s : Stored b f r.done before after) where
+      -- there is room where the whole text has room
+      pub reach_room : length (read_text (content b)) ≤ length before → count + c.count ≤ length after
+      reach_room room =
+          omega (
+            arith,
+            room,
+            code_fits v b.at b.len b.valid lies count r.done r.parsed end place r.ends r.there c e,
+            laid_room v b.at f r.done before after s.is,
+          )
+
+      pub reach_stored : {x : ℕ} {out : List ℕ} → f (symbol_in c) ≡ x → out ≡ sets after count (replicate c.count x) → Stored b f (r.done + c.nibbles) before out
+      reach_stored g q = record { is = store_code v b.at b.len b.valid lies count r.done r.parsed end place r.ends r.there c e f _ g before after _ s.is q }
+
+  module _ (e : None ≡ code_in (take (end - place) (drop place (nibbles b.report.now)))) where
+    last : b.len ≤ r.done
+    last = all_read v b.at b.len b.valid lies count r.done r.parsed end place r.ends r.there e
+
+    pub reach_count : count ≡ length (read_text (content b))
+    reach_count = count_end v b.at b.len b.valid count r.done r.parsed last
+
+    pub reach_all : {f : Symbol → ℕ} {before after : List ℕ} → Stored b f r.done before after → length (read_text (content b)) ≤ length before
+        → after ≡ over (map f (read_text (content b))) before
+    reach_all s room = store_end v b.at b.len b.valid _ count r.done _ _ r.parsed last room s.is
+
 -- it fits where nine symbols a nibble fit
-pub fits_all : (v : List ℕ) (at len room : ℕ) → 9 * len ≤ room → true ≡ leb (length (read_text (take len (drop at v)))) room
-fits_all v at len room h =
-    sym (le-leb _ room (omega (arith, read_text_length (take len (drop at v)), length-take len (drop at v))))
+pub fits_all : (b : Body) (room : ℕ) → 9 * b.len ≤ room → true ≡ leb (length (read_text (content b))) room
+fits_all b room h =
+    sym (le-leb _ room (omega (arith, read_text_length (content b), length-take b.len (drop b.at (nibbles b.report.now)))))

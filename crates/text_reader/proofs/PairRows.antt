@@ -4,11 +4,12 @@ use Prim.Native.Nat.{ℕ, zero, suc, ◌+◌, ◌-◌, ◌*◌, ◌/◌, ◌%◌
 use native.Mathlib.Omega.{arith}
 use native.Mathlib.Nat.{zero-div}
 use mathlib.Core.Path.{◌≡◌, refl, sym, ap, ◌∙◌}
-use mathlib.Core.Bool.{true}
+use mathlib.Core.Bool.{true, cond}
 use mathlib.Core.List.{List, [], ◌∷◌}
 use lib.ListN.{length, get_or}
 use lib.Dec.{ltb, eqb}
-use borrow.Author.Tests.{eqb-true, ltb-true, ltb-false}
+use borrow.Author.Tests.{eqb-true, ne_eqb, ltb-true, ltb-false}
+use Rattle.std.specs.Prelude.{Some, None}
 use Rattle.format.specs.ShipText.{pair_byte}
 use Rattle.laws.proofs.Sequences.{test_case}
 use Rattle.laws.proofs.Characters.{all_below, at_below, no_row}
@@ -37,16 +38,18 @@ pair_row z n h k =
     let m : 12 ≤ n = omega arith in
     rw (beyond pair_rows n m, zero-div (2 ^ ((z - 12) * 8))) (sym (no_row z n o)))
 
+-- the byte b that the table gives is the pair's, or the pair is undefined
+module _ (z n r : ℕ) (h : 12 ≤ z) (k : z ≤ 14) (e : r ≡ get_or pair_rows n 0) where
+  pair_is : pair_byte z n ≡ r / 2 ^ ((z - 12) * 8) % 256
+  pair_is = sym (ap (λ (x : ℕ). x / 2 ^ ((z - 12) * 8) % 256) e ∙ pair_row z n h k)
+
+  pub pair_none : r / 2 ^ ((z - 12) * 8) % 256 ≡ 0 → None ≡ cond (eqb (pair_byte z n) 0) None (Some (pair_byte z n))
+  pair_none f = rw (pair_is, f)
+
+  pub pair_some : (r / 2 ^ ((z - 12) * 8) % 256 ≡ 0 → ⊥) → Some (r / 2 ^ ((z - 12) * 8) % 256) ≡ cond (eqb (pair_byte z n) 0) None (Some (pair_byte z n))
+  pair_some f = rw (pair_is, ne_eqb _ 0 f)
+
 -- ---- the last arm of a match on a nibble
 
--- none of 0 to m - 1
-abbrev None : ℕ → ℕ → Type 0
-None zero n = Unit {0}
-None (suc m) n = None m n × (n ≡ m → ⊥)
-
-none_le : (m n : ℕ) → None m n → m ≤ n
-none_le zero n r = omega arith
-none_le (suc m) n r = let h = none_le m n r.0 in let e : n ≡ m → ⊥ = r.1 in omega arith
-
-pub beyond_pairs : (n : ℕ) → None 12 n → 0 ≡ get_or pair_rows n 0
-beyond_pairs n r = sym (beyond pair_rows n (none_le 12 n r))
+pub beyond_pairs : (n : ℕ) → 12 ≤ n → 0 ≡ get_or pair_rows n 0
+beyond_pairs n h = sym (beyond pair_rows n h)

@@ -1,3 +1,4 @@
 pub mod Pairs
 pub mod Codes
 pub mod Answers
+pub mod Content

@@ -1,14 +1,14 @@
 // The ship text of attachment 4: its codes, and its symbols read to two outputs.
 #![tactic(auto)]
 
-ghost use Rattle.std.specs.Prelude.{◌≡◌, true, map, ◌+◌, ◌-◌, ◌*◌, ◌≤◌, ◌<◌, ◌^◌, leb, length, get_or, take, drop, replicate};
+ghost use Rattle.std.specs.Prelude.{◌≡◌, true, map, Some, None, cond, eqb, ◌+◌, ◌-◌, ◌*◌, ◌≤◌, ◌<◌, ◌^◌, leb, length, get_or, take, drop, replicate};
 ghost use Rattle.std.proofs.lemmas.List.Edits.{sets};
 ghost use Rattle.format.specs.Nibbles.{nibbles};
 ghost use Rattle.format.specs.ShipText.{pair_byte, byte_of, origin_of, text_valid, read_text};
 ghost use Rattle.format.specs.Calls.{over};
 ghost use Rattle.text_reader.specs.Answers.{Shortest};
 ghost use Rattle.text_reader.specs.Pairs.{pair_rows};
-ghost use Rattle.text_reader.specs.Codes.{code, code_in};
+ghost use Rattle.text_reader.specs.Codes.{mark, code, code_in, body};
 
 // ---- a code
 
@@ -33,101 +33,94 @@ fn pairs(n: u8) -> u64
     }
 }
 
-// The byte of a pair, 0 where the pair is undefined.
-fn pair_byte(z: u8, n: u8) -> u8
+// The byte of a pair, none where the pair is undefined.
+fn pair_byte(z: u8, n: u8) -> Option<u8>
     requires { (12 ≤ z) × (z ≤ 14) }
-    ensures { result ≡ pair_byte z n }
+    ensures { result ≡ cond (eqb (pair_byte z n) 0) None (Some (pair_byte z n)) }
 {
     let shift = (z - 12) as u64 * 8;
-    ((pairs(n) >> shift) % 256) as u8
+    let byte = ((pairs(n) >> shift) % 256) as u8;
+    if byte == 0 {
+        return None;
+    }
+    Some(byte)
 }
 
-// How many nibbles, and the symbols that they stand for: so many times one byte of one origin, 0 plain and 1 original.
-#[derive(Clone, Copy)]
+// Whether a symbol is a plain byte or an original one.
+#[derive(Clone, Copy, Debug, PartialEq, Eq)]
+pub enum Origin {
+    Plain,
+    Original,
+}
+
+impl Origin {
+    // Its mark in a row of marks of origin.
+    pub fn mark(self) -> u8
+        ensures { result ≡ mark self }
+    {
+        match self {
+            Origin::Plain => 0,
+            Origin::Original => 1,
+        }
+    }
+}
+
+// How many nibbles, and the symbols that they stand for: so many times one byte of one origin.
+#[derive(Clone, Copy, Debug, PartialEq, Eq)]
 pub struct Code {
     pub nibbles: usize,
     pub count: usize,
     pub byte: u8,
-    pub origin: u8,
+    pub origin: Origin,
 }
 
-fn coded(nibbles: usize, count: usize, byte: u8, origin: u8) -> Code
-    ensures { result ≡ code nibbles count byte origin }
+fn coded(nibbles: usize, count: usize, byte: u8, origin: Origin) -> Option<Code>
+    ensures { result ≡ Some (code nibbles count byte origin) }
 {
-    Code {
+    Some(Code {
         nibbles,
         count,
         byte,
         origin,
-    }
+    })
 }
 
-// The code at a place, with 0 nibbles where none is whole before the end.
-pub fn code_at(s: &[u8], at: usize, end: usize) -> Code
+// The code at a place, none where none is whole before the end.
+pub fn code_at(s: &[u8], at: usize, end: usize) -> Option<Code>
     requires { end ≤ 2 * length s.now }
     ensures { result ≡ code_in (take (end - at) (drop at (nibbles s.now))) }
 {
     if end <= at {
-        return coded(0, 0, 0, 0);
+        return None;
     }
     let n = nibble::packed_at(s, at);
     if n < 10 {
-        return coded(1, 1, 48 + n, 0);
+        return coded(1, 1, 48 + n, Origin::Plain);
     }
     if n == 10 {
-        return coded(1, 1, 32, 0);
+        return coded(1, 1, 32, Origin::Plain);
     }
     if end - at < 2 {
-        return coded(0, 0, 0, 0);
+        return None;
     }
     let m = nibble::packed_at(s, at + 1);
     if n == 11 {
-        return coded(2, m as usize + 3, 32, 0);
+        return coded(2, m as usize + 3, 32, Origin::Plain);
     }
     if n < 15 {
-        let b = pair_byte(n, m);
-        if b == 0 {
-            return coded(0, 0, 0, 0);
-        }
-        return coded(2, 1, b, 0);
+        let byte = pair_byte(n, m)?;
+        return coded(2, 1, byte, Origin::Plain);
     }
     if end - at < 3 {
-        return coded(0, 0, 0, 0);
+        return None;
     }
     let l = nibble::packed_at(s, at + 2);
-    coded(3, 1, m * 16 + l, 1)
+    coded(3, 1, m * 16 + l, Origin::Original)
 }
 
 // ---- the symbols of a valid body
 
-// How many there are.
-fn text_length(s: &[u8], at: usize, len: usize) -> usize
-    requires { (at + len ≤ 2 * length s.now) × (at ≤ 2 ^ 32) × (len ≤ 4096) × (text_valid (take len (drop at (nibbles s.now))) ≡ true) }
-    ensures { result ≡ length (read_text (take len (drop at (nibbles s.now)))) }
-{
-    let end = at + len;
-    let mut count = 0;
-    let mut i = 0;
-    while i < len {
-        let k = code_at(s, at + i, end);
-        count += k.count;
-        i += k.nibbles;
-    }
-    count
-}
-
-// Whether there is room for them. Two nibbles give 18 symbols at most.
-pub fn fits(s: &[u8], at: usize, len: usize, room: usize) -> bool
-    requires { (at + len ≤ 2 * length s.now) × (at ≤ 2 ^ 32) × (len ≤ 4096) × (text_valid (take len (drop at (nibbles s.now))) ≡ true) }
-    ensures { result ≡ leb (length (read_text (take len (drop at (nibbles s.now))))) room }
-{
-    if 9 * len <= room {
-        return true;
-    }
-    text_length(s, at, len) <= room
-}
-
-// Writes a byte so many times, from a place on.
+// Writes a byte so many times, from a place on. One byte, as most codes give, is a store alone, faster than a fill.
 pub fn put_bytes(out: &mut [u8], at: usize, count: usize, b: u8)
     requires { at + count ≤ length out.old }
     ensures { out.new ≡ sets out.old at (replicate count b) }
@@ -136,31 +129,67 @@ pub fn put_bytes(out: &mut [u8], at: usize, count: usize, b: u8)
         out[at] = b;
         return;
     }
-    let mut i = 0;
-    while i < count {
-        out[at + i] = b;
-        i += 1;
-    }
+    out[at..at + count].fill(b);
 }
 
-// Writes the bytes of the symbols and their marks of origin, and gives how many there are.
-pub fn read(s: &[u8], at: usize, len: usize, out: &mut [u8], origins: &mut [u8]) -> usize
-    requires { (at + len ≤ 2 * length s.now) × (at ≤ 2 ^ 32) × (len ≤ 4096) × (text_valid (take len (drop at (nibbles s.now))) ≡ true)
-        × (length (read_text (take len (drop at (nibbles s.now)))) ≤ length out.old) × (length (read_text (take len (drop at (nibbles s.now)))) ≤ length origins.old) }
-    ensures { (out.new ≡ over (map byte_of (read_text (take len (drop at (nibbles s.now))))) out.old)
-        × (origins.new ≡ over (map origin_of (read_text (take len (drop at (nibbles s.now))))) origins.old)
-        × (result ≡ length (read_text (take len (drop at (nibbles s.now)))))
-        × Shortest (read_text (take len (drop at (nibbles s.now)))) (take len (drop at (nibbles s.now))) }
-{
-    let end = at + len;
-    let mut count = 0;
-    let mut i = 0;
-    while i < len {
-        let k = code_at(s, at + i, end);
-        put_bytes(out, count, k.count, k.byte);
-        put_bytes(origins, count, k.count, k.origin);
-        count += k.count;
-        i += k.nibbles;
+// A valid body: so many nibbles of a report, from a place on.
+#[derive(Clone, Copy)]
+pub struct Body<'a> {
+    pub report: &'a [u8],
+    pub at: usize,
+    pub len: usize,
+    pub ghost inside: { at + len ≤ 2 * length report.now },
+    pub ghost near: { at ≤ 2 ^ 32 },
+    pub ghost short: { len ≤ 4096 },
+    pub ghost valid: { text_valid (body report.now at len) ≡ true },
+}
+
+impl Body<'_> {
+    ghost use Rattle.text_reader.specs.Content.{content};
+
+    // How many there are.
+    #[tactic(auto, using(crate::proofs::Bodies::reach_none, crate::proofs::Bodies::reach_more))]
+    fn text_length(self) -> usize
+        ensures { result ≡ length (read_text (content self.entry)) }
+    {
+        let end = self.at + self.len;
+        let mut count = 0;
+        let mut place = self.at;
+        while let Some(code) = code_at(self.report, place, end) {
+            count += code.count;
+            place += code.nibbles;
+        }
+        count
     }
-    count
+
+    // Whether there is room for them. Two nibbles give 18 symbols at most.
+    #[tactic(auto, using(crate::proofs::Bodies::fits_all))]
+    pub fn fits(self, room: usize) -> bool
+        ensures { result ≡ leb (length (read_text (content self.entry))) room }
+    {
+        if 9 * self.len <= room {
+            return true;
+        }
+        self.text_length() <= room
+    }
+
+    // Writes the bytes of the symbols and their marks of origin, and gives how many there are.
+    pub fn read(self, out: &mut [u8], origins: &mut [u8]) -> usize
+        requires { (length (read_text (content self)) ≤ length out.old) × (length (read_text (content self)) ≤ length origins.old) }
+        ensures { (out.new ≡ over (map byte_of (read_text (content self.entry))) out.old)
+            × (origins.new ≡ over (map origin_of (read_text (content self.entry))) origins.old)
+            × (result ≡ length (read_text (content self.entry)))
+            × Shortest (read_text (content self.entry)) (content self.entry) }
+    {
+        let end = self.at + self.len;
+        let mut count = 0;
+        let mut place = self.at;
+        while let Some(code) = code_at(self.report, place, end) {
+            put_bytes(out, count, code.count, code.byte);
+            put_bytes(origins, count, code.count, code.origin.mark());
+            count += code.count;
+            place += code.nibbles;
+        }
+        count
+    }
 }

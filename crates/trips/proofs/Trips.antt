@@ -28,8 +28,12 @@ use Rattle.laws.proofs.Report.{size_is}
 use Rattle.laws.proofs.Whole.{pack_outcome, unpack_accepted, pack-unpacked, unpack-after-pack}
 use Rattle.laws.proofs.Effects.{refused_accepted}
 use Rattle.report.specs.Answers.{judged_of}
-use Rattle.report.specs.declared.Judged.{Judged}
-use Rattle.unpack.specs.Answers.{contents_numbers}
+use Rattle.std.specs.Prelude.{Result, Ok, Err, IsErrAnd}
+use Rattle.format.specs.Reply.{refusal_of}
+use Rattle.format.specs.declared.Refusal as code
+use Rattle.laws.proofs.Results.{err_is}
+use Rattle.pack.specs.Answers.{pack_answer}
+use Rattle.unpack.specs.Answers.{contents_numbers, unpack_answer}
 use Rattle.unpack.specs.declared.Contents.{Contents}
 use Rattle.trips.specs.Trips.{trip, restore_checks, restored_by, restored_on, restored, recover_checks, recovered_by, recovered, Holds}
 
@@ -66,20 +70,20 @@ amounts (Answer.refused r) = []
 amounts (Answer.accepted gs) = map (λ (g : Given). amount g.number) gs
 
 module _ (marks : FlagTable) (b : List ℕ) (vs us : List ℤ) (ns ts : List ℕ) where
-  pub restore_refused : (n p : ℕ) (out : List ℕ) → unpacked (refusal n p) us ts ≡ unpack marks b vs ns → trip (refusal n p) us ts out ≡ restored marks b vs ns out
+  pub restore_refused : (r : Refusal) (out : List ℕ) → unpacked (Answer.refused r) us ts ≡ unpack marks b vs ns → trip (Answer.refused r) us ts out ≡ restored marks b vs ns out
   unfolding unpack restored
-  restore_refused n p out = go (judge marks b)
+  restore_refused r out = go (judge marks b)
     where
-      inner : (s : Observation) (t : Bool) → too_short s vs ns ≡ t → unpacked (refusal n p) us ts ≡ unpacked_by (first (unpack_checks s vs ns)) s vs ns
-          → trip (refusal n p) us ts out ≡ restored_on (Verdict.accepted s) b vs ns out
+      inner : (s : Observation) (t : Bool) → too_short s vs ns ≡ t → unpacked (Answer.refused r) us ts ≡ unpacked_by (first (unpack_checks s vs ns)) s vs ns
+          → trip (Answer.refused r) us ts out ≡ restored_on (Verdict.accepted s) b vs ns out
       inner s true q e =
           let f = e ∙ by_test s vs ns true q in
           (λ i. trip (f i).answer (f i).values (f i).tail out)
           ∙ ap (λ (o : Option Refusal). restored_by o s b vs ns out) (sym (first_fits _ _ q))
       inner s false q e = refused_accepted _ _ (ap (λ (u : Unpacked). u.answer) (e ∙ by_test s vs ns false q))
 
-      go : (v : Verdict) → unpacked (refusal n p) us ts ≡ unpack_on v vs ns → trip (refusal n p) us ts out ≡ restored_on v b vs ns out
-      go (Verdict.refused r) e = λ i. trip (e i).answer (e i).values (e i).tail out
+      go : (v : Verdict) → unpacked (Answer.refused r) us ts ≡ unpack_on v vs ns → trip (Answer.refused r) us ts out ≡ restored_on v b vs ns out
+      go (Verdict.refused q) e = λ i. trip (e i).answer (e i).values (e i).tail out
       go (Verdict.accepted s) e = inner s (too_short s vs ns) refl e
 
   numbers_word : (c : Contents) (s : Observation) → Answer.accepted (contents_numbers c) ≡ Answer.accepted (unpack_gives s)
@@ -162,35 +166,36 @@ module _ (marks : FlagTable) (b : List ℕ) (bs : Bytes b) (vs us : List ℤ) (n
       ∙ ap (λ (v : Verdict). restored_on v b vs ns out) (sym o.verdict)
 
 -- the report is refused; the output is too short for it; it holds it
-module _ (marks : FlagTable) (b : List ℕ) (j : Judged) (is : j ≡ judged_of (judge marks b)) where
-  pub report_refused : (n p : ℕ) (vs : List ℤ) (ns out : List ℕ) → j ≡ Judged.Refused n p → trip (refusal n p) vs ns out ≡ restored marks b vs ns out
+module _ (marks : FlagTable) (b : List ℕ) where
+  refused_by : (r : Refusal) (vs : List ℤ) (ns out : List ℕ) → Err r ≡ judged_of (judge marks b) → trip (Answer.refused r) vs ns out ≡ restored marks b vs ns out
   unfolding restored
-  report_refused n p vs ns out e = go (judge marks b) (sym e ∙ is)
+  refused_by r vs ns out = go (judge marks b)
     where
-      go : (v : Verdict) → Judged.Refused n p ≡ judged_of v → trip (refusal n p) vs ns out ≡ restored_on v b vs ns out
-      go (Verdict.refused r) q =
-          let x : n ≡ r.number = cc in
-          let y : p ≡ r.place = cc in
-          ap₂ (λ (k m : ℕ). trip (refusal k m) vs ns out) x y
-      go (Verdict.accepted s) q = let z : ◌≡◌ {A = ℕ} 0 1 = cc in absurd (omega arith)
+      go : (v : Verdict) → Err r ≡ judged_of v → trip (Answer.refused r) vs ns out ≡ restored_on v b vs ns out
+      go (Verdict.refused q) e = let x : r ≡ q = cc in ap (λ (k : Refusal). trip (Answer.refused k) vs ns out) x
+      go (Verdict.accepted s) e = absurd (cc)
 
-  pub report_no_room : (n : ℕ) (vs : List ℤ) (ns out : List ℕ) → j ≡ Judged.Accepted n → length out < n → trip (refusal 13 0) vs ns out ≡ restored marks b vs ns out
+  pub report_refused : (x : Result ℕ code.Refusal) (e : code.Refusal) (vs : List ℤ) (ns out : List ℕ) → IsErrAnd x (λ y. y ≡ e) → Err (refusal_of e) ≡ judged_of (judge marks b)
+      → trip (pack_answer x) vs ns out ≡ restored marks b vs ns out
+  report_refused x e vs ns out h is = rw (err_is x e h) (refused_by (refusal_of e) vs ns out is)
+
+  pub report_no_room : (n : ℕ) (vs : List ℤ) (ns out : List ℕ) → Ok n ≡ judged_of (judge marks b) → length out < n → trip (refusal 13 0) vs ns out ≡ restored marks b vs ns out
   unfolding restored
-  report_no_room n vs ns out e h = go (judge marks b) (sym e ∙ is)
+  report_no_room n vs ns out e h = go (judge marks b) e
     where
       short : (s : Observation) → length out < size s → (t : Bool) → too_short s vs ns ≡ t → first (restore_checks s vs ns out) ≡ some (record { number = 13; place = 0 })
       short s l true q = first_fits _ _ q
       short s l false q = first_skip _ _ q ∙ first_fits _ _ (lt-ltb (length out) (size s) l)
 
-      go : (v : Verdict) → Judged.Accepted n ≡ judged_of v → trip (refusal 13 0) vs ns out ≡ restored_on v b vs ns out
-      go (Verdict.refused r) q = let z : ◌≡◌ {A = ℕ} 0 1 = cc in absurd (omega arith)
+      go : (v : Verdict) → Ok n ≡ judged_of v → trip (refusal 13 0) vs ns out ≡ restored_on v b vs ns out
+      go (Verdict.refused r) q = absurd (cc)
       go (Verdict.accepted s) q =
           let x : n ≡ size s = cc in
           ap (λ (o : Option Refusal). restored_by o s b vs ns out) (sym (short s (omega arith) (too_short s vs ns) refl))
 
-  pub report_holds : (n : ℕ) (out : List ℕ) → j ≡ Judged.Accepted n → n ≤ length out → Holds marks out b
+  pub report_holds : (n : ℕ) (out : List ℕ) → Ok n ≡ judged_of (judge marks b) → n ≤ length out → Holds marks out b
   report_holds n out e h s v =
-      let q : Judged.Accepted n ≡ Judged.Accepted (size s) = sym e ∙ is ∙ ap judged_of v in
+      let q : Ok n ≡ judged_of (Verdict.accepted s) = e ∙ ap judged_of v in
       let x : n ≡ size s = cc in
       omega arith
 
@@ -263,19 +268,24 @@ module _ (marks : FlagTable) (values : List ℤ) (word rptin : ℕ) (ns out : Li
     lent_first =
         ap (λ (m : ℕ). first (pack_order marks m values word rptin ns)) (length-take-le n out lent_within ∙ is) ∙ sym lent_order
 
-    pub recover_refused : (number place : ℕ) (o : List ℕ) → record { answer = refusal number place; out = o } ≡ pack marks values word rptin ns (take n out)
-        → trip (refusal number place) vs ts (o ++ drop n out) ≡ recovered marks values word rptin ns out vs ts
+    refused_by_pack : (x : Refusal) (o : List ℕ) → record { answer = Answer.refused x; out = o } ≡ pack marks values word rptin ns (take n out)
+        → trip (Answer.refused x) vs ts (o ++ drop n out) ≡ recovered marks values word rptin ns out vs ts
     unfolding pack recovered
-    recover_refused number place o e = go (first (pack_order marks (length (take n out)) values word rptin ns)) refl e
+    refused_by_pack x o e = go (first (pack_order marks (length (take n out)) values word rptin ns)) refl e
       where
         go : (q : Option Refusal) → first (pack_order marks (length (take n out)) values word rptin ns) ≡ q
-            → record { answer = refusal number place; out = o } ≡ wrote_by q (pack_gives (size packed)) (packing packed) (take n out)
-            → trip (refusal number place) vs ts (o ++ drop n out) ≡ recovered_by (first (recover_checks marks values word rptin ns out vs ts)) values word rptin ns out vs ts
+            → record { answer = Answer.refused x; out = o } ≡ wrote_by q (pack_gives (size packed)) (packing packed) (take n out)
+            → trip (Answer.refused x) vs ts (o ++ drop n out) ≡ recovered_by (first (recover_checks marks values word rptin ns out vs ts)) values word rptin ns out vs ts
         go (some r) q e =
             (λ i. trip (e i).answer vs ts ((e i).out ++ drop n out))
-            ∙ ap (λ (x : List ℕ). trip (Answer.refused r) vs ts x) (take-append-drop n out)
-            ∙ ap (λ (x : Option Refusal). recovered_by x values word rptin ns out vs ts) (sym q ∙ lent_first)
+            ∙ ap (λ (y : List ℕ). trip (Answer.refused r) vs ts y) (take-append-drop n out)
+            ∙ ap (λ (y : Option Refusal). recovered_by y values word rptin ns out vs ts) (sym q ∙ lent_first)
         go none q e = refused_accepted _ _ (ap (λ (w : Wrote). w.answer) e)
+
+    pub recover_refused : (x : Result Contents code.Refusal) (e : code.Refusal) (o : List ℕ) → IsErrAnd x (λ y. y ≡ e)
+        → record { answer = Answer.refused (refusal_of e); out = o } ≡ pack marks values word rptin ns (take n out)
+        → trip (unpack_answer x) vs ts (o ++ drop n out) ≡ recovered marks values word rptin ns out vs ts
+    recover_refused x e o h is = rw (err_is x e h) (refused_by_pack (refusal_of e) o is)
 
     module _ (gs : List Given) (o : List ℕ) (e : record { answer = Answer.accepted gs; out = o } ≡ pack marks values word rptin ns (take n out)) where
       -- no check fits, so that all of the output was lent

@@ -7,54 +7,49 @@ ghost use Rattle.unpack.specs.Answers.{unpack_answer};
 ghost use Rattle.pack.specs.Answers.{pack_answer};
 ghost use Rattle.trips.specs.Trips.{trip, restored, recovered, Holds};
 
-use format::FlagTable;
-use pack::Packed;
-use report::Judged;
-use unpack::Unpacked;
+use format::{FlagTable, Refusal};
+use unpack::Contents;
 
 // Unpacks a report and packs what was given, to an output that holds the report.
 fn restore_to(
-    s: &[u8],
+    buffer: &[u8],
     values: &mut [i64],
     tail: &mut [u8],
     out: &mut [u8],
-    marks: &FlagTable,
-) -> Packed
-    requires { Holds marks.now out.old s.now }
+    table: &FlagTable,
+) -> Result<usize, Refusal>
+    requires { Holds table.now out.old buffer.now }
     ensures { trip (pack_answer result) values.new tail.new out.new
-        ≡ restored marks.now s.now values.old tail.old out.old }
+        ≡ restored table.now buffer.now values.old tail.old out.old }
 {
-    let u = unpack::unpack(s, values, tail, marks);
-    match u {
-        Unpacked::Refused(n, p) => Packed::Refused(n, p),
-        Unpacked::Given(c) => {
-            let n = c.nibbles;
-            pack::pack(values, c.word, c.rptin, &tail[..n], out, marks)
-        }
-    }
+    let given = unpack::unpack(buffer, values, tail, table)?;
+    pack::pack(
+        values,
+        given.word,
+        given.rptin,
+        &tail[..given.nibbles],
+        out,
+        table,
+    )
 }
 
 // Unpacks a report and packs what was given: the report comes back byte for byte.
+#[tactic(auto, using(crate::proofs::Trips::report_refused, crate::proofs::Trips::report_holds))]
 pub fn restore(
-    s: &[u8],
+    buffer: &[u8],
     values: &mut [i64],
     tail: &mut [u8],
     out: &mut [u8],
-    marks: &FlagTable,
-) -> Packed
+    table: &FlagTable,
+) -> Result<usize, Refusal>
     ensures { trip (pack_answer result) values.new tail.new out.new
-        ≡ restored marks.now s.now values.old tail.old out.old }
+        ≡ restored table.now buffer.now values.old tail.old out.old }
 {
-    let j = report::judge(s, *marks);
-    match j {
-        Judged::Refused(n, p) => Packed::Refused(n, p),
-        Judged::Accepted(size) => {
-            if out.len() < size {
-                return Packed::Refused(13, 0);
-            }
-            restore_to(s, values, tail, out, marks)
-        }
+    let size = report::judge(buffer, *table)?;
+    if out.len() < size {
+        return Err(Refusal::Room);
     }
+    restore_to(buffer, values, tail, out, table)
 }
 
 // How much of an output pack is lent: nothing where the outputs of unpack are too short, so that pack refuses, by one of its
@@ -62,13 +57,11 @@ pub fn restore(
 fn room(values: usize, tail_out: usize, tail: usize, out: usize) -> usize
     ensures { result ≡ cond (ltb values 46 || ltb tail_out tail) 0 out }
 {
-    if values < 46 {
-        return 0;
+    if values < 46 || tail_out < tail {
+        0
+    } else {
+        out
     }
-    if tail_out < tail {
-        return 0;
-    }
-    out
 }
 
 // Packs to out and unpacks from there: what was packed comes back.
@@ -80,15 +73,12 @@ pub fn recover(
     out: &mut [u8],
     values_out: &mut [i64],
     tail_out: &mut [u8],
-    marks: &FlagTable,
-) -> Unpacked
+    table: &FlagTable,
+) -> Result<Contents, Refusal>
     ensures { trip (unpack_answer result) values_out.new tail_out.new out.new
-        ≡ recovered marks.now values.now word rptin tail.now out.old values_out.old tail_out.old }
+        ≡ recovered table.now values.now word rptin tail.now out.old values_out.old tail_out.old }
 {
-    let n = room(values_out.len(), tail_out.len(), tail.len(), out.len());
-    let p = pack::pack(values, word, rptin, tail, &mut out[..n], marks);
-    match p {
-        Packed::Refused(number, place) => Unpacked::Refused(number, place),
-        Packed::Written(_) => unpack::unpack(out, values_out, tail_out, marks),
-    }
+    let lent = room(values_out.len(), tail_out.len(), tail.len(), out.len());
+    pack::pack(values, word, rptin, tail, &mut out[..lent], table)?;
+    unpack::unpack(out, values_out, tail_out, table)
 }

@@ -4,6 +4,7 @@ use Prim.Native.Nat.{ℕ, ◌+◌, ◌-◌, ◌*◌, ◌/◌, ◌%◌, ◌≤◌
 use native.Mathlib.Omega.{arith}
 use mathlib.Core.Path.{◌≡◌, sym, ap, ◌∙◌}
 use mathlib.Core.Bool.{true, ◌||◌}
+use mathlib.Core.Logic.{◌⊎◌, inl, inr}
 use mathlib.Core.List.{List, ◌++◌, map}
 use mathlib.Core.Option.{Option}
 use lib.ListN.{length, take, drop, length-append}
@@ -23,7 +24,7 @@ use Rattle.format.specs.Calls.{Answer, over}
 use Rattle.format.specs.Reply.{refusal}
 use Rattle.format.specs.Whole.{value_or_zero, presence, presence_from, count_present, tail, unpacked, unpack_gives, unpacked_by, unpack_on, unpack}
 use Rattle.report.specs.declared.Report.{Report}
-use Rattle.report.specs.declared.Inspected.{Inspected}
+use Rattle.std.specs.Prelude.{Err}
 use Rattle.report.specs.Answers.{inspected}
 use Rattle.report.specs.Found.{Found}
 use Rattle.report.proofs.Outcomes.{judge_refused}
@@ -42,10 +43,10 @@ numbers_are w p rp c z t s e1 e2 e3 e4 e5 e6 = rw (e1, e2, e3, e4, e5, e6)
 
 -- ---- the outcome of inspecting
 
-pub unpack_refused : (marks : FlagTable) (b : List ℕ) (n p : ℕ) (x : Inspected) (vs : List ℤ) (ts : List ℕ) → x ≡ inspected marks b 0 → x ≡ Inspected.Refused n p
-    → unpacked (refusal n p) vs ts ≡ unpack marks b vs ts
+pub unpack_refused : (marks : FlagTable) (b : List ℕ) (r : Refusal) (vs : List ℤ) (ts : List ℕ) → Err r ≡ inspected marks b 0
+    → unpacked (Answer.refused r) vs ts ≡ unpack marks b vs ts
 unfolding unpack
-unpack_refused marks b n p x vs ts is e = ap (λ (v : Verdict). unpack_on v vs ts) (sym (judge_refused marks b 0 n p x is e))
+unpack_refused marks b r vs ts is = ap (λ (v : Verdict). unpack_on v vs ts) (sym (judge_refused marks b 0 r is))
 
 -- ---- an accepted report
 
@@ -68,11 +69,9 @@ module _ (marks : FlagTable) (b : List ℕ) (r : Report) (bs : Bytes b) (f : Fou
         rw f.judged
         (ap (λ (o : Option Refusal). unpacked_by o (observation_of b) vs ts) (sym (first_fits _ _ e)))
 
-    pub short_values : length vs < 46 → unpacked (refusal 13 0) vs ts ≡ unpack marks b vs ts
-    short_values h = short (rw (lt-ltb (length vs) 46 h))
-
-    pub short-tail : 46 ≤ length vs → length ts < r.end - 75 → unpacked (refusal 13 0) vs ts ≡ unpack marks b vs ts
-    short-tail hv h = short (rw (le-ltb (length vs) 46 hv, lt-ltb (length ts) (length (tail (observation_of b))) (omega (arith, end_is))))
+    pub short_outputs : (length vs < 46) ⊎ ((46 ≤ length vs) × (length ts < r.end - 75)) → unpacked (refusal 13 0) vs ts ≡ unpack marks b vs ts
+    short_outputs (inl h) = short (rw (lt-ltb (length vs) 46 h))
+    short_outputs (inr h) = short (rw (le-ltb (length vs) 46 h.0, lt-ltb (length ts) (length (tail (observation_of b))) (omega (arith, end_is, h.1))))
 
     -- the values, the tail and the numbers are those of the observation
     pub all_given : (word rptin : ℕ) (us : List ℤ) (ns : List ℕ) → 46 ≤ length vs → r.end - 75 ≤ length ts

@@ -7,12 +7,15 @@ ghost use Rattle.format.specs.Whole as spec;
 ghost use Rattle.unpack.specs.Answers.{unpack_answer, Unpacks};
 ghost use Rattle.report.specs.Found.{FoundBySome};
 
-use format::FlagTable;
-use report::{Inspected, Report};
+use format::{FlagTable, Refusal};
+use report::Report;
+
+// The nibbles of the card: the tail begins behind them.
+const CARD: usize = 75;
 
 // What unpacking gives beside the values and the tail: the presence word, how many fields are present, RPTIN, AC, the
 // report's size in bytes, and the tail's length in nibbles.
-#[derive(Clone, Copy)]
+#[derive(Clone, Copy, Debug, PartialEq, Eq)]
 pub struct Contents {
     pub word: u64,
     pub present: u32,
@@ -22,44 +25,41 @@ pub struct Contents {
     pub nibbles: usize,
 }
 
-#[derive(Clone, Copy)]
-pub enum Unpacked {
-    // The refusal's number and place.
-    Refused(u8, usize),
-    Given(Contents),
-}
-
-// Gives what an accepted report holds, r being what judging it found, if the outputs are long enough.
-fn give(s: &[u8], r: Report, values: &mut [i64], tail: &mut [u8]) -> Unpacked
-    requires { FoundBySome s.now 0 r }
-    ensures { Unpacks s.now values.old tail.old (unpacked (unpack_answer result) values.new tail.new) }
+// Gives what an accepted report holds, as judging it found, if the outputs are long enough.
+fn give(
+    buffer: &[u8],
+    report: Report,
+    values: &mut [i64],
+    tail: &mut [u8],
+) -> Result<Contents, Refusal>
+    requires { FoundBySome buffer.now 0 report }
+    ensures { Unpacks buffer.now values.old tail.old (unpacked (unpack_answer result) values.new tail.new) }
 {
-    let n = r.end - 75;
-    if values.len() < 46 {
-        return Unpacked::Refused(13, 0);
+    let nibbles = report.end - CARD;
+    if values.len() < 46 || tail.len() < nibbles {
+        return Err(Refusal::Room);
     }
-    if tail.len() < n {
-        return Unpacked::Refused(13, 0);
-    }
-    let presence = read_values::show(s, values);
-    nibble_copy::fetch(s, 75, n, tail);
-    Unpacked::Given(Contents {
+    let presence = read_values::show(buffer, values);
+    nibble_copy::fetch(buffer, CARD, nibbles, tail);
+    Ok(Contents {
         word: presence,
-        present: u64::count_ones(presence),
-        rptin: card::rptin(s),
-        attachments: r.count,
-        bytes: r.end / 2 + r.end % 2,
-        nibbles: n,
+        present: presence.count_ones(),
+        rptin: card::rptin(buffer),
+        attachments: report.count,
+        bytes: report.end / 2 + report.end % 2,
+        nibbles,
     })
 }
 
 // A report's values, 0 where missing, to the first 46 of values, and its tail, one nibble a byte, to the front of tail.
-pub fn unpack(s: &[u8], values: &mut [i64], tail: &mut [u8], marks: &FlagTable) -> Unpacked
-    ensures { unpacked (unpack_answer result) values.new tail.new ≡ spec.unpack marks.now s.now values.old tail.old }
+pub fn unpack(
+    buffer: &[u8],
+    values: &mut [i64],
+    tail: &mut [u8],
+    table: &FlagTable,
+) -> Result<Contents, Refusal>
+    ensures { unpacked (unpack_answer result) values.new tail.new ≡ spec.unpack table.now buffer.now values.old tail.old }
 {
-    let i = report::inspect(&*s, 0, *marks);
-    match i {
-        Inspected::Refused(n, p) => Unpacked::Refused(n, p),
-        Inspected::Fine(r) => give(&*s, r, values, tail),
-    }
+    let report = report::inspect(buffer, 0, *table)?;
+    give(buffer, report, values, tail)
 }

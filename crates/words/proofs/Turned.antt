@@ -1,4 +1,4 @@
--- Eight bytes, loaded with the first lowest and turned, are the number in their 64 bits.
+-- Eight bytes are the number in their 64 bits.
 -- Assumes nothing.
 use Prim.Native.Nat.{ℕ, ◌+◌, ◌*◌, ◌/◌, ◌%◌, ◌^◌, ◌≤◌, ◌<◌}
 use native.Mathlib.Omega.{arith}
@@ -13,7 +13,6 @@ use native.Mathlib.Nat.{mod-eq_of_lt}
 use Rattle.format.specs.Bits.{bits, number, bits_of, bit_field, total, read_fields, write_fields, Bytes}
 use Rattle.laws.proofs.Bits.{length-bits, number-bits, bits-mod, bits-add, length_bits_of, bit_field_lt, write_fields-read_fields}
 use Rattle.bits.proofs.Window.{field_byte}
-use Rattle.words.specs.Turned.{little2, little4, little8, turned2, turned4, turned8}
 
 module _ (s : List ℕ) where
   -- two fields, one behind the other, are one field
@@ -52,35 +51,11 @@ module _ (s : List ℕ) where
     pub byte : (i : ℕ) → i < length s → bit_field s (8 * i) 8 ≡ get_or s i 0
     byte i h = ap (λ (o : ℕ). bit_field s o 8) (sym (omega arith)) ∙ field_byte s i 0 8 0 h refl ∙ omega (arith, bs i)
 
-    little2_lt : (i : ℕ) → little2 s i < 65536
-    unfolding little2
-    little2_lt i = omega (arith, bs i, bs (i + 1))
-
-    little4_lt : (i : ℕ) → little4 s i < 4294967296
-    unfolding little4
-    little4_lt i = omega (arith, little2_lt i, little2_lt (i + 2))
-
-    two : (i : ℕ) → i + 2 ≤ length s → turned2 (little2 s i) ≡ bit_field s (8 * i) 16
-    unfolding little2 turned2
-    two i h =
-        let e : 8 * i + 8 ≡ 8 * (i + 1) = omega arith in
-        let n : ℕ = get_or s (i + 1) 0 * 256 + get_or s i 0 in
-        let f : n % 256 * 256 + n / 256 ≡ get_or s i 0 * 256 + get_or s (i + 1) 0 = omega (arith, bs i, bs (i + 1)) in
-        f ∙ ap₂ (λ (x y : ℕ). x * 256 + y) (sym (byte i (omega arith))) (sym (ap (λ (o : ℕ). bit_field s o 8) e ∙ byte (i + 1) (omega arith)))
-        ∙ join (8 * i) 8 8 (omega arith)
-
-    four : (i : ℕ) → i + 4 ≤ length s → turned4 (little4 s i) ≡ bit_field s (8 * i) 32
-    unfolding little4 turned4
-    four i h =
-        let e : 8 * i + 16 ≡ 8 * (i + 2) = omega arith in
-        ap₂ (λ (x y : ℕ). turned2 x * 65536 + turned2 y) (low (little2 s (i + 2)) 16 (little2_lt i)) (high (little2 s (i + 2)) 16 (little2_lt i))
-        ∙ ap₂ (λ (x y : ℕ). x * 65536 + y) (two i (omega arith)) (two (i + 2) (omega arith) ∙ ap (λ (o : ℕ). bit_field s o 16) (sym e))
-        ∙ join (8 * i) 16 16 (omega arith)
-
-    pub eight : (i : ℕ) → i + 8 ≤ length s → turned8 (little8 s i) ≡ bit_field s (8 * i) 64
-    unfolding little8 turned8
-    eight i h =
-        let e : 8 * i + 32 ≡ 8 * (i + 4) = omega arith in
-        ap₂ (λ (x y : ℕ). turned4 x * 4294967296 + turned4 y) (low (little4 s (i + 4)) 32 (little4_lt i)) (high (little4 s (i + 4)) 32 (little4_lt i))
-        ∙ ap₂ (λ (x y : ℕ). x * 4294967296 + y) (four i (omega arith)) (four (i + 4) (omega arith) ∙ ap (λ (o : ℕ). bit_field s o 32) (sym e))
-        ∙ join (8 * i) 32 32 (omega arith)
+    -- n bits from byte i on, and the byte behind them
+    pub next : (i k : ℕ) → i + k < length s → bit_field s (8 * i) (8 * k) * 256 + get_or s (i + k) 0 ≡ bit_field s (8 * i) (8 * (k + 1))
+    next i k h =
+        let o : 8 * (i + k) ≡ 8 * i + 8 * k = omega arith in
+        let w : 8 * k + 8 ≡ 8 * (k + 1) = omega arith in
+        ap (λ (x : ℕ). bit_field s (8 * i) (8 * k) * 256 + x) (sym (byte (i + k) h) ∙ ap (λ (p : ℕ). bit_field s p 8) o)
+        ∙ join (8 * i) (8 * k) 8 (omega arith)
+        ∙ ap (bit_field s (8 * i)) w

@@ -1,28 +1,24 @@
 -- `call_attachments::put_at` meets its contract.
 -- Assumes nothing.
-use Rattle.call_attachments.proofs.Returns.{put_small, put_refused, put_done_lem}
 use native.Mathlib.Omega.{arith}
+use borrow.Author.Rules.{rules}
+use Rattle.format.specs.Bits.{Bytes}
+use Rattle.laws.proofs.Results.{bytes_in}
+use Rattle.call_attachments.proofs.Returns.{put_small, put_refused, put_done_lem}
 use Rattle.call_attachments.proofs.put_at.Goals as goal
 
-pub overflow_sub-end : goal.overflow_sub-end
-overflow_sub-end c = (put_small (λ j. (c.slice_known-1.given j).fits) c.requires).0
+pub overflow_add-nibbles-2 : goal.overflow_add-nibbles-2
+overflow_add-nibbles-2 c =
+    let bytes : Bytes c.args.buffer.now = search (rules, bytes_in) in
+    let small = put_small bytes c.requires in
+    omega arith
 
-pub overflow_add-content : goal.overflow_add-content
-overflow_add-content c = let k = put_small (λ j. (c.slice_known-1.given j).fits) c.requires in omega arith
-
-pub overflow_add-end : goal.overflow_add-end
-overflow_add-end c = let k = put_small (λ j. (c.slice_known-1.given j).fits) c.requires in omega arith
-
-pub overflow_add-end-2 : goal.overflow_add-end-2
-overflow_add-end-2 c = let k = put_small (λ j. (c.slice_known-1.given j).fits) c.requires in omega arith
-
-pub returns-then-s-end : goal.returns-then-s-end
-returns-then-s-end c = put_refused (λ j. (c.slice_known-1.given j).fits) c.requires c.if-s-end.true
-
-pub commit_put-requires : goal.commit_put-requires
-commit_put-requires c = (c.requires, c.if-s-end.false)
+pub returns-then-buffer-div_ceil : goal.returns-then-buffer-div_ceil
+returns-then-buffer-div_ceil c =
+    let bytes : Bytes c.args.buffer.now = search (rules, bytes_in) in
+    put_refused bytes c.requires (omega arith)
 
 pub returns : goal.returns
 returns c =
-    put_done_lem (λ j. (c.slice_known-1.given j).fits) c.requires
-    c.if-s-end.false _ c.commit_put.ensures
+    let bytes : Bytes c.args.buffer.now = search (rules, bytes_in) in
+    put_done_lem bytes c.requires (omega arith) _ c.commit_put.ensures

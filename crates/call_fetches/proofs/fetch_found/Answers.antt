@@ -1,62 +1,49 @@
 -- `call_fetches::fetch_found` meets its contract.
 -- Assumes nothing.
-use mathlib.Core.Path.{refl}
+use native.Mathlib.Omega.{arith}
+use borrow.Author.Rules.{rules}
+use mathlib.Core.Bool.{not}
 use mathlib.Core.List.{[], ◌∷◌}
+use mathlib.Core.Path.{◌≡◌, refl, ap}
+use Rattle.format.specs.Order.{between}
 use Rattle.format.specs.Calls.{fetches, fetch, outputs_of, id_check, call_checks}
 use Rattle.laws.proofs.Order.{first-nil, no_check, number_passes}
+use Rattle.laws.proofs.Results.{bytes_in}
 use Rattle.report.proofs.Found.{found_by, reach, id_refused, missing}
 use Rattle.call_fetches.proofs.Fetches.{output_short, content_fetched}
-use native.Mathlib.Omega.{arith}
-use mathlib.Core.Path.{ap}
-use mathlib.Core.Bool.{not}
 use Rattle.call_fetches.proofs.fetch_found.Goals as goal
 
-pub returns-then-not-within : goal.returns-then-not-within
+pub returns-then-not-contains : goal.returns-then-not-contains
 unfolding call_checks outputs_of
-returns-then-not-within c marks a =
-    let args = c.args in
-    let g = c.shared_slice_known-1.given in
-    let f = found_by c.requires.1 a in
-    id_refused _ (λ j. (g j).fits) f (fetches (fetch args.id args.out.now)) _ refl _ c.within.ensures (ap not c.if-not-within.true)
+returns-then-not-contains c marks a =
+    let within : c.contains.result ≡ between 1 15 c.args.id = search rules in
+    let call = fetches (fetch c.args.id c.args.out.now) in
+    id_refused _ (bytes_in _ c.type_inv.buffer) (found_by c.requires.1 a) call _ refl _ within (ap not c.if-not-contains.true)
 
-pub returns-then-place-eq0 : goal.returns-then-place-eq0
+pub returns-in_default : goal.returns-in_default
 unfolding call_checks outputs_of
-returns-then-place-eq0 c marks a =
-    let args = c.args in
-    let g = c.shared_slice_known-1.given in
-    let known = number_passes 1 15 args.id _ c.within.ensures (ap not c.if-not-within.false) in
-    let f = found_by c.requires.1 a in
-    missing _ (λ j. (g j).fits) f (fetches (fetch args.id args.out.now)) (id_check args.id ∷ []) refl (no_check (id_check args.id) [] known first-nil) c.if-place-eq0.true
+returns-in_default c marks a =
+    let id = c.args.id in
+    let within : c.contains.result ≡ between 1 15 id = search rules in
+    let known = number_passes 1 15 id _ within (ap not c.if-not-contains.false) in
+    let call = fetches (fetch id c.args.out.now) in
+    missing _ (bytes_in _ c.type_inv.buffer) (found_by c.requires.1 a) call (id_check id ∷ []) refl (no_check (id_check id) [] known first-nil) (search rules)
 
-pub returns-then-out-al : goal.returns-then-out-al
-returns-then-out-al c marks a =
-    let args = c.args in
-    let g = c.shared_slice_known-1.given in
-    let known = number_passes 1 15 args.id _ c.within.ensures (ap not c.if-not-within.false) in
-    let f = found_by c.requires.1 a in
-    output_short _ (λ j. (g j).fits) f c.if-place-eq0.false known _ c.if-out-al.true
-
-pub overflow_add-place : goal.overflow_add-place
-overflow_add-place c =
-    let g = c.shared_slice_known-1.given in
-    let f = c.requires.1 in
-    omega (arith, (reach _ (λ j. (g j).fits) f c.if-place-eq0.false).1)
+pub returns-then-out-held : goal.returns-then-out-held
+returns-then-out-held c marks a =
+    let id = c.args.id in
+    let within : c.contains.result ≡ between 1 15 id = search rules in
+    let known = number_passes 1 15 id _ within (ap not c.if-not-contains.false) in
+    output_short _ (bytes_in _ c.type_inv.buffer) (found_by c.requires.1 a) _ c.in-Some.is known _ (omega arith)
 
 pub fetch-requires : goal.fetch-requires
 fetch-requires c =
-    let g = c.shared_slice_known-1.given in
-    let f = c.requires.1 in
-    let k = reach _ (λ j. (g j).fits) f c.if-place-eq0.false in (k.0, omega (arith, k.1), c.if-out-al.false)
+    let inside = reach _ (bytes_in _ c.type_inv.buffer) c.requires.1 _ c.in-Some.is in
+    (omega (arith, inside.0), omega (arith, inside.1), omega arith)
 
 pub returns : goal.returns
 returns c marks a =
-    let pre = c.requires in
-    let shared-slice-known = c.shared_slice_known-1 in
-    let within = c.within in
-    let if2 = c.if-place-eq0 in
-    let if3 = c.if-out-al in
-    let args = c.args in
-    let g = shared-slice-known.given in
-    let known = number_passes 1 15 args.id _ within.ensures (ap not c.if-not-within.false) in
-    let f = found_by pre.1 a in
-    content_fetched _ (λ j. (g j).fits) f if2.false known _ _ if3.false c.fetch.ensures
+    let id = c.args.id in
+    let within : c.contains.result ≡ between 1 15 id = search rules in
+    let known = number_passes 1 15 id _ within (ap not c.if-not-contains.false) in
+    content_fetched _ (bytes_in _ c.type_inv.buffer) (found_by c.requires.1 a) _ c.in-Some.is known _ _ (omega arith) c.fetch.ensures

@@ -2,24 +2,21 @@
 -- Assumes nothing.
 use Prim.{tt}
 use Rattle.format.specs.Calls.{fetches, fetch_text, outputs_of}
+use Rattle.laws.proofs.Results.{bytes_in, err_is}
 use Rattle.laws.proofs.TextCounts.{fetch_counts}
 use Rattle.report.proofs.Found.{inspect_refused, inspect_found}
 use Rattle.call_fetches.proofs.fetch_text.Goals as goal
 
 pub fetch_text_found-requires : goal.fetch_text_found-requires
-fetch_text_found-requires c = (_, inspect_found _ _ _ _ c.inspect-i.ensures _ c.in-Fine.is)
+fetch_text_found-requires c = (_, inspect_found _ _ _ _ c.inspect.ensures _ c.in_ok-report.was)
 
-pub returns-in-Refused : goal.returns-in-Refused
+pub returns-in_err-report : goal.returns-in_err-report
 unfolding outputs_of
-returns-in-Refused c =
-    let args = c.args in
-    (inspect_refused _ _ _ _ c.inspect-i.ensures _ _ (fetches (fetch_text args.out.now args.origins.now)) c.in-Refused.is, tt)
+returns-in_err-report c =
+    let call = fetches (fetch_text c.args.out.now c.args.origins.now) in
+    rw (err_is _ _ c.from_residual.ensures.1) (inspect_refused _ _ _ _ c.inspect.ensures _ call c.in_err-report.was, tt)
 
-pub returns-in-Fine : goal.returns-in-Fine
-returns-in-Fine c =
-    let fetch-text-found = c.fetch_text_found in
-    let inspect = c.inspect-i in
-    let shared-slice-known = c.shared_slice_known-1 in
-    let found = fetch-text-found in
-    let done = found.ensures _ (inspect_found _ _ _ _ inspect.ensures _ c.in-Fine.is).judged in
-    (done, fetch_counts _ _ (λ j. (shared-slice-known.given j).fits) _ _ _ _ found.result done)
+pub returns : goal.returns
+returns c =
+    let done = c.fetch_text_found.ensures _ (inspect_found _ _ _ _ c.inspect.ensures _ c.in_ok-report.was).judged in
+    (done, fetch_counts _ _ (bytes_in _ c.type_inv.buffer) _ _ _ _ c.fetch_text_found.result done)

@@ -1,51 +1,33 @@
 -- `call_fields::clear_field_of` meets its contract.
 -- Assumes nothing.
 use mathlib.Core.Path.{refl}
-use Rattle.format.specs.Report.{observation_of}
+use Rattle.laws.proofs.Results.{bytes_in}
 use Rattle.format.specs.Calls.{edits, clear_field, call_checks, outputs_of}
-use Rattle.laws.proofs.Order.{between_in}
-use Rattle.laws.proofs.Effects.{number_refuses}
-use Rattle.call_fields.proofs.Values.{field-required, field-cleared}
+use Rattle.call_fields.proofs.Values.{no_field, field-required, field-cleared}
 use native.Mathlib.Omega.{arith}
-use mathlib.Core.Path.{ap}
-use mathlib.Core.Bool.{not}
+use Rattle.format.specs.Bits.{Bytes}
+use borrow.Author.Rules.{rules}
 use Rattle.call_fields.proofs.clear_field_of.Goals as goal
 
-pub returns-then-not-within : goal.returns-then-not-within
+pub returns-in_err-field : goal.returns-in_err-field
 unfolding call_checks outputs_of
-returns-then-not-within c marks j =
-    let args = c.args in
-    number_refuses _ _ (observation_of args.s.now) (edits (clear_field args.k)) (λ i. (c.slice_known-1.given i).fits) j
-    1 46 args.k _ refl _ c.within.ensures (ap not c.if-not-within.true)
-
-pub row-row-requires : goal.row-row-requires
-row-row-requires c = between_in 1 46 c.args.k _ c.within.ensures (ap not c.if-not-within.false)
+returns-in_err-field c marks j =
+    no_field _ _ _ _ c.from_residual.ensures.1 c.args.number c.in_err-field.ensures (bytes_in _ c.type_inv.buffer) j (edits (clear_field c.args.number)) _ refl
 
 pub returns-then-is_required : goal.returns-then-is_required
 unfolding call_checks
 returns-then-is_required c marks j =
-    let args = c.args in
-    let slice-known = c.slice_known-1 in
-    let within = c.within in
-    field-required _ _ (λ i. (slice-known.given i).fits) j args.k _ within.ensures (ap not c.if-not-within.false) (clear_field args.k) refl _ c.is_required.ensures
-    c.if-is_required.true
+    let f = c.in_ok-field.field in
+    rw (← c.in_ok-field.ensures)
+    (field-required _ _ (bytes_in _ c.type_inv.buffer) j _ f.low f.high (clear_field f.number) refl _ c.is_required.ensures c.if-is_required.true)
 
 pub replace-requires : goal.replace-requires
-replace-requires c =
-    let args = c.args in
-    let pre = c.requires in
-    let within = c.within in
-    let h = between_in 1 46 args.k _ within.ensures (ap not c.if-not-within.false) in
-    (pre, h.0, h.1, c.row-row.ensures, omega arith)
+replace-requires c = (c.requires, omega arith)
 
 pub returns : goal.returns
 returns c marks j =
-    let args = c.args in
-    let slice-known = c.slice_known-1 in
-    let within = c.within in
-    let is-required = c.is_required in
-    let if2 = c.if-is_required in
-    let the-replace = c.replace in
-    let row = c.row-row in
-    field-cleared _ _ (λ i. (slice-known.given i).fits) j args.k _ within.ensures (ap not c.if-not-within.false) _ row.ensures _ the-replace.ensures.1 _ c.told.ensures
-    _ (λ i. (c.slice_known-2-1.given i).fits) _ is-required.ensures if2.false _ refl the-replace.ensures.0
+    let f = c.in_ok-field.field in
+    let before : Bytes c.args.buffer.now = search rules in
+    rw (← c.in_ok-field.ensures)
+    (field-cleared _ _ before j _ f.low f.high _ c.replace.ensures.1 _ c.value_of.ensures _ (bytes_in _ c.type_inv.buffer) _ c.is_required.ensures
+    c.if-is_required.false _ refl c.replace.ensures.0)

@@ -1,38 +1,21 @@
 -- `call_fields::field_of` meets its contract.
 -- Assumes nothing.
-use mathlib.Core.Path.{refl, ◌∙◌}
-use mathlib.Core.List.{[]}
-use Rattle.format.specs.Report.{observation_of}
-use Rattle.format.specs.Calls.{reads, read_field, call_checks, outputs_of}
-use Rattle.laws.proofs.Order.{between_in}
+use mathlib.Core.Path.{refl}
 use Rattle.laws.proofs.Report.{passes}
-use Rattle.card.proofs.Rows.{row_window}
-use Rattle.card.proofs.Numbers.{row_at}
-use Rattle.laws.proofs.Effects.{number_refuses}
-use Rattle.call_fields.proofs.Values.{field_read}
-use mathlib.Core.Path.{ap}
-use mathlib.Core.Bool.{not}
+use Rattle.laws.proofs.Results.{bytes_in}
+use Rattle.format.specs.Calls.{reads, read_field, call_checks, outputs_of}
+use Rattle.call_fields.proofs.Values.{no_field, field_read}
 use Rattle.call_fields.proofs.field_of.Goals as goal
 
-pub returns-then-not-within : goal.returns-then-not-within
+pub returns-in_err-field : goal.returns-in_err-field
 unfolding call_checks outputs_of
-returns-then-not-within c marks j =
-    let args = c.args in
-    number_refuses _ _ (observation_of args.s.now) (reads (read_field args.k)) (λ i. (c.shared_slice_known-1.given i).fits) j
-    1 46 args.k [] refl _ c.within.ensures (ap not c.if-not-within.true)
+returns-in_err-field c marks j =
+    no_field _ _ _ _ c.from_residual.ensures.1 c.args.number c.in_err-field.ensures (bytes_in _ c.type_inv.buffer) j (reads (read_field c.args.number)) _ refl
 
-pub row-row-requires : goal.row-row-requires
-row-row-requires c = between_in 1 46 c.args.k _ c.within.ensures (ap not c.if-not-within.false)
-
-pub code_in-c-requires : goal.code_in-c-requires
-code_in-c-requires c = row_window c.args.k _ _ c.row-row.ensures (passes _ _ _ c.requires.1).0.long
+pub code-code-requires : goal.code-code-requires
+code-code-requires c = (passes _ _ _ c.requires.1).0.long
 
 pub returns : goal.returns
 returns c marks j =
-    let args = c.args in
-    let within = c.within in
-    let shared-slice-known = c.shared_slice_known-1 in
-    let row = c.row-row in
-    let h = between_in 1 46 args.k _ within.ensures (ap not c.if-not-within.false) in
-    let at = c.code_in-c.ensures ∙ row_at args.s.now args.k _ row.ensures h.0 h.1 in
-    field_read _ _ (λ i. (shared-slice-known.given i).fits) j args.k _ within.ensures (ap not c.if-not-within.false) _ row.ensures _ at _ c.told.ensures
+    let f = c.in_ok-field.field in
+    rw (← c.in_ok-field.ensures) (field_read _ _ (bytes_in _ c.type_inv.buffer) j _ f.low f.high _ c.code-code.ensures _ c.value_of.ensures)

@@ -1,24 +1,25 @@
 -- `call_flags::clear_flag` meets its contract.
 -- Assumes nothing.
+use Rattle.format.specs.Bits.{Bytes}
 use mathlib.Core.Path.{refl}
+use borrow.Author.Rules.{rules}
 use Rattle.format.specs.Calls.{edits, clear_flag, outputs_of}
+use Rattle.laws.proofs.Results.{err_is}
 use Rattle.laws.proofs.Former.{clears_flag, former_read}
-use Rattle.report.proofs.Found.{inspect_refused}
-use Rattle.call_flags.proofs.Flags.{flags_found}
+use Rattle.report.proofs.Found.{inspect_refused, inspect_found}
 use Rattle.call_flags.proofs.clear_flag.Goals as goal
 
-pub clear_flag_of-requires : goal.clear_flag_of-requires
-clear_flag_of-requires c = (_, flags_found _ _ _ _ c.inspect-i.ensures c.in-Fine.is)
-
-pub returns-in-Refused : goal.returns-in-Refused
+pub returns-in_err-found : goal.returns-in_err-found
 unfolding outputs_of
-returns-in-Refused c =
-    let args = c.args in
-    (inspect_refused _ _ _ _ c.inspect-i.ensures _ _ (edits (clear_flag args.j)) c.in-Refused.is, refl)
+returns-in_err-found c =
+    rw (err_is _ _ c.from_residual.ensures.1)
+    (inspect_refused _ _ _ _ c.inspect.ensures _ (edits (clear_flag c.args.flag)) c.in_err-found.was, refl)
 
-pub returns-in-Fine : goal.returns-in-Fine
-returns-in-Fine c =
-    let slice-known = c.slice_known-1 in
-    let the-inspect = c.inspect-i in
-    let e = c.clear_flag_of.ensures _ (flags_found _ _ _ _ the-inspect.ensures c.in-Fine.is).found.judged in
-    (e, former_read _ _ (λ i. (slice-known.given i).fits) clears_flag _ _ e)
+pub clear_flag_of-requires : goal.clear_flag_of-requires
+clear_flag_of-requires c = (_, inspect_found _ _ _ _ c.inspect.ensures _ c.in_ok-found.was)
+
+pub returns : goal.returns
+returns c =
+    let before : Bytes c.args.buffer.now = search rules in
+    let done = c.clear_flag_of.ensures _ (inspect_found _ _ _ _ c.inspect.ensures _ c.in_ok-found.was).judged in
+    (done, former_read _ _ before clears_flag _ _ done)

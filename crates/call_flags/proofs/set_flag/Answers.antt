@@ -1,23 +1,22 @@
 -- `call_flags::set_flag` meets its contract.
 -- Assumes nothing.
+use Rattle.format.specs.Bits.{Bytes}
 use mathlib.Core.Path.{refl}
+use borrow.Author.Rules.{rules}
 use Rattle.format.specs.Calls.{edits, set_flag, outputs_of}
+use Rattle.laws.proofs.Results.{err_is}
 use Rattle.laws.proofs.Former.{sets_flag, former_read}
-use Rattle.report.proofs.Found.{inspect_refused}
-use Rattle.call_flags.proofs.Flags.{flags_found}
+use Rattle.report.proofs.Found.{inspect_refused, inspect_found}
 use Rattle.call_flags.proofs.set_flag.Goals as goal
 
-pub set_flag_of-requires : goal.set_flag_of-requires
-set_flag_of-requires c = flags_found _ _ _ _ c.inspect-i.ensures c.in-Fine.is
-
-pub returns-in-Refused : goal.returns-in-Refused
+pub returns-in_err-found : goal.returns-in_err-found
 unfolding outputs_of
-returns-in-Refused c =
-    let args = c.args in
-    (inspect_refused _ _ _ _ c.inspect-i.ensures _ _ (edits (set_flag args.j args.v)) c.in-Refused.is, refl)
+returns-in_err-found c =
+    rw (err_is _ _ c.from_residual.ensures.1)
+    (inspect_refused _ _ _ _ c.inspect.ensures _ (edits (set_flag c.args.flag c.args.value)) c.in_err-found.was, refl)
 
-pub returns-in-Fine : goal.returns-in-Fine
-returns-in-Fine c =
-    let slice-known = c.slice_known-1 in
-    let e = c.set_flag_of.ensures in
-    (e, former_read _ _ (λ i. (slice-known.given i).fits) sets_flag _ _ e)
+pub set_flag_of-requires : goal.set_flag_of-requires
+set_flag_of-requires c = inspect_found _ _ _ _ c.inspect.ensures _ c.in_ok-found.was
+
+pub returns : goal.returns
+returns c = let before : Bytes c.args.buffer.now = search rules in (c.set_flag_of.ensures, former_read _ _ before sets_flag _ _ c.set_flag_of.ensures)

@@ -9,32 +9,28 @@ use Rattle.format.specs.Flags.{quality_code}
 use Rattle.laws.proofs.Nibbles.{length-nibbles, nibbles_lt}
 use Rattle.call_flags.proofs.Flags.{flag_stored}
 use native.Mathlib.Omega.{arith}
+use borrow.Author.Rules.{rules}
 use Rattle.call_flags.proofs.store_flag.Goals as goal
 
-pub quality-q-requires : goal.quality-q-requires
-quality-q-requires c =
-    let exchange = c.exchange-old in
-    (nibbles_lt exchange.new.s (λ i. (c.slice_known-2-1.given i).fits), omega (arith, length-nibbles exchange.new.s, exchange.ensures.1), omega arith)
+pub quality-quality-requires : goal.quality-quality-requires
+quality-quality-requires c =
+    let stored = c.exchange-former.new.buffer in
+    (nibbles_lt stored (search rules), omega (arith, length-nibbles stored, c.exchange-former.ensures.1), omega arith)
 
 pub returns : goal.returns
 returns c =
-    let args = c.args in
-    let pre = c.requires in
-    let exchange = c.exchange-old in
-    let quality' = c.quality-q in
-    let put = c.put in
-    let put2 = c.put-2 in
-    let ns : List ℕ = nibbles args.s.now in
-    let at : ℕ = args.place + 3 in
-    let j : ℕ = args.j in
-    let v : ℕ = args.v in
-    let q : ℕ = quality'.result in
-    let p1 : nibbles exchange.new.s ≡ set ns (at + (j - 1)) v = exchange.ensures.0 in
-    let p2 : nibbles put.new.s ≡ set (set ns (at + (j - 1)) v) (at + 14) (q / 16) = put.ensures.0 ∙ ap (λ (l : List ℕ). set l (at + 14) (q / 16)) p1 in
-    let p3 : nibbles put2.new.s ≡ set (set (set ns (at + (j - 1)) v) (at + 14) (q / 16)) (at + 15) (q % 16) = put2.ensures.0 ∙ ap
-    (λ (l : List ℕ). set l (at + 15) (q % 16)) p2 in
-    let quality : q ≡ quality_code (take 14 (drop at (set ns (at + (j - 1)) v))) = quality'.ensures ∙ ap (λ (l : List ℕ). quality_code (take 14 (drop at l))) p1 in (
-      p3 ∙ flag_stored ns at j v (omega (arith, length-nibbles args.s.now, pre.0)) pre.2 pre.3 q quality,
-      put2.ensures.1 ∙ put.ensures.1 ∙ exchange.ensures.1,
-      exchange.ensures.2,
+    let ns = nibbles c.args.buffer.now in
+    let at = c.args.place + 3 in
+    let flag = c.args.flag in
+    let value = c.args.value in
+    let code = c.quality-quality.result in
+    let first : nibbles c.exchange-former.new.buffer ≡ set ns (at + (flag - 1)) value = c.exchange-former.ensures.0 in
+    let second : nibbles c.put.new.s ≡ set (set ns (at + (flag - 1)) value) (at + 14) (code / 16) = c.put.ensures.0 ∙ ap (λ (l : List ℕ). set l (at + 14) (code / 16)) first in
+    let third : nibbles c.put-2.new.s ≡ set (set (set ns (at + (flag - 1)) value) (at + 14) (code / 16)) (at + 15) (code % 16) =
+    c.put-2.ensures.0 ∙ ap (λ (l : List ℕ). set l (at + 15) (code % 16)) second in
+    let coded : code ≡ quality_code (take 14 (drop at (set ns (at + (flag - 1)) value))) =
+    c.quality-quality.ensures ∙ ap (λ (l : List ℕ). quality_code (take 14 (drop at l))) first in (
+      third ∙ flag_stored ns at flag value (omega (arith, length-nibbles c.args.buffer.now, c.requires.0)) c.requires.2 c.requires.3 code coded,
+      c.put-2.ensures.1 ∙ c.put.ensures.1 ∙ c.exchange-former.ensures.1,
+      c.exchange-former.ensures.2,
     )

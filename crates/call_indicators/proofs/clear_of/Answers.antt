@@ -1,64 +1,36 @@
 -- `call_indicators::clear_of` meets its contract.
 -- Assumes nothing.
 use mathlib.Core.Path.{refl, sym, ◌∙◌}
+use Rattle.format.specs.Bits.{Bytes}
 use Rattle.format.specs.Report.{observation_of}
 use Rattle.format.specs.Calls.{edits, clear_with_indicators, clears_of, made, gives, call_checks, outputs_of}
-use Rattle.laws.proofs.Order.{between_in}
+use Rattle.laws.proofs.Results.{bytes_in}
 use Rattle.laws.proofs.Indicators.{cleared_attachments}
-use Rattle.laws.proofs.Effects.{number_refuses}
-use Rattle.call_fields.proofs.Values.{card_cleared, field-required}
-use mathlib.Core.Path.{ap}
-use mathlib.Core.Bool.{not}
+use Rattle.call_fields.proofs.Values.{no_field, card_cleared, field-required}
+use borrow.Author.Rules.{rules}
 use Rattle.call_indicators.proofs.clear_of.Goals as goal
 
-pub returns-then-not-within : goal.returns-then-not-within
+pub returns-in_err-field : goal.returns-in_err-field
 unfolding call_checks outputs_of
-returns-then-not-within c marks j =
-    let args = c.args in
-    let slice-known = c.slice_known-1 in
-    let within = c.within in
-    number_refuses _ _ (observation_of args.s.now) (edits (clear_with_indicators args.k)) (λ i. (slice-known.given i).fits) j
-    1 46 args.k _ refl _ within.ensures (ap not c.if-not-within.true)
-
-pub row-row-requires : goal.row-row-requires
-row-row-requires c =
-    let args = c.args in
-    let within = c.within in
-    between_in 1 46 args.k _ within.ensures (ap not c.if-not-within.false)
+returns-in_err-field c marks j =
+    no_field _ _ _ _ c.from_residual.ensures.1 c.args.number c.in_err-field.ensures (bytes_in _ c.type_inv.buffer) j (edits (clear_with_indicators c.args.number)) _ refl
 
 pub returns-then-is_required : goal.returns-then-is_required
 unfolding call_checks
 returns-then-is_required c marks j =
-    let slice-known = c.slice_known-1 in
-    let args = c.args in
-    let within = c.within in
-    let is-required = c.is_required in
-    let if2 = c.if-is_required in
-    field-required _ _ (λ i. (slice-known.given i).fits) j args.k _ within.ensures (ap not c.if-not-within.false) (clear_with_indicators args.k) refl _ is-required.ensures if2.true
+    let f = c.in_ok-field.field in
+    rw (← c.in_ok-field.ensures)
+    (field-required _ _ (bytes_in _ c.type_inv.buffer) j _ f.low f.high (clear_with_indicators f.number) refl _ c.is_required.ensures c.if-is_required.true)
 
 pub empty-requires : goal.empty-requires
-empty-requires c =
-    let args = c.args in
-    let within = c.within in
-    let pre = c.requires in
-    let is-required = c.is_required in
-    let if2 = c.if-is_required in
-    let row = c.row-row in
-    let h = between_in 1 46 args.k _ within.ensures (ap not c.if-not-within.false) in
-    (pre, h.0, h.1, sym is-required.ensures ∙ if2.false, row.ensures)
+empty-requires c = (c.requires, sym c.is_required.ensures ∙ c.if-is_required.false)
 
 pub returns : goal.returns
 unfolding call_checks gives made
 returns c marks j =
-    let args = c.args in
-    let slice-known = c.slice_known-1 in
-    let within = c.within in
-    let row = c.row-row in
-    let the_empty = c.empty in
-    let told = c.told in
-    let slice-known2 = c.slice_known-2-1 in
-    let is-required = c.is_required in
-    let if2 = c.if-is_required in
-    card_cleared _ _ (λ i. (slice-known.given i).fits) j args.k _ within.ensures (ap not c.if-not-within.false) _ row.ensures _ the_empty.ensures.1 _ told.ensures
-    _ (λ i. (slice-known2.given i).fits) (clear_with_indicators args.k) refl refl (cleared_attachments (observation_of args.s.now) (clears_of (observation_of args.s.now) args.k))
-    _ is-required.ensures if2.false the_empty.ensures.0
+    let f = c.in_ok-field.field in
+    let s = observation_of c.args.buffer.now in
+    let before : Bytes c.args.buffer.now = search rules in
+    rw (← c.in_ok-field.ensures)
+    (card_cleared _ _ before j _ f.low f.high _ c.empty.ensures.1 _ c.value_of.ensures _ (bytes_in _ c.type_inv.buffer) (clear_with_indicators f.number) refl refl
+    (cleared_attachments s (clears_of s f.number)) _ c.is_required.ensures c.if-is_required.false c.empty.ensures.0)

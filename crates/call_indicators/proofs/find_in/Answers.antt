@@ -1,43 +1,39 @@
 -- `call_indicators::find_in` meets its contract.
 -- Assumes nothing.
-use mathlib.Core.Path.{refl}
-use mathlib.Core.List.{[]}
+use Prim.Native.Nat.{ℕ}
+use mathlib.Core.Path.{◌≡◌, refl, sym, ap₂, ◌∙◌}
+use mathlib.Core.List.{List, [], ◌++◌}
+use lib.ListN.{length, drop}
+use borrow.Author.Rules.{rules}
+use lib.Seq.{length-take-le}
 use native.Mathlib.Omega.{arith}
+use Rattle.laws.proofs.Results.{bytes_in}
 use Rattle.laws.proofs.Report.{passes}
 use Rattle.report.proofs.Found.{found_by, absent, present}
-use Rattle.call_indicators.proofs.Lists.{digits-length, find-short, find_done, found_hidden, found-shown}
+use Rattle.call_indicators.proofs.Lists.{find-short, find_done, found_hidden, found-shown, some_is, none_is}
 use Rattle.call_indicators.proofs.find_in.Goals as goal
 
-pub returns-then-found-ne0 : goal.returns-then-found-ne0
-returns-then-found-ne0 c marks j =
-    let pre = c.requires in
-    let shared-slice-known = c.shared_slice_known-1 in
-    let if1 = c.if-found-ne0 in
-    let f = found_by pre.1 j in
-    find_done marks _ _ j [] _ 0 (found_hidden _ (present marks (λ i. omega (arith, shared-slice-known.given i)) f if1.true)) refl (omega arith) refl
+pub returns-then-is_some : goal.returns-then-is_some
+returns-then-is_some c marks j =
+    let held = some_is _ (sym c.is_some.ensures ∙ c.if-is_some.true) in
+    find_done marks _ _ j [] _ 0 (found_hidden _ (present marks (bytes_in _ c.type_inv.buffer) (found_by c.requires.1 j) held.0 held.1)) refl (omega arith) refl
 
-pub lost_indicators-l-requires : goal.lost_indicators-l-requires
-lost_indicators-l-requires c = (passes _ _ _ c.requires.1.judged).0.long
+pub lost_indicators-lost-requires : goal.lost_indicators-lost-requires
+lost_indicators-lost-requires c = (passes _ _ _ c.requires.1.judged).0.long
 
-pub returns-then-out-count : goal.returns-then-out-count
-returns-then-out-count c marks j =
-    let pre = c.requires in
-    let shared-slice-known = c.shared_slice_known-1 in
-    let if1 = c.if-found-ne0 in
-    let lost-indicators = c.lost_indicators-l in
-    let if2 = c.if-out-count in
-    let f = found_by pre.1 j in
-    find-short marks _ _ j _ (found-shown _ _ (absent marks (λ i. omega (arith, shared-slice-known.given i)) f if1.false) lost-indicators.ensures)
-    (omega (arith, digits-length lost-indicators.result.count lost-indicators.result.fields, if2.true))
+pub returns-then-out-lost : goal.returns-then-out-lost
+returns-then-out-lost c marks j =
+    let lost = c.lost_indicators-lost in
+    let six : length lost.result.fields ≡ 6 = search rules in
+    let none = none_is _ (sym c.is_some.ensures ∙ c.if-is_some.false) in
+    find-short marks _ _ j _ (found-shown _ _ (absent marks (bytes_in _ c.type_inv.buffer) (found_by c.requires.1 j) none) lost.ensures.0)
+    (omega (arith, length-take-le lost.result.count lost.result.fields (omega arith)))
 
 pub returns : goal.returns
 returns c marks j =
-    let pre = c.requires in
-    let shared-slice-known = c.shared_slice_known-1 in
-    let if1 = c.if-found-ne0 in
-    let lost-indicators = c.lost_indicators-l in
-    let if2 = c.if-out-count in
-    let the-write = c.write in
-    let f = found_by pre.1 j in
-    find_done marks _ _ j _ _ _ (found-shown _ _ (absent marks (λ i. omega (arith, shared-slice-known.given i)) f if1.false) lost-indicators.ensures)
-    (digits-length lost-indicators.result.count lost-indicators.result.fields) if2.false the-write.ensures
+    let lost = c.lost_indicators-lost in
+    let six : length lost.result.fields ≡ 6 = search rules in
+    let none = none_is _ (sym c.is_some.ensures ∙ c.if-is_some.false) in
+    let long = length-take-le lost.result.count lost.result.fields (omega arith) in
+    find_done marks _ _ j _ _ _ (found-shown _ _ (absent marks (bytes_in _ c.type_inv.buffer) (found_by c.requires.1 j) none) lost.ensures.0) long c.if-out-lost.false
+    (ap₂ (λ (xs : List ℕ) (n : ℕ). xs ++ drop n c.args.out.now) c.copy_from_slice.ensures.after (sym long))

@@ -6,6 +6,5 @@ use Rattle.call_indicators.proofs.take_out.Goals as goal
 
 pub returns : goal.returns
 returns c =
-    let exchange = c.exchange-old in
-    let pre = c.requires in
-    emptied_one _ _ _ exchange.result pre.1 pre.2 exchange.ensures.0 exchange.ensures.1 (search rules)
+    let f = c.at.result in
+    rw (← c.at.ensures) (emptied_one _ _ _ c.exchange-former.result f.low f.high c.exchange-former.ensures.0 c.exchange-former.ensures.1 (search rules))

@@ -9,17 +9,9 @@ use Rattle.call_indicators.proofs.take_temperature.Goals as goal
 
 pub returns-then-temperatures_missing : goal.returns-then-temperatures_missing
 returns-then-temperatures_missing c =
-    let temperatures-missing = c.temperatures_missing in
-    let if1 = c.if-temperatures_missing in
-    let args = c.args in
-    let take_out = c.take_out in
-    let lost = sym temperatures-missing.ensures ∙ if1.true in
-    subst (λ (t : Bool). Emptied args.s.now take_out.new.s (cond t (27 ∷ []) []) take_out.result) (sym lost) take_out.ensures
+    subst (λ (t : Bool). Emptied c.args.buffer.now c.take_out.new.buffer (cond t (27 ∷ []) []) c.take_out.result)
+    (sym (sym c.temperatures_missing.ensures ∙ c.if-temperatures_missing.true)) c.take_out.ensures
 
 pub returns : goal.returns
 returns c =
-    let temperatures-missing = c.temperatures_missing in
-    let if1 = c.if-temperatures_missing in
-    let args = c.args in
-    let kept = sym temperatures-missing.ensures ∙ if1.false in
-    subst (λ (t : Bool). Emptied args.s.now args.s.now (cond t (27 ∷ []) []) 0) (sym kept) (emptied_none _)
+    subst (λ (t : Bool). Emptied c.args.buffer.now c.args.buffer.now (cond t (27 ∷ []) []) 0) (sym (sym c.temperatures_missing.ensures ∙ c.if-temperatures_missing.false)) (emptied_none _)

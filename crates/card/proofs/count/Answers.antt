@@ -1,13 +1,13 @@
 -- `card::count` meets its contract.
 -- Assumes nothing.
-use Prim.Native.Nat.{ℕ, ◌/◌}
 use native.Mathlib.Omega.{arith}
-use mathlib.Core.Path.{ap, ◌∙◌}
+use mathlib.Core.Path.{◌∙◌}
 use Rattle.card.proofs.Numbers.{count_at}
+use borrow.Author.Rules.{rules}
 use Rattle.card.proofs.count.Goals as goal
 
 pub returns : goal.returns
 returns c = (
-  ap (λ (n : ℕ). n / 16) c.wide.ensures.0 ∙ count_at c.args.s.now (λ j. (c.shared_slice_known-1.given j).fits) c.requires,
+  c.from.ensures ∙ count_at c.args.s.now (search rules) c.requires,
   omega arith,
 )

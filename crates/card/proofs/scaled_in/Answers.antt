@@ -7,10 +7,10 @@ use Rattle.card.proofs.scaled_in.Goals as goal
 
 pub overflow_add-result : goal.overflow_add-result
 overflow_add-result c =
-    let small : c.args.c.0 < 65536 = search rules in
-    scaled_fits c.args.c c.args.row c.base.result small c.base.ensures
+    let small : c.args.code.0 < 65536 = search rules in
+    scaled_fits c.args.code c.args.row c.base.result small c.base.ensures
 
 pub returns : goal.returns
 returns c =
-    let small : c.args.c.0 < 65536 = search rules in
-    scaled_is c.args.c c.args.row c.base.result small c.base.ensures
+    let small : c.args.code.0 < 65536 = search rules in
+    scaled_is c.args.code c.args.row c.base.result small c.base.ensures

@@ -2,14 +2,15 @@
 -- Assumes nothing.
 use native.Mathlib.Omega.{arith}
 use Rattle.card.proofs.Numbers.{carded_rptin}
+use borrow.Author.Rules.{rules}
 use Rattle.card.proofs.set_rptin.Goals as goal
 
 pub returns : goal.returns
 returns c =
     carded_rptin c.args.s.now c.write.new.s c.args.v
-    (λ j. (c.slice_known-1.given j).fits)
-    (λ j. (c.slice_known-2-1.given j).fits)
+    (search rules)
+    (search rules)
     c.requires
     c.write.ensures.1
     (omega arith)
-    c.write.ensures.0
+    (rw c.from.ensures at c.write.ensures.0)

@@ -1,7 +1,5 @@
 -- `checks::check` meets its contract.
 -- Assumes nothing.
-use mathlib.Core.Path.{ap, ◌∙◌}
-use Rattle.checks.specs.declared.CardCheck.TheVariants.{Checksum}
 use Rattle.checks.proofs.Card.{card_passed}
 use Rattle.checks.proofs.check.Goals as goal
 
@@ -12,9 +10,6 @@ returns-then-faults-eq0 c =
     let w = c.word-c in
     let d = c.word-d in
     let e = c.word-e in
-    ap Checksum c.checksum.ensures
-    ∙ card_passed c.args.s.now c.requires a.result b.result w.result d.result e.result a.ensures b.ensures w.ensures d.ensures e.ensures
-    (c.faults.ensures c.if-faults-eq0.true)
-
-pub returns : goal.returns
-returns c = c.walk.ensures
+    rw c.checksum.ensures
+    (card_passed c.args.buffer.now c.requires a.result b.result w.result d.result e.result a.ensures b.ensures w.ensures d.ensures e.ensures
+    (c.faults.ensures c.if-faults-eq0.true))

@@ -3,8 +3,5 @@
 use Rattle.flags.proofs.Body.{Fitting}
 use Rattle.flags.proofs.permitted.Given as goal
 
-abbrev pub invariant-loop-n : goal.invariant-loop-n
-invariant-loop-n l = Fitting l.marks l.flags l.n l.left l.faults
-
-abbrev pub decreases-loop-n : goal.decreases-loop-n
-decreases-loop-n l = l.n
+abbrev pub invariant-loop-row : goal.invariant-loop-row
+invariant-loop-row l = Fitting l.marks l.flags l.row-iterator.iter.rest.now l.left l.all

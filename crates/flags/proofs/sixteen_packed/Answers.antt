@@ -6,13 +6,11 @@ use Rattle.flags.proofs.sixteen_packed.Goals as goal
 pub returns-then-at-eq0 : goal.returns-then-at-eq0
 returns-then-at-eq0 c =
     let a = c.args in
-    let known = c.shared_slice_known-1 in
-    even_place a.s.now (λ i. (known.given i).fits) a.at _ c.requires.0 c.if-at-eq0.true c.word-w.ensures
+    even_place a.s.now (λ i. (c.type_inv.s i).fits) a.at _ c.requires.0 c.if-at-eq0.true c.word-w.ensures
 
 pub returns : goal.returns
 returns c =
     let pre = c.requires in
     let word = c.word-w in
     let a = c.args in
-    let known = c.shared_slice_known-1 in
-    odd_place a.s.now (λ i. (known.given i).fits) a.at _ _ pre.0 c.if-at-eq0.false word.ensures c.wide.ensures.0
+    odd_place a.s.now (λ i. (c.type_inv.s i).fits) a.at _ _ pre.0 c.if-at-eq0.false word.ensures (c.from.ensures)

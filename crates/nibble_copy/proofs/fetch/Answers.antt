@@ -5,15 +5,11 @@ use native.Mathlib.Nat.{zero-add}
 use native.Mathlib.Omega.{arith}
 use mathlib.Core.List.{List, ◌++◌}
 use mathlib.Core.Path.{◌≡◌, refl, sym, ap, ◌∙◌}
-use lib.ListN.{length, take, length-set, drop}
-use borrow.Author.Rules.{rules}
+use lib.ListN.{length, take, drop}
 use Rattle.format.specs.Nibbles.{nibbles}
 use Rattle.laws.proofs.Nibbles.{length-nibbles}
 use Rattle.nibble_edit.proofs.Paste.{ends}
 use Rattle.nibble_copy.proofs.fetch.Goals as goal
-
-pub bounds-out-last : goal.bounds-out-last
-bounds-out-last c = simp length-set (search rules)
 
 pub returns : goal.returns
 returns c =

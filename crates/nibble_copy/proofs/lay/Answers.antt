@@ -9,23 +9,8 @@ use lib.ListN.{length, get_or, set}
 use borrow.Author.Rules.{rules}
 use Rattle.format.specs.Nibbles.{nibbles}
 use Rattle.laws.proofs.Nibbles.{length-nibbles}
-use Rattle.nibble_edit.proofs.Paste.{paste_none, ends}
+use Rattle.nibble_edit.proofs.Paste.{ends}
 use Rattle.nibble_copy.proofs.lay.Goals as goal
-
-pub returns-then-count-eq0 : goal.returns-then-count-eq0
-returns-then-count-eq0 c =
-    let a = c.args in
-    let n₀ : List ℕ = nibbles a.s.now in
-    (paste_none n₀ a.at a.ns.now (length a.ns.now) c.if-count-eq0.true, refl)
-
-pub put-requires : goal.put-requires
-put-requires c = (search rules, search rules, c.requires.2 0)
-
-pub put-requires-2 : goal.put-requires-2
-put-requires-2 c =
-    let pre = c.requires in
-    let args = c.args in
-    (search rules, search rules, pre.2 (length args.ns.now - 1))
 
 pub returns : goal.returns
 returns c =

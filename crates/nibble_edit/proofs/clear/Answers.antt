@@ -9,14 +9,8 @@ use lib.ListN.{length, set, replicate, length-replicate, get_or-replicate}
 use borrow.Author.Rules.{rules}
 use Rattle.format.specs.Nibbles.{nibbles}
 use Rattle.laws.proofs.Nibbles.{length-nibbles}
-use Rattle.nibble_edit.proofs.Paste.{paste_none, paste_zeros, ends}
+use Rattle.nibble_edit.proofs.Paste.{paste_zeros, ends}
 use Rattle.nibble_edit.proofs.clear.Goals as goal
-
-pub returns-then-count-eq0 : goal.returns-then-count-eq0
-returns-then-count-eq0 c =
-    let a = c.args in
-    let n₀ : List ℕ = nibbles a.s.now in
-    (paste_none n₀ a.at (replicate a.count 0) a.count c.if-count-eq0.true, refl)
 
 pub returns : goal.returns
 returns c =

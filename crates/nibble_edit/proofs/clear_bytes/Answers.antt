@@ -1,38 +1,21 @@
 -- `nibble_edit::clear_bytes` meets its contract.
 -- Assumes nothing.
-use Prim.Native.Nat.{ℕ, ◌+◌, ◌*◌}
+use Prim.Native.Nat.{ℕ, ◌+◌, ◌-◌, ◌/◌}
 use native.Mathlib.Omega.{arith}
-use mathlib.Core.List.{List}
-use mathlib.Core.Path.{◌≡◌, refl, sym, ap, ◌∙◌}
-use lib.ListN.{length, replicate, length-replicate, get_or-replicate}
-use lib.Seq.{paste}
-use borrow.Author.Rules.{rules}
+use mathlib.Core.Path.{◌≡◌, sym, ap, ◌∙◌}
+use lib.ListN.{length, take, drop, replicate, length-drop, length-replicate}
+use lib.Seq.{length-take-le}
+use Rattle.std.proofs.lemmas.Slice.{put_mid-paste}
 use Rattle.format.specs.Nibbles.{nibbles}
-use Rattle.nibble_edit.proofs.Paste.{paste_none}
-use Rattle.nibble_edit.proofs.Stores.{byte_turn}
+use Rattle.nibble_edit.proofs.Stores.{bytes_cleared}
 use Rattle.nibble_edit.proofs.clear_bytes.Goals as goal
-
-pub loop-k-init : goal.loop-k-init
-loop-k-init c =
-    let a = c.args in
-    let n₀ : List ℕ = nibbles a.s.now in
-    (search rules, refl, paste_none n₀ a.at (replicate (2 * a.n) 0) (2 * 0) refl)
-
-pub loop-k-preserved : goal.loop-k-preserved
-loop-k-preserved c =
-    let a = c.args in
-    let w = c.loop-k in
-    let zeros : List ℕ = replicate (2 * a.n) 0 in
-    let long : length zeros ≡ 2 * a.n = length-replicate (2 * a.n) 0 in (
-      search rules,
-      search rules,
-      byte_turn a.s.now w.s zeros a.at 0 w.k 0 (omega arith) (omega arith) (omega arith) (omega arith)
-          (sym (get_or-replicate (2 * a.n) (0 + 2 * w.k) 0 0 (omega arith))) (sym (get_or-replicate (2 * a.n) (0 + 2 * w.k + 1) 0 0 (omega arith))) w.invariant.2,
-    )
 
 pub returns : goal.returns
 returns c =
     let a = c.args in
-    let n₀ : List ℕ = nibbles a.s.now in
-    let e : 2 * c.loop-k.k ≡ 2 * a.n = omega arith in
-    c.loop-k.invariant.2 ∙ ap (paste n₀ a.at (replicate (2 * a.n) 0)) e
+    let i : ℕ = a.at / 2 in
+    let k : ℕ = i + a.n - i in
+    let room : length (take k (drop i a.s.now)) ≡ k = length-take-le k (drop i a.s.now) (omega (arith, length-drop i a.s.now)) in
+    let zeros : c.fill.new.self ≡ replicate a.n 0 = c.fill.ensures.after (λ y h. h) ∙ ap (λ (m : ℕ). replicate m 0) (room ∙ omega arith) in
+    ap nibbles (put_mid-paste i k a.s.now c.fill.new.self (replicate a.n 0) a.n zeros (omega arith) (sym (length-replicate a.n 0)))
+    ∙ bytes_cleared a.s.now i a.at a.n (omega arith)

@@ -1,6 +1,5 @@
 -- `nibble_edit::put` meets its contract.
 -- Assumes nothing.
-use Prim.Native.Nat.{◌/◌}
 use native.Mathlib.Omega.{arith}
 use borrow.Author.Rules.{rules}
 use Rattle.nibble_edit.proofs.Stores.{high_put, low_put}
@@ -10,12 +9,6 @@ pub returns-then-at-eq0 : goal.returns-then-at-eq0
 returns-then-at-eq0 c =
     let a = c.args in
     (high_put a.s.now a.at a.v (omega arith) c.if-at-eq0.true, search rules)
-
-pub overflow_mul-s-2 : goal.overflow_mul-s-2
-overflow_mul-s-2 c = omega (arith, c.slice_known-1.given (c.args.at / 2))
-
-pub overflow_add-s-2 : goal.overflow_add-s-2
-overflow_add-s-2 c = omega (arith, c.slice_known-1.given (c.args.at / 2))
 
 pub returns : goal.returns
 returns c =

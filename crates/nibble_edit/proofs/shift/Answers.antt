@@ -4,18 +4,12 @@ use Prim.Native.Nat.{ℕ, ◌+◌, ◌*◌, ◌-◌, ◌%◌}
 use native.Mathlib.Omega.{arith}
 use mathlib.Core.List.{List}
 use mathlib.Core.Path.{◌≡◌, refl, ap, ◌∙◌}
-use lib.ListN.{length, set, drop}
+use lib.ListN.{length, set}
 use borrow.Author.Rules.{rules}
 use Rattle.format.specs.Nibbles.{nibbles}
 use Rattle.laws.proofs.Nibbles.{length-nibbles}
-use Rattle.nibble_edit.proofs.Paste.{paste_none, ends}
+use Rattle.nibble_edit.proofs.Paste.{ends}
 use Rattle.nibble_edit.proofs.shift.Goals as goal
-
-pub returns-then-count-eq0 : goal.returns-then-count-eq0
-returns-then-count-eq0 c =
-    let a = c.args in
-    let n₀ : List ℕ = nibbles a.s.now in
-    (paste_none n₀ a.to (drop a.from n₀) a.count c.if-count-eq0.true, refl)
 
 pub returns : goal.returns
 returns c =

@@ -1,9 +1,9 @@
--- `pack::check_fields` meets its contract: no field is refused where the refusals sum to 0.
+-- `pack::check_fields` meets its contract: no field is refused where all pass.
 -- Assumes nothing.
+use borrow.Author.Tests.{eqb-true}
 use mathlib.Core.Path.{sym, ◌∙◌}
 use Rattle.pack.proofs.Checks.{none_refused}
 use Rattle.pack.proofs.check_fields.Goals as goal
 
-pub returns-then-refusals-eq0 : goal.returns-then-refusals-eq0
-returns-then-refusals-eq0 c =
-    none_refused c.args.values.now c.args.word c.requires (sym c.refusals.ensures ∙ c.if-refusals-eq0.true)
+pub returns-then-all_pass : goal.returns-then-all_pass
+returns-then-all_pass c = none_refused c.args.lent.values.now c.args.lent.word c.args.lent.long (eqb-true _ 0 (sym c.all_pass.ensures ∙ c.if-all_pass.true))

@@ -9,12 +9,12 @@ use Rattle.format.specs.declared.Scaled.{Scaled}
 use borrow.Author.Rules.{rules}
 use Rattle.read_values.proofs.value_or_zero.Goals as goal
 
-pub returns-then-x-eq0 : goal.returns-then-x-eq0
+pub returns-then-code-eq0 : goal.returns-then-code-eq0
 unfolding entry_of
-returns-then-x-eq0 c = rw (eq-eqb c.args.c.0 0 c.if-x-eq0.true)
+returns-then-code-eq0 c = rw (eq-eqb c.args.code.0 0 c.if-code-eq0.true)
 
 pub returns : goal.returns
 unfolding entry_of
 returns c =
-    let held : to_z w64 (of_z w64 c.scaled_in-v.result.0) ≡ c.scaled_in-v.result.0 = search rules in
-    rw (ne_eqb c.args.c.0 0 c.if-x-eq0.false) (held ∙ ap (λ (v : Scaled). v.0) c.scaled_in-v.ensures)
+    let held : to_z w64 (of_z w64 c.scaled.result.0) ≡ c.scaled.result.0 = search rules in
+    rw (ne_eqb c.args.code.0 0 c.if-code-eq0.false) (held ∙ ap (λ (v : Scaled). v.0) c.scaled.ensures)

@@ -1,53 +1,37 @@
 -- `replay::fetch` meets its contract.
 -- Assumes nothing.
 use Prim.Native.Nat.{ℕ}
-use mathlib.Core.List.{List}
 use native.Mathlib.Omega.{arith}
-use Rattle.script.proofs.Replay.{turn_cut, output_full, turn_output}
 use mathlib.Core.Path.{refl, ap, ◌∙◌}
+use mathlib.Core.List.{List}
 use Rattle.format.specs.Calls as call
 use Rattle.format.specs.Calls.{Call, outputs_of}
 use Rattle.script.specs.Script.{kinds, number_at}
-use Rattle.replay.specs.Counts.{leaves}
+use Rattle.script.proofs.Replay.{turn_cut, output_full, turn_output}
+use Rattle.replay.specs.Counts.{left_by, after_entry}
 use Rattle.replay.proofs.fetch.Goals as goal
 
-pub returns-then-s-lt17 : goal.returns-then-s-lt17
+pub returns-in_err-end : goal.returns-in_err-end
 unfolding kinds
-returns-then-s-lt17 c =
-    ap (leaves _ _) c.idle.ensures
-    ∙ turn_cut _ _ c.args.s.now _ 8 _
-    c.requires.of_kind refl (omega (arith, c.if-s-lt17.true))
+returns-in_err-end c =
+    ap (left_by _ _) c.from_residual.ensures ∙ turn_cut _ _ c.args.script.now _ 8 _ c.requires.starts.of_kind refl c.in_err-end.ensures
 
-pub returns-then-s-n : goal.returns-then-s-n
-unfolding kinds
-returns-then-s-n c =
-    ap (leaves _ _) c.idle-then-s-n.ensures
-    ∙ turn_cut _ _ c.args.s.now _ 8 _ c.requires.of_kind
-    refl (omega (arith, c.if-s-n.true, c.number_at-n.ensures))
-
-pub returns-then-log-n : goal.returns-then-log-n
+pub returns-then-log-lent : goal.returns-then-log-lent
 unfolding kinds outputs_of
-returns-then-log-n c =
-    let args = c.args in
-    let pre = c.requires in
-    ap (leaves _ _) c.idle-then-log-n.ensures
-    ∙ output_full _ _ args.s.now _ 8 9 _ (λ (d : List ℕ). call.fetches (call.fetch (number_at args.s.now 1) d))
-    (λ (d : List ℕ). call.fetches (call.fetch (number_at args.s.now 1) d)) pre.of_kind refl (λ d. refl) c.number_at-n.ensures
-    (omega (arith, c.if-s-n.false, c.number_at-n.ensures, c.if-s-lt17.false))
-    (omega (arith, c.if-log-n.true, pre.room))
+returns-then-log-lent c =
+    let s = c.args.script.now in
+    let f : List ℕ → Call = λ d. call.fetches (call.fetch (number_at s 1) d) in
+    let e = c.in_ok-end.ensures in
+    output_full _ _ s _ 8 9 _ f f c.requires.starts.of_kind refl (λ d. refl) e.1 e.0 (omega (arith, c.if-log-lent.true, c.requires.starts.room))
 
 pub returns : goal.returns
 unfolding kinds outputs_of
 returns c =
-    let args = c.args in
+    let s = c.args.script.now in
     let pre = c.requires in
-    let if1 = c.if-s-lt17 in
-    let number_at_lem = c.number_at-n in
-    let if2 = c.if-s-n in
-    let if3 = c.if-log-n in
-    let copy = c.copy in
-    ap (leaves _ _) c.answered.ensures.1
-    ∙ turn_output _ _ args.s.now args.log.now 8 9 _ (λ (d : List ℕ). call.fetches (call.fetch (number_at args.s.now 1) d))
-    (λ (d : List ℕ). call.fetches (call.fetch args.k d)) pre.of_kind refl (λ d. refl) number_at_lem.ensures (omega (arith, if2.false, number_at_lem.ensures, if1.false))
-    _ _ _ _ (omega (arith, if3.false, pre.room)) (ap {B = List ℕ → Call} (λ (x : ℕ) (d : List ℕ). call.fetches (call.fetch x d)) pre.number) copy.ensures
-    c.fetch-r.ensures c.answered.ensures.0
+    let e = c.in_ok-end.ensures in
+    ap (after_entry _ _) c.answered.ensures.1
+    ∙ turn_output _ _ s c.args.log.now 8 9 _ (λ (d : List ℕ). call.fetches (call.fetch (number_at s 1) d)) (λ (d : List ℕ). call.fetches (call.fetch c.args.number d))
+    pre.starts.of_kind refl (λ d. refl) e.1 e.0 _ _ _ _ (omega (arith, c.if-log-lent.false, pre.starts.room))
+    (ap {B = List ℕ → Call} (λ (x : ℕ) (d : List ℕ). call.fetches (call.fetch x d)) pre.number) c.copy_from_slice.ensures.after
+    c.fetch-reply.ensures c.answered.ensures.0

@@ -1,40 +1,26 @@
 -- `replay::put` meets its contract.
 -- Assumes nothing.
-use mathlib.Core.List.{List}
-use Prim.Native.Nat.{ℕ, ◌+◌}
-use native.Mathlib.Omega.{arith}
-use Rattle.script.proofs.Replay.{turn_cut, turn_plain, part-counted}
+use Prim.Native.Nat.{ℕ}
 use mathlib.Core.Path.{refl, ap, ap₂, ◌∙◌}
+use mathlib.Core.List.{List}
 use Rattle.format.specs.Calls as call
 use Rattle.format.specs.Calls.{outputs_of}
 use Rattle.script.specs.Script.{kinds}
-use Rattle.replay.specs.Counts.{leaves}
+use Rattle.script.proofs.Replay.{turn_cut, turn_plain, part-counted}
+use Rattle.replay.specs.Counts.{left_by, after_entry}
 use Rattle.replay.proofs.put.Goals as goal
 
-pub returns-then-s-lt17 : goal.returns-then-s-lt17
+pub returns-in_err-end : goal.returns-in_err-end
 unfolding kinds
-returns-then-s-lt17 c =
-    ap (leaves _ _) c.idle.ensures
-    ∙ turn_cut _ _ c.args.s.now _ 7 _
-    c.requires.of_kind refl (omega (arith, c.if-s-lt17.true))
-
-pub returns-then-s-n : goal.returns-then-s-n
-unfolding kinds
-returns-then-s-n c =
-    ap (leaves _ _) c.idle-then-s-n.ensures
-    ∙ turn_cut _ _ c.args.s.now _ 7 _ c.requires.of_kind
-    refl (omega (arith, c.if-s-n.true, c.number_at-n.ensures))
+returns-in_err-end c =
+    ap (left_by _ _) c.from_residual.ensures ∙ turn_cut _ _ c.args.script.now _ 7 _ c.requires.starts.of_kind refl c.in_err-end.ensures
 
 pub returns : goal.returns
 unfolding kinds outputs_of
 returns c =
-    let args = c.args in
+    let s = c.args.script.now in
     let pre = c.requires in
-    let if1 = c.if-s-lt17 in
-    let number_at_lem = c.number_at-n in
-    ap (leaves _ _) c.answered.ensures.1
-    ∙ turn_plain _ _ args.s.now _ 7 _ _ _ _ _ _ _ pre.of_kind refl refl c.put-r.ensures
-    c.answered.ensures.0
-    (ap₂ (λ (x : ℕ) (d : List ℕ). call.edits (call.put x d)) pre.number (part-counted args.s.now 9 _ number_at_lem.ensures))
-    (ap (λ (n : ℕ). 17 + n) number_at_lem.ensures)
-    (omega (arith, c.if-s-n.false, number_at_lem.ensures, if1.false)) pre.room
+    let e = c.in_ok-end.ensures in
+    ap (after_entry _ _) c.answered.ensures.1
+    ∙ turn_plain _ _ s _ 7 _ _ _ _ _ _ _ pre.starts.of_kind refl refl c.put-reply.ensures c.answered.ensures.0
+    (ap₂ (λ (x : ℕ) (d : List ℕ). call.edits (call.put x d)) pre.number (part-counted s 9 _ e.1)) e.1 (rw e.1 at e.0) pre.starts.room

@@ -1,55 +1,40 @@
 -- `replay::put_text` meets its contract.
 -- Assumes nothing.
-use Prim.Native.Nat.{ℕ, ◌+◌, ◌≤◌}
+use Prim.Native.Nat.{ℕ}
 use native.Mathlib.Omega.{arith}
-use mathlib.Core.Path.{refl, ap, ◌∙◌}
+use mathlib.Core.Path.{refl, ap, ap₂, ◌∙◌}
 use mathlib.Core.List.{List}
-use lib.ListN.{length}
 use Rattle.format.specs.Calls as call
 use Rattle.format.specs.Calls.{outputs_of}
-use Rattle.script.specs.Script.{number_at, kinds}
-use Rattle.script.proofs.Replay.{turn_cut, turn_plain, texts_lent, texts_taken, texts_whole}
-use Rattle.replay.specs.Counts.{leaves}
+use Rattle.script.specs.Script.{kinds}
+use Rattle.script.proofs.Replay.{turn_cut, turn_plain, second_cut, out_is, origins_are, texts_taken, texts_whole}
+use Rattle.replay.specs.Counts.{left_by, after_entry}
 use Rattle.replay.proofs.put_text.Goals as goal
 
-pub returns-then-s-n : goal.returns-then-s-n
+pub returns-in_err-middle : goal.returns-in_err-middle
 unfolding kinds
-returns-then-s-n c =
-    let pre = c.requires in
-    ap (leaves _ _) c.idle.ensures ∙ turn_cut _ _ c.args.s.now _ 10 _ pre.of_kind refl
-    (omega (arith, c.if-s-n.true, pre.number, pre.nine))
+returns-in_err-middle c =
+    ap (left_by _ _) c.from_residual.ensures ∙ turn_cut _ _ c.args.script.now _ 10 _ c.requires.of_kind refl (omega (arith, c.in_err-middle.ensures))
 
-pub returns-then-s-e-lt8 : goal.returns-then-s-e-lt8
+pub returns-in_err-end : goal.returns-in_err-end
 unfolding kinds
-returns-then-s-e-lt8 c =
-    let pre = c.requires in
-    ap (leaves _ _) c.idle-then-s-e-lt8.ensures ∙ turn_cut _ _ c.args.s.now _ 10 _ pre.of_kind refl
-    (omega (arith, c.if-s-e-lt8.true, c.if-s-n.false, pre.number, pre.nine))
-
-pub returns-then-s-f : goal.returns-then-s-f
-unfolding kinds
-returns-then-s-f c =
+returns-in_err-end c =
     let args = c.args in
-    let pre = c.requires in
-    let m = c.number_at-m.ensures ∙ ap (λ (j : ℕ). number_at args.s.now (9 + j)) pre.number in
-    ap (leaves _ _) c.idle-then-s-f.ensures ∙ turn_cut _ _ args.s.now _ 10 _ pre.of_kind refl
-    (omega (arith, c.if-s-f.true, c.if-s-e-lt8.false, c.if-s-n.false, m, pre.number, pre.nine))
+    ap (left_by _ _) c.from_residual-in_err-end.ensures
+    ∙ second_cut args.table.now args.buffer.now args.script.now args.log.now 10 _ 0 (λ (d e : List ℕ). call.edits (call.put_text d e)) c.requires.of_kind refl
+    c.in_ok-middle.ensures.1 c.in_err-end.ensures
 
 pub returns : goal.returns
 unfolding kinds outputs_of
 returns c =
     let args = c.args in
     let pre = c.requires in
-    let if1 = c.if-s-n in
-    let if2 = c.if-s-e-lt8 in
-    let number_at_lem = c.number_at-m in
-    let if3 = c.if-s-f in
-    let answered = c.answered in
-    let fits : 17 + args.n + number_at_lem.result ≤ length args.s.now = omega (arith, if3.false, if2.false, if1.false, pre.nine) in
-    ap (leaves _ _) answered.ensures.1
-    ∙ turn_plain _ _ args.s.now _ 10 _ _ _ _ _ _ _ pre.of_kind refl refl c.put_text-r.ensures.0 answered.ensures.0
-    (texts_lent args.marks.now args.b.now args.s.now args.log.now 10 args.n _ (λ (d e : List ℕ). call.edits (call.put_text d e)) pre.of_kind refl
-    pre.number number_at_lem.ensures fits (λ (d e : List ℕ). call.edits (call.put_text d e)) refl)
-    (texts_taken args.marks.now args.b.now args.s.now args.log.now 10 args.n _ (λ (d e : List ℕ). call.edits (call.put_text d e)) pre.of_kind refl
-    pre.number number_at_lem.ensures fits) (texts_whole args.marks.now args.b.now args.s.now args.log.now 10 args.n _
-    (λ (d e : List ℕ). call.edits (call.put_text d e)) pre.of_kind refl pre.number number_at_lem.ensures fits) pre.room
+    let f : List ℕ → List ℕ → call.Call = λ d e. call.edits (call.put_text d e) in
+    let m = c.in_ok-middle.ensures.1 in
+    let e = c.in_ok-end.ensures in
+    ap (after_entry _ _) c.answered.ensures.1
+    ∙ turn_plain _ _ args.script.now _ 10 _ _ _ _ _ _ _ pre.of_kind refl refl c.put_text-reply.ensures.0 c.answered.ensures.0
+    (ap₂ f (out_is args.table.now args.buffer.now args.script.now args.log.now 10 _ _ f pre.of_kind refl m e.1 e.0)
+    (origins_are args.table.now args.buffer.now args.script.now args.log.now 10 _ _ f pre.of_kind refl m e.1 e.0))
+    (texts_taken args.table.now args.buffer.now args.script.now args.log.now 10 _ _ f pre.of_kind refl m e.1 e.0)
+    (texts_whole args.table.now args.buffer.now args.script.now args.log.now 10 _ _ f pre.of_kind refl m e.1 e.0) pre.room

@@ -3,11 +3,12 @@
 use Prim.Native.Nat.{◌-◌}
 use mathlib.Core.Path.{◌≡◌}
 use lib.ListN.{length}
+use Rattle.format.specs.Bits.{Bytes}
 use Rattle.script.proofs.Scripts.{Going}
 use Rattle.replay.proofs.replay.Given as goal
 
-abbrev pub invariant-loop-r : goal.invariant-loop-r
-invariant-loop-r l = Going l.marks l.initial.b l.script l.initial.log l.b l.log l.calls l.at l.to × (length l.b ≡ length l.initial.b)
+abbrev pub invariant-loop-entry : goal.invariant-loop-entry
+invariant-loop-entry l = Going l.table l.initial.buffer l.script l.initial.log l.buffer l.log l.all.calls l.all.taken l.all.written × (length l.buffer ≡ length l.initial.buffer) × Bytes l.initial.buffer
 
-abbrev pub decreases-loop-r : goal.decreases-loop-r
-decreases-loop-r l = length l.script - l.at
+abbrev pub decreases-loop-entry : goal.decreases-loop-entry
+decreases-loop-entry l = length l.script - l.all.taken

@@ -1,19 +1,12 @@
 -- `report::inspect` meets its contract.
 -- Assumes nothing.
+use Rattle.laws.proofs.Results.{bytes_in, err_by_number}
+use mathlib.Core.Path.{◌∙◌}
 use Rattle.report.proofs.Outcomes.{front_refused, card_alone}
-use native.Mathlib.Omega.{arith}
 use Rattle.report.proofs.inspect.Goals as goal
 
-pub returns-then-v-ne0 : goal.returns-then-v-ne0
-returns-then-v-ne0 c = front_refused _ _ _ _ c.front-v.ensures c.if-v-ne0.true
+pub returns-in_err-front : goal.returns-in_err-front
+returns-in_err-front c = err_by_number _ _ c.from_residual.ensures.1 ∙ front_refused _ _ _ c.in_err-front.field-0.0 c.in_err-front.ensures
 
-pub bounds-s-37 : goal.bounds-s-37
-bounds-s-37 c = let p = c.front-v.ensures.passes c.if-v-ne0.false in omega (arith, p.long)
-
-pub returns-then-s-eq0 : goal.returns-then-s-eq0
-returns-then-s-eq0 c =
-    card_alone _ _ _ (c.front-v.ensures.passes c.if-v-ne0.false)
-    (λ i. (c.shared_slice_known-1.given i).fits) c.if-s-eq0.true
-
-pub inspect_tail-requires : goal.inspect_tail-requires
-inspect_tail-requires c = c.front-v.ensures.passes c.if-v-ne0.false
+pub returns-then-buffer-eq0 : goal.returns-then-buffer-eq0
+returns-then-buffer-eq0 c = card_alone _ _ _ c.in_ok-front.ensures (bytes_in _ c.type_inv.buffer) c.if-buffer-eq0.true

@@ -1,20 +1,16 @@
 -- `script::put_number` meets its contract.
 -- Assumes nothing.
-use Rattle.script.proofs.Numbers.{left_start, left_less, left_none}
-use native.Mathlib.Omega.{arith}
+use Prim.Native.Nat.{ℕ}
+use mathlib.Core.Path.{sym, ap, ◌∙◌}
+use mathlib.Core.List.{List, ◌++◌}
+use lib.ListN.{drop}
+use Rattle.script.specs.Script.{bytes8}
+use Rattle.script.proofs.Numbers.{be_bytes8, length-bytes8}
 use Rattle.script.proofs.put_number.Goals as goal
 
-pub loop-i-init : goal.loop-i-init
-loop-i-init c = (left_start _ _, c.requires)
-
-pub bounds-to-i : goal.bounds-to-i
-bounds-to-i c = omega (arith, c.loop-i.invariant.0.same_length, c.loop-i.invariant.0.within, c.loop-i.invariant.1, c.loop-i-test.true)
-
-pub loop-i-preserved : goal.loop-i-preserved
-loop-i-preserved c = (left_less _ _ _ _ _ c.loop-i.invariant.0 c.loop-i-test.true c.loop-i.invariant.1, c.loop-i.invariant.1)
-
-pub shape_of-to : goal.shape_of-to
-shape_of-to c = c.loop-i.invariant.0.same_length
-
 pub returns : goal.returns
-returns c = left_none _ _ _ _ _ c.loop-i.invariant.0 c.loop-i-test.false
+returns c =
+    let to = c.args.to.now in
+    let n = c.args.number in
+    ap (λ (l : List ℕ). l ++ drop 8 to) (c.copy_from_slice.ensures.after ∙ c.to_be_bytes.ensures ∙ be_bytes8 n)
+    ∙ ap (λ (k : ℕ). bytes8 n ++ drop k to) (sym (length-bytes8 n))

@@ -1,35 +1,25 @@
 -- `tail::walk_tail` meets its contract: what is still to be walked gives the answer, and what is still to be counted the count.
 -- Assumes nothing.
-use mathlib.Core.Path.{sym, ◌∙◌}
+use mathlib.Core.Path.{sym, ap, ◌∙◌}
 use native.Mathlib.Omega.{arith}
-use Rattle.tail.proofs.Turns.{walk_look, walk_pass}
-use Rattle.tail.proofs.Count.{count_start, count_fault, count_more, count_end}
+use Rattle.format.specs.Reply.{by_number}
+use Rattle.nibble.specs.declared.Header.{Header}
+use Rattle.tail.proofs.Turns.{walk_pass}
+use Rattle.tail.proofs.Checks.{passes}
+use Rattle.tail.proofs.Count.{count_more, count_end}
 use Rattle.tail.proofs.walk_tail.Goals as goal
 
-pub loop-st-init : goal.loop-st-init
-loop-st-init c = count_start _ _ c.requires
+pub passed-state-requires : goal.passed-state-requires
+passed-state-requires c = walk_pass _ _ _ _ _ _ _ c.loop-state.invariant.walking _ (sym c.look.ensures ∙ ap by_number c.in_ok-header.was)
 
-pub look-l-requires : goal.look-l-requires
-look-l-requires c = walk_look _ _ _ _ _ _ _ c.loop-st.invariant.walking
+pub loop-state-smaller : goal.loop-state-smaller
+loop-state-smaller c =
+    let p = passes _ _ _ _ _ c.in_ok-header.header (sym c.look.ensures ∙ ap by_number c.in_ok-header.was) in
+    rw c.passed-state.ensures (omega (arith, ap (λ (h : Header). h.body.at) p.read))
 
-pub returns-in-Fault : goal.returns-in-Fault
-returns-in-Fault c =
-    let l = c.loop-st in
-    count_fault _ _ _ _ l.invariant (omega arith) _ (sym c.look-l.ensures ∙ c.in-Fault.is)
-
-pub passed-st-requires : goal.passed-st-requires
-passed-st-requires c =
-    let l = c.loop-st in
-    walk_pass _ _ _ _ _ _ _ l.invariant.walking _ _ (sym c.look-l.ensures ∙ c.in-Fine.is)
-
-pub loop-st-smaller : goal.loop-st-smaller
-loop-st-smaller c = rw c.passed-st.ensures (omega arith)
-
-pub loop-st-preserved : goal.loop-st-preserved
-loop-st-preserved c =
-    let l = c.loop-st in
-    let e = sym c.look-l.ensures ∙ c.in-Fine.is in
-    rw c.passed-st.ensures (count_more _ _ _ _ l.invariant (omega arith) _ _ e)
+pub loop-state-preserved : goal.loop-state-preserved
+loop-state-preserved c =
+    rw c.passed-state.ensures (count_more _ _ _ _ c.loop-state.invariant c.loop-state-test.true _ (sym c.look.ensures ∙ ap by_number c.in_ok-header.was))
 
 pub returns : goal.returns
-returns c = count_end _ _ _ _ c.loop-st.invariant (omega arith)
+returns c = count_end _ _ _ _ c.loop-state.invariant c.loop-state-test.false

@@ -5,8 +5,8 @@ use lib.ListN.{length}
 use Rattle.tail.proofs.Count.{Counting}
 use Rattle.tail.proofs.walk_tail.Given as goal
 
-abbrev pub invariant-loop-st : goal.invariant-loop-st
-invariant-loop-st l = Counting l.marks l.s l.st l.count
+abbrev pub invariant-loop-state : goal.invariant-loop-state
+invariant-loop-state l = Counting l.marks l.s l.state l.count
 
-abbrev pub decreases-loop-st : goal.decreases-loop-st
-decreases-loop-st l = length l.s - l.st.cursor.at
+abbrev pub decreases-loop-state : goal.decreases-loop-state
+decreases-loop-state l = length l.s - l.state.cursor.at

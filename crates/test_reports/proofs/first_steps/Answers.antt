@@ -11,11 +11,10 @@ returns c =
     let start = c.open-start.result in
     let first = c.behind-behind_first.result in
     let second = c.behind-behind_second.result in
-    let number : c.moved-last.result.number ≡ start.number = search rules in
-    let place : c.moved-last.result.place ≡ start.place = search rules in
+    let refusal : c.moved-last.result.refusal ≡ start.refusal = search rules in
     let one : c.next-first.result ≡ step_at b start.at start.end 0 = search rules in
     let two : c.next-second.result ≡ step_at b first.at start.end first.spaces = search rules in
     let twice : second ≡ stands_behind c.next-second.result first.at = search rules in
     let three : c.next-third.result ≡ step_at b second.at start.end second.spaces = search rules in
-    three_in_turn c.args.table.now b start.at start.end start.number start.place c.open-start.ensures.2 _ first second number place
+    three_in_turn c.args.table.now b start.at start.end start.refusal c.open-start.ensures.2 _ first second refusal
     one c.behind-behind_first.ensures two twice three

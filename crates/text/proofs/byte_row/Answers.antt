@@ -3,7 +3,6 @@
 use native.Mathlib.Omega.{arith}
 use mathlib.Core.Path.{◌≡◌, sym, ap}
 use Rattle.text.specs.Rows.{next_state, byte_next, row_from, byte_row}
-use Rattle.text.proofs.Rows.{none_le}
 use Rattle.text.proofs.byte_row.Goals as goal
 
 pub returns-in-0 : goal.returns-in-0
@@ -1028,4 +1027,4 @@ returns-in-254 c = sym (ap byte_row c.in-254.is)
 
 pub returns-in_default : goal.returns-in_default
 unfolding byte_row row_from byte_next next_state
-returns-in_default c = let e : c.args.b ≡ 255 = omega (arith, none_le 255 _ c.in_default.in_default-own.rest) in sym (ap byte_row e)
+returns-in_default c = let e : c.args.b ≡ 255 = omega arith in sym (ap byte_row e)

@@ -5,4 +5,4 @@ use Rattle.text.proofs.Rows.{beyond_rows}
 use Rattle.text.proofs.row.Goals as goal
 
 pub returns-in_default : goal.returns-in_default
-returns-in_default c = (beyond_rows _ c.in_default.in_default-own.rest, omega arith)
+returns-in_default c = (beyond_rows _ (omega arith), omega arith)

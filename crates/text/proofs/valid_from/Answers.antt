@@ -1,58 +1,40 @@
 -- `text::valid_from` meets its contract.
 -- Assumes nothing.
-use Prim.Native.Nat.{ℕ, ◌<◌}
+use Prim.Native.Nat.{ℕ, ◌-◌, ◌/◌, ◌<◌}
 use native.Mathlib.Omega.{arith}
-use mathlib.Core.Path.{ap, ◌∙◌}
+use mathlib.Core.Path.{◌≡◌, ap, sym, ◌∙◌}
 use lib.Dec.{eqb}
-use lib.ListN.{length}
-use Rattle.text.proofs.Bodies.{left-held, left_none, byte_inside, left_half, left_byte}
-use Rattle.text.proofs.Rows.{place-held, held_end}
+use lib.ListN.{get_or, length-take}
+use lib.Seq.{get_or-take}
+use Rattle.laws.proofs.Nibbles.{length-nibbles}
+use Rattle.text.specs.Rows.{next_state, byte_next, held}
+use Rattle.text.proofs.Bodies.{left-held, left_none, left_half, left_byte}
+use Rattle.text.proofs.Rows.{place-held}
 use Rattle.text.proofs.valid_from.Goals as goal
 
-pub overflow_mul-st : goal.overflow_mul-st
-overflow_mul-st c = omega (arith, c.requires.1.low)
+pub loop-byte-init : goal.loop-byte-init
+loop-byte-init c =
+    let all : c.args.n - 0 ≡ c.args.n = omega arith in
+    (rw all (left-held _ _ _ c.requires.1 (omega (arith, length-nibbles c.args.bytes.now, c.requires.0))), (place-held _ c.requires.1).0)
 
-pub loop-left-init : goal.loop-left-init
-loop-left-init c = (left-held _ _ _ c.requires.1 c.requires.0, (place-held _ c.requires.1).0)
+pub loop-byte-preserved : goal.loop-byte-preserved
+loop-byte-preserved c =
+    let l = c.loop-byte in
+    let bytes = c.args.bytes.now in
+    let next = c.after_byte-place.ensures in
+    let front : l.byte-index < c.args.n / 2 = omega (arith, c.loop-byte-test.true, length-take (c.args.n / 2) bytes) in
+    let byte = get_or-take (c.args.n / 2) bytes l.byte-index 0 front in (
+      left_byte _ _ _ bytes l.byte-index l.invariant.0 (omega arith) (omega arith) _ _ (next.1 ∙ ap (byte_next (held l.place)) byte) (omega arith),
+      next.0,
+    )
 
-pub bounds-s-i : goal.bounds-s-i
-bounds-s-i c = byte_inside _ _ _ _ _ c.loop-left.invariant.0 (omega arith)
-
-pub after_byte-st-requires : goal.after_byte-st-requires
-after_byte-st-requires c = c.loop-left.invariant.1
-
-pub overflow_add-i : goal.overflow_add-i
-overflow_add-i c =
-    let l = c.loop-left in
-    let h : l.i < length c.args.s.now = byte_inside _ _ _ _ _ l.invariant.0 (omega arith) in
-    omega arith
-
-pub overflow_sub-left : goal.overflow_sub-left
-overflow_sub-left c = omega arith
-
-pub loop-left-smaller : goal.loop-left-smaller
-loop-left-smaller c = omega arith
-
-pub loop-left-preserved : goal.loop-left-preserved
-loop-left-preserved c =
-    let l = c.loop-left in
-    let s = c.args.s.now in
-    (left_byte _ _ _ s l.i l.invariant.0 (omega arith) c.loop-left-test.true _ c.after_byte-st.ensures.1, c.after_byte-st.ensures.0)
-
-pub returns-then-left-eq0 : goal.returns-then-left-eq0
-returns-then-left-eq0 c = held_end _ c.loop-left.invariant.1 ∙ ap (λ (p : ℕ). eqb p 4) (left_none _ _ _ _ c.loop-left.invariant.0 c.if-left-eq0.true)
-
-pub overflow_mul-st-2 : goal.overflow_mul-st-2
-overflow_mul-st-2 c = omega arith
-
-pub bounds-s-i-2 : goal.bounds-s-i-2
-bounds-s-i-2 c = byte_inside _ _ _ _ _ c.loop-left.invariant.0 (omega arith)
-
-pub after-requires : goal.after-requires
-after-requires c = omega (arith, c.loop-left.invariant.0.place.low)
+pub returns-then-n-eq0 : goal.returns-then-n-eq0
+returns-then-n-eq0 c = ap (λ (p : ℕ). eqb p 4) (left_none _ _ _ _ c.loop-byte.invariant.0 (omega (arith, c.if-n-eq0.true, c.loop-byte-test.false, length-take (c.args.n / 2) c.args.bytes.now, c.requires.0)))
 
 pub returns : goal.returns
 returns c =
-    let l = c.loop-left in
-    let s = c.args.s.now in
-    ap (λ (p : ℕ). eqb p 4) (left_half _ _ _ s l.i l.invariant.0 (omega arith) (omega arith) _ c.after.ensures)
+    let l = c.loop-byte in
+    let bytes = c.args.bytes.now in
+    let done : l.byte-index ≡ c.args.n / 2 = omega (arith, l.auto.byte-index-end, c.loop-byte-test.false, length-take (c.args.n / 2) bytes, c.requires.0) in
+    let byte = ap (λ (i : ℕ). next_state (held l.place) (get_or bytes i 0 / 16)) (sym done) in
+    ap (λ (p : ℕ). eqb p 4) (left_half _ _ _ bytes l.byte-index l.invariant.0 (omega arith) (omega arith) _ (c.after.ensures ∙ byte))

@@ -1,16 +1,18 @@
 -- `text_display::numbers` meets its contract.
 -- Assumes nothing.
+use mathlib.Core.Path.{sym, subst}
 use Rattle.report.proofs.Found.{inspect_found}
 use Rattle.report.proofs.Outcomes.{judge_refused}
+use Rattle.text_display.specs.Steps.{Opens}
 use Rattle.text_display.proofs.Displays.{opens_refused}
 use Rattle.text_display.proofs.numbers.Goals as goal
 
 pub numbers_found-requires : goal.numbers_found-requires
-numbers_found-requires c =
-    ((_, inspect_found _ _ _ _ c.inspect-i.ensures _ c.in-Fine.is), λ j. (c.type_inv.s j).fits)
+numbers_found-requires c = (_, inspect_found _ _ _ _ c.inspect.ensures _ c.in-Ok.is)
 
-pub returns-in-Refused : goal.returns-in-Refused
-returns-in-Refused c = opens_refused _ _ _ _ (judge_refused _ _ _ _ _ _ c.inspect-i.ensures c.in-Refused.is)
+pub returns-in-Err : goal.returns-in-Err
+returns-in-Err c =
+    subst (Opens c.args.table.now c.args.buffer.now) (sym c.refused.ensures) (opens_refused _ _ _ (judge_refused _ _ 4 _ c.in-Err.ensures))
 
-pub returns-in-Fine : goal.returns-in-Fine
-returns-in-Fine c = c.numbers_found.ensures _ (inspect_found _ _ _ _ c.inspect-i.ensures _ c.in-Fine.is).judged
+pub returns-in-Ok : goal.returns-in-Ok
+returns-in-Ok c = c.numbers_found.ensures _ (inspect_found _ _ _ _ c.inspect.ensures _ c.in-Ok.is).judged

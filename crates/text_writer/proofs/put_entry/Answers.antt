@@ -3,7 +3,7 @@
 use Prim.Native.Nat.{ℕ, ◌+◌, ◌/◌, ◌%◌}
 use native.Mathlib.Omega.{arith}
 use mathlib.Core.Path.{refl, ap}
-use lib.ListN.{set, length-set}
+use lib.ListN.{length-set}
 use Rattle.text_writer.proofs.Entries.{entry_some, entry-short, entry_long}
 use Rattle.text_writer.proofs.put_entry.Goals as goal
 
@@ -25,20 +25,6 @@ pub returns-then-w-lt12288 : goal.returns-then-w-lt12288
 returns-then-w-lt12288 c =
     let args = c.args in
     (ap (λ (k : ℕ). args.at + k) c.requires.1, λ _. entry-short args.w c.requires.1 _ _ _ _ c.if-w-lt12288.true refl refl)
-
-pub bounds-out-at-2 : goal.bounds-out-at-2
-bounds-out-at-2 c = omega (arith, c.if-out-e.false, c.if-w-lt12288.false)
-
-pub bounds-out-at-3 : goal.bounds-out-at-3
-bounds-out-at-3 c =
-    let args = c.args in
-    omega (arith, c.if-out-e.false, c.if-w-lt12288.false, length-set args.out.now args.at (args.w / 256 % 16))
-
-pub bounds-out-at-4 : goal.bounds-out-at-4
-bounds-out-at-4 c =
-    let args = c.args in
-    let first = set args.out.now args.at (args.w / 256 % 16) in
-    omega (arith, c.if-out-e.false, c.if-w-lt12288.false, length-set args.out.now args.at (args.w / 256 % 16), length-set first (args.at + 1) (args.w / 16 % 16))
 
 pub returns : goal.returns
 returns c =

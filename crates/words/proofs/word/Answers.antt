@@ -1,14 +1,27 @@
 -- `words::word` meets its contract.
 -- Assumes nothing.
-use Prim.Native.Nat.{ℕ, ◌+◌, ◌*◌}
-use mathlib.Core.Path.{ap, ap₂, ◌∙◌}
-use Rattle.words.specs.Turned.{turned8}
-use Rattle.words.proofs.Turned.{eight}
+use Prim.Native.Nat.{ℕ, ◌+◌, ◌<◌}
+use native.Mathlib.Omega.{arith}
+use lib.ListN.{length}
+use borrow.Author.Rules.{rules}
+use Rattle.words.proofs.Turned.{byte, next}
 use Rattle.words.proofs.word.Goals as goal
 
 pub returns : goal.returns
-unfolding turned8
 returns c =
-    ap₂ (λ (x y : ℕ). x * 4294967296 + y) c.turn_four.ensures.0 c.turn_four-2.ensures.0
-    ∙ ap turned8 c.load-x.ensures
-    ∙ eight c.args.s.now (λ j. (c.shared_slice_known-1.given j).fits) c.args.i c.requires
+    let s = c.args.s.now in
+    let i = c.args.i in
+    let more = λ (k : ℕ) (h : i + k < length s). next s (search rules) i k h in
+    let h = c.from_be_bytes.ensures in
+    omega (
+      arith,
+      byte s (search rules) i (omega arith),
+      more 1 (omega arith),
+      more 2 (omega arith),
+      more 3 (omega arith),
+      more 4 (omega arith),
+      more 5 (omega arith),
+      more 6 (omega arith),
+      more 7 (omega arith),
+      h,
+    )
