@@ -1,18 +1,17 @@
 -- From the machine's numbers to the bits of bytes: a field is read from, and written to, a number of two bytes.
 -- Assumes nothing.
 use Prim.Native.Nat.{ℕ, suc, ◌+◌, ◌-◌, ◌*◌, ◌/◌, ◌%◌, ◌^◌, ◌≤◌, ◌<◌}
-use native.Mathlib.Nat.{add-zero, add_comm, one-mul, mul_assoc, mod-lt, mod-eq_of_lt, lt_of_lt_of_le}
+use native.Mathlib.Nat.{add_comm, one-mul, mul_assoc, mod-lt, mod-eq_of_lt, lt_of_lt_of_le}
 use native.Mathlib.Numerals.{add-one, add-two}
 use native.Mathlib.Omega.{arith}
 use mathlib.Core.Path.{◌≡◌, sym, ap, ap₂, ◌∙◌}
 use mathlib.Core.Bool.{Bool}
-use mathlib.Core.List.{List, [], ◌∷◌, ◌++◌, append_assoc}
+use mathlib.Core.List.{List, ◌∷◌, ◌++◌, append_assoc}
 use lib.Arith.{digits_lt}
 use lib.Dec.{lit<}
 use lib.ListN.{length, take, drop, get_or, set, take-append-drop, length-append, length-set}
 use lib.Pow.{pow_pos, pow_mono, pow-add, shl_exact, shl_lt, shr_lt, shr-shr, split, high, low}
-use Rattle.std.proofs.lemmas.List.Edits.{paste_more}
-use lib.Seq.{paste, paste-zero, drop-cons, length-take-le, get_or-set_same, get_or-set_other, take-set-le, drop-set-lt}
+use lib.Seq.{drop-cons, length-take-le, get_or-set_same, get_or-set_other, take-set-le, drop-set-lt}
 use Rattle.format.specs.Bits.{bits, number, bits_of, bit_field, splice, Bytes}
 use Rattle.laws.proofs.Bits.{length-bits, number-bits, bits-mod, bits-add, length_bits_of, bits_of_append, mid_take, mid_splice, field_same, field_before, field-after, field_back}
 use Rattle.bits.specs.Window.{TwoBytes, FieldWritten, pair, patched}
@@ -168,14 +167,6 @@ module _ (s : List ℕ) (i a b : ℕ) (h : i + 2 ≤ length s) where
 
   back_set : drop (i + 2) (pair_set s i a b) ≡ drop (i + 2) s
   back_set = drop-set-lt (i + 2) (set s i a) (i + 1) b (omega arith) ∙ drop-set-lt (i + 2) s i a (omega arith)
-
--- as two bytes laid
-pub pair_laid : (s : List ℕ) (i a b : ℕ) → i + 2 ≤ length s → paste s i (a ∷ b ∷ []) 2 ≡ pair_set s i a b
-pair_laid s i a b h =
-    let x : List ℕ = a ∷ b ∷ [] in
-    let one : set s i a ≡ paste s i x 1 =
-    ap₂ (λ (k : ℕ) (l : List ℕ). set l k a) (sym (add-zero i)) (paste-zero s i x) ∙ paste_more s i x 0 0 (omega arith) (omega arith) in
-    sym (ap (λ (l : List ℕ). set l (i + 1) b) one ∙ paste_more s i x 1 0 (omega arith) (omega arith))
 
 -- writing
 pub splice-pair : (s t : List ℕ) (at w v p : ℕ) → Bytes s → Bytes t → TwoBytes (length s) at w → v < 2 ^ w

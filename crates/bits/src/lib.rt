@@ -5,12 +5,13 @@ ghost use Rattle.std.specs.Prelude.{◌≡◌, ◌+◌, ◌*◌, ◌/◌, ◌%�
 ghost use Rattle.format.specs.Bits.{bits, bits_of, bit_field, splice};
 ghost use Rattle.bits.specs.Window.{TwoBytes, FieldWritten, pair, patched};
 
-// Two bytes as one number.
+// Two bytes as one number. Fields overlap in bytes: a load of both at once would wait for what was stored to one of them, so load
+// and store go by bytes, which the compiler keeps in registers from one field to the next.
 fn load(s: &[u8], i: usize) -> u64
     requires { i + 2 ≤ length s.now }
     ensures { (result ≡ pair s.now i) × (result < 65536) }
 {
-    u64::from(u16::from_be_bytes([s[i], s[i + 1]]))
+    u64::from(s[i]) * 256 + u64::from(s[i + 1])
 }
 
 // A number of 16 bits to two bytes.
@@ -18,7 +19,9 @@ fn store(s: &mut [u8], i: usize, n: u64)
     requires { (i + 2 ≤ length s.old) × (n < 65536) }
     ensures { s.new ≡ set (set s.old i (n / 256)) (i + 1) (n % 256) }
 {
-    s[i..i + 2].copy_from_slice(&(n as u16).to_be_bytes());
+    let [high, low] = (n as u16).to_be_bytes();
+    s[i] = high;
+    s[i + 1] = low;
 }
 
 // The width bits of n above the z low ones.

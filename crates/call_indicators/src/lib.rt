@@ -70,9 +70,9 @@ fn temperatures_missing(buffer: &[u8]) -> bool
     ensures { result ≡ data_missing (observation_of buffer.now) (28 ∷ 29 ∷ 30 ∷ 31 ∷ []) }
 {
     missing(buffer, Field::at(A))
-        && missing(buffer, Field::at(WB))
-        && missing(buffer, Field::at(DPT))
-        && missing(buffer, Field::at(S))
+        & missing(buffer, Field::at(WB))
+        & missing(buffer, Field::at(DPT))
+        & missing(buffer, Field::at(S))
 }
 
 // ---- the indicators that have lost their data
@@ -84,7 +84,7 @@ fn without(buffer: &[u8], indicator: usize, number: usize) -> bool
     requires { (38 ≤ length buffer.now) × (1 ≤ indicator) × (indicator ≤ 46) × (1 ≤ number) × (number ≤ 46) }
     ensures { result ≡ is_present (value_at (observation_of buffer.now) indicator) && data_missing (observation_of buffer.now) (number ∷ []) }
 {
-    !missing(buffer, Field::at(indicator)) && missing(buffer, Field::at(number))
+    !missing(buffer, Field::at(indicator)) & missing(buffer, Field::at(number))
 }
 
 // The same of TI.
@@ -92,12 +92,12 @@ fn without_temperatures(buffer: &[u8]) -> bool
     requires { 38 ≤ length buffer.now }
     ensures { result ≡ is_present (value_at (observation_of buffer.now) 27) && data_missing (observation_of buffer.now) (28 ∷ 29 ∷ 30 ∷ 31 ∷ []) }
 {
-    !missing(buffer, Field::at(TI)) && temperatures_missing(buffer)
+    !missing(buffer, Field::at(TI)) & temperatures_missing(buffer)
 }
 
 // The fields of indicators that were found, of six that there are.
 #[derive(Clone, Copy)]
-struct Lost {
+pub struct Lost {
     fields: [u8; 6],
     count: usize,
 }

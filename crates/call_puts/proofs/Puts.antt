@@ -24,7 +24,7 @@ use Rattle.format.specs.Reply.{refusal, refusal_of, answer_of}
 use Rattle.format.specs.declared.Refusal.{Refusal}
 use Rattle.format.specs.declared.Refusal.TheVariants.{Length, Room, Content}
 use Rattle.format.specs.declared.Outcome.{Outcome}
-use Rattle.format.specs.declared.Outcome.TheVariants.{Nibbles}
+use Rattle.format.specs.declared.Outcome.TheVariants.{Nothing, Nibbles}
 use Rattle.std.specs.Prelude.{Result, Ok, Err}
 use Rattle.laws.proofs.Sequences.{and_true}
 use Rattle.laws.proofs.Order.{range_low, range_high, range_fine, first-nil, no_check, no_checks}
@@ -107,11 +107,13 @@ module _ (marks : FlagTable) {b : List ℕ} {j : ℕ} {r : Report} (bs : Bytes b
         module _ {b' : List ℕ} (put' : b' ≡ putting b j ns) where
           pub put_done : (u : Unit {0}) → Ok u ≡ room_answer (has_room b j ns) → after (Answer.accepted []) b' [] ≡ effect marks b (edits (put j ns))
           unfolding gives made
-          put_done = putting_done (put j ns) j ns refl put_passes put'
+          put_done u h = putting-effect (put j ns) j ns refl put_passes put' true (sym (room_by (has_room b j ns) u h)) (Ok Nothing) (Ok Nothing) refl refl
 
           pub put_full : (x : Refusal) → Err x ≡ room_answer (has_room b j ns) → after (answer_of (Err x)) b' [] ≡ effect marks b (edits (put j ns))
-          unfolding made
-          put_full = putting_full (put j ns) j ns refl put_passes put'
+          unfolding gives made
+          put_full x h =
+              let full = full_by (has_room b j ns) x h in
+              putting-effect (put j ns) j ns refl put_passes put' false (sym full.0) (Ok Nothing) (Err x) refl (ap Err full.1)
 
 -- ---- put text
 
@@ -220,10 +222,13 @@ module _ (marks : FlagTable) {b : List ℕ} {r : Report} (bs : Bytes b) (f : Fou
           pub text_done : (u : Unit {0}) → Ok u ≡ room_answer (has_room b 4 (take n out)) → after (answer_of (Ok (Nibbles n))) b' [] ≡ effect marks b (edits (put_text t os))
           unfolding gives made
           text_done u h =
-              ap (λ (k : ℕ). after (answer_of (Ok (Nibbles k))) b' []) fits.2
-              ∙ putting_done marks bs f (put_text t os) 4 ns refl text_passes (put' ∙ ap (putting b 4) is_text) u (h ∙ ap (λ (l : List ℕ). room_answer (has_room b 4 l)) is_text)
+              let room = room_by (has_room b 4 ns) u (h ∙ ap (λ (l : List ℕ). room_answer (has_room b 4 l)) is_text) in
+              putting-effect marks bs f (put_text t os) 4 ns refl text_passes (put' ∙ ap (putting b 4) is_text) true (sym room) (Ok (Nibbles n)) (Ok (Nibbles n))
+              (ap (λ (k : ℕ). answer_of (Ok (Nibbles k))) fits.2) refl
 
           pub text_full : (x : Refusal) → Err x ≡ room_answer (has_room b 4 (take n out)) → after (answer_of (Err x)) b' [] ≡ effect marks b (edits (put_text t os))
-          unfolding made
+          unfolding gives made
           text_full x h =
-              putting_full marks bs f (put_text t os) 4 ns refl text_passes (put' ∙ ap (putting b 4) is_text) x (h ∙ ap (λ (l : List ℕ). room_answer (has_room b 4 l)) is_text)
+              let full = full_by (has_room b 4 ns) x (h ∙ ap (λ (l : List ℕ). room_answer (has_room b 4 l)) is_text) in
+              putting-effect marks bs f (put_text t os) 4 ns refl text_passes (put' ∙ ap (putting b 4) is_text) false (sym full.0) (Ok (Nibbles n)) (Err x)
+              (ap (λ (k : ℕ). answer_of (Ok (Nibbles k))) fits.2) (ap Err full.1)

@@ -267,11 +267,10 @@ impl Field {
         highest_in(self.row)
     }
 
-    #[tactic(auto, using(crate::proofs::Required::required_low, crate::proofs::Required::required_high, crate::proofs::Required::not_required))]
     pub fn is_required(self) -> bool
         ensures { result ≡ required self.number }
     {
-        matches!(self.number, 1 | 2 | 3 | 6 | 7)
+        is_required(self.number)
     }
 
     // Its coded number on a card.
@@ -303,6 +302,14 @@ impl Field {
     {
         coded_in(self.row, value)
     }
+}
+
+// Whether a number is that of a required field.
+#[tactic(auto, using(crate::proofs::Required::required_low, crate::proofs::Required::required_high, crate::proofs::Required::not_required))]
+pub fn is_required(k: usize) -> bool
+    ensures { result ≡ required k }
+{
+    matches!(k, 1 | 2 | 3 | 6 | 7)
 }
 
 // Whether a coded number is that of a missing field.

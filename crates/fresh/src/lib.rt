@@ -68,6 +68,7 @@ fn clear_card(out: &mut [u8])
 }
 
 // Writes a card of these codes, all else 0, and sets the checksum.
+#[inline(always)]
 fn write_fresh(out: &mut [u8], codes: Codes)
     requires { (38 ≤ length out.old) × FiveFit codes }
     ensures { Carded (cleared out.old) out.new (five_numbers codes) }

@@ -4,5 +4,5 @@
 use std::io;
 
 fn main(rt: HostRuntime) -> io::Result<()> {
-    lister_lines::list_input(&rt)
+    lister_lines::list_input(&mut rt.stdin(), &mut io::writer(&rt))
 }

@@ -3,17 +3,14 @@
 use Prim.Native.Nat.{ℕ, zero, suc, ◌+◌, ◌/◌, ◌%◌, ◌^◌, ◌≤◌, ◌<◌}
 use native.Mathlib.Omega.{arith}
 use native.Mathlib.Nat.{pow-succ'}
-use mathlib.Core.Path.{◌≡◌, refl, sym, ap, ◌∙◌}
+use mathlib.Core.Path.{◌≡◌, refl, sym, ap, subst, ◌∙◌}
 use mathlib.Core.Bool.{Bool, true, false}
 use mathlib.Core.List.{List, [], ◌∷◌, ◌++◌, append_assoc}
 use lib.ListN.{length, length-append}
-use lib.Dec.{ltb}
+use lib.Dec.{T, ltb}
 use borrow.Author.Tests.{lt-ltb, le-ltb, ltb-true, ltb-false}
-use Rattle.std.specs.Fmt as fmt
-use Rattle.std.proofs.lemmas.Fmt.{decimal_digit, decimal_step}
-use lib.IntN.{ℤ, pos, negsuc}
-use mir.Syntax.{w64}
-use mir.Val.{SFits}
+use lib.IntN.{ℤ, pos, negsuc, nat_abs}
+use lib.Signed.{lt_z}
 use Rattle.format.specs.Lister.{digits_from, decimal, signed_decimal}
 
 digits-one : (d n : ℕ) (more : List ℕ) → n < 10 → digits_from (suc d) n more ≡ (48 + n) ∷ more
@@ -66,16 +63,18 @@ decimal-short (suc k) n h =
     small_or_not n (λ s. rw (decimal-one n s) (omega arith))
     (λ l. let t = decimal-short k (n / 10) (omega arith) in rw (decimal_more n l, length-append) (omega arith))
 
--- the digits are those that std prints
-is_from : (k n : ℕ) → n < k → n < 2 ^ 64 → fmt.decimal n ≡ decimal n
-is_from zero n h f = absurd (omega arith)
-is_from (suc k) n h f =
-    small_or_not n (λ s. decimal_digit n s ∙ sym (decimal-one n s))
-    (λ l. decimal_step n l f ∙ ap (λ (ds : List ℕ). ds ++ ((48 + n % 10) ∷ [])) (is_from k (n / 10) (omega arith) (omega arith)) ∙ sym (decimal_more n l))
+-- a signed number v and the end of its line: its sign, and its size n
+module _ (v z : ℤ) (n : ℕ) (held : z ≡ v) (size : n ≡ nat_abs z) where
+  pub negative_line : lt_z z (pos 0) ≡ true → signed_decimal v ++ (10 ∷ []) ≡ (45 ∷ []) ++ (decimal n ++ (10 ∷ []))
+  negative_line below = rw (size, ← held) (go z below)
+    where
+      go : (y : ℤ) → lt_z y (pos 0) ≡ true → signed_decimal y ++ (10 ∷ []) ≡ (45 ∷ []) ++ (decimal (nat_abs y) ++ (10 ∷ []))
+      go (pos m) e = absurd (omega (arith, ltb-true m 0 e))
+      go (negsuc m) e = refl
 
-pub decimal_is : (n : ℕ) → n < 2 ^ 64 → fmt.decimal n ≡ decimal n
-decimal_is n f = is_from (suc n) n (omega arith) f
-
-pub signed_is : (z : ℤ) → SFits w64 z → fmt.signed_decimal z ≡ signed_decimal z
-signed_is (pos n) f = decimal_is n (omega (arith, f.sfits))
-signed_is (negsuc n) f = ap (λ (ds : List ℕ). 45 ∷ ds) (decimal_is (suc n) (omega (arith, f.sfits)))
+  pub positive_line : lt_z z (pos 0) ≡ false → signed_decimal v ++ (10 ∷ []) ≡ decimal n ++ (10 ∷ [])
+  positive_line above = rw (size, ← held) (go z above)
+    where
+      go : (y : ℤ) → lt_z y (pos 0) ≡ false → signed_decimal y ++ (10 ∷ []) ≡ decimal (nat_abs y) ++ (10 ∷ [])
+      go (pos m) e = refl
+      go (negsuc m) e = absurd (subst T e tt)

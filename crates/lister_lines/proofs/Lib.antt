@@ -1,3 +1,4 @@
 pub mod Decimal
 pub mod Puts
 pub mod Lines
+pub mod Between

@@ -6,9 +6,6 @@ use native.Mathlib.Numerals.{add-one}
 use mathlib.Core.Path.{◌≡◌, refl, sym, ap, ap₂, subst, ◌∙◌}
 use mathlib.Core.Bool.{Bool, true, false, ◌&&◌}
 use mathlib.Core.List.{List, [], ◌∷◌, ◌++◌, append_assoc, append-nil}
-use mir.Syntax.{w64}
-use mir.Val.{SFits}
-use Rattle.std.specs.Fmt as fmt
 use mathlib.Core.Option.{Option, none, some}
 use lib.ListN.{length, get_or, drop, length-append, drop_of_length-le}
 use lib.Seq.{drop-cons, take_all}
@@ -35,36 +32,28 @@ use Rattle.format.specs.Order as order
 use Rattle.format.specs.Report.{refused}
 use Rattle.report.proofs.Outcomes.{judge_refused, judge_fine}
 use Rattle.lister_lines.specs.Lines.{value_lines, lettered_lines, refusal_line}
-use Rattle.lister_lines.proofs.Decimal.{decimal-short, decimal_is, signed_is}
+use Rattle.lister_lines.proofs.Decimal.{decimal-short}
 
 -- ---- what a line is made of
 
-module _ (k : ℕ) (f : Field) (c : Coded) (small : k ≤ 46) (some : c.0 ≡ 0 → ⊥) where
-  pub field-line : field_line k (entry_of f c) ≡ (fmt.decimal k ++ (32 ∷ [])) ++ (signed_decimal (scaled_of f c).0 ++ (10 ∷ []))
-  field-line =
-      ap (field_line k) (entry_there f c some)
-      ∙ sym (append_assoc (decimal k) (32 ∷ []) (signed_decimal (scaled_of f c).0 ++ (10 ∷ [])))
-      ∙ ap (λ (l : List ℕ). (l ++ (32 ∷ [])) ++ (signed_decimal (scaled_of f c).0 ++ (10 ∷ []))) (sym (decimal_is k (omega arith)))
-
-  pub field_line-by : (z : ℤ) → SFits w64 z → z ≡ (scaled_of f c).0 → field_line k (entry_of f c) ≡ (fmt.decimal k ++ (32 ∷ [])) ++ (fmt.signed_decimal z ++ (10 ∷ []))
-  field_line-by z fits e =
-      field-line ∙ ap (λ (l : List ℕ). (fmt.decimal k ++ (32 ∷ [])) ++ (l ++ (10 ∷ []))) (ap signed_decimal (sym e) ∙ sym (signed_is z fits))
+pub field-line : (k : ℕ) (f : Field) (c : Coded) (z : ℤ) → (c.0 ≡ 0 → ⊥) → z ≡ (scaled_of f c).0
+    → field_line k (entry_of f c) ≡ (decimal k ++ (32 ∷ [])) ++ (signed_decimal z ++ (10 ∷ []))
+field-line k f c z n e =
+    ap (field_line k) (entry_there f c n) ∙ ap (λ (y : ℤ). line (decimal k) (signed_decimal y)) (sym e)
+    ∙ sym (append_assoc (decimal k) (32 ∷ []) (signed_decimal z ++ (10 ∷ [])))
 
 -- a missing field has none
 pub no_line : (k : ℕ) (f : Field) (c : Coded) (b : List ℕ) → c.0 ≡ 0 → b ≡ b ++ field_line k (entry_of f c)
 no_line k f c b e = sym (append-nil b) ∙ ap (λ (l : List ℕ). b ++ l) (sym (ap (field_line k) (entry_missing f c e)))
 
-pub lettered-line : (l : List ℕ) (n : ℕ) → n < 2 ^ 64 → line l (decimal n) ≡ (l ++ (32 ∷ [])) ++ (fmt.decimal n ++ (10 ∷ []))
-lettered-line l n h =
-    sym (append_assoc l (32 ∷ []) (decimal n ++ (10 ∷ []))) ∙ ap (λ (m : List ℕ). (l ++ (32 ∷ [])) ++ (m ++ (10 ∷ []))) (sym (decimal_is n h))
+pub lettered-line : (l : List ℕ) (n : ℕ) → line l (decimal n) ≡ (l ++ (32 ∷ [])) ++ (decimal n ++ (10 ∷ []))
+lettered-line l n = sym (append_assoc l (32 ∷ []) (decimal n ++ (10 ∷ [])))
 
-pub refusal-line : (n p : ℕ) → n < 2 ^ 64 → p < 2 ^ 64
-    → refusal_line n p ≡ (82 ∷ 32 ∷ []) ++ ((fmt.decimal n ++ (32 ∷ [])) ++ (fmt.decimal p ++ (10 ∷ [])))
+pub refusal-line : (n p : ℕ) → refusal_line n p ≡ (82 ∷ 32 ∷ []) ++ ((decimal n ++ (32 ∷ [])) ++ (decimal p ++ (10 ∷ [])))
 unfolding refusal_line
-refusal-line n p g h =
+refusal-line n p =
     ap (λ (l : List ℕ). 82 ∷ 32 ∷ l)
-    (append_assoc (decimal n) (32 ∷ decimal p) (10 ∷ []) ∙ sym (append_assoc (decimal n) (32 ∷ []) (decimal p ++ (10 ∷ [])))
-    ∙ ap₂ (λ (l m : List ℕ). (l ++ (32 ∷ [])) ++ (m ++ (10 ∷ []))) (sym (decimal_is n g)) (sym (decimal_is p h)))
+    (append_assoc (decimal n) (32 ∷ decimal p) (10 ∷ []) ∙ sym (append_assoc (decimal n) (32 ∷ []) (decimal p ++ (10 ∷ []))))
 
 -- the line of the field at place i, and those behind it
 pub lines_step : (b : List ℕ) (i : ℕ) (c : Coded) → i < 46 → c.0 ≡ get_or (codes_of b) (i + 1 - 1) 0
@@ -190,16 +179,12 @@ module _ (marks : FlagTable) (b : List ℕ) where
 
 pub refused_short : (n p : ℕ) → n < 256 → p < 2 ^ 64 → length (refusal_line n p) ≤ 512
 refused_short n p h g =
-    let number = decimal_is n (omega arith) in
-    let place = decimal_is p g in
     omega (
       arith,
-      ap length (refusal-line n p (omega arith) g),
-      length-append (fmt.decimal n ++ (32 ∷ [])) (fmt.decimal p ++ (10 ∷ [])),
-      length-append (fmt.decimal n) (32 ∷ []),
-      length-append (fmt.decimal p) (10 ∷ []),
-      ap length number,
-      ap length place,
+      ap length (refusal-line n p),
+      length-append (decimal n ++ (32 ∷ [])) (decimal p ++ (10 ∷ [])),
+      length-append (decimal n) (32 ∷ []),
+      length-append (decimal p) (10 ∷ []),
       decimal-short 2 n (omega arith),
       decimal-short 19 p (omega arith),
     )

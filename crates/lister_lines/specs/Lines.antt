@@ -1,17 +1,16 @@
 -- What the lister's functions put behind the lines so far, and the lists.
 use Rattle.std.specs.Prelude.{ℕ, suc, ◌+◌, ◌≤◌, ◌≡◌, List, [], ◌∷◌, ◌++◌, length, drop}
-use Rattle.arrayvec.specs.ArrayString.{ArrayString}
 use Rattle.format.specs.Field.{table, entries}
 use Rattle.format.specs.Report.{codes_of, refused}
 use Rattle.format.specs.Lister.{decimal, line, field_lines, listing_of}
 
 -- there is room for xs behind the lines
-abbrev pub Room : ArrayString → List ℕ → Type 0
-Room lines xs = length lines.bytes + length xs ≤ 512
+abbrev pub Room : List ℕ → List ℕ → Type 0
+Room lines xs = length lines + length xs ≤ 512
 
 -- xs was put behind the lines
-abbrev pub Puts : ArrayString → ArrayString → List ℕ → Type 0
-Puts before after xs = after.bytes ≡ before.bytes ++ xs
+abbrev pub Puts : List ℕ → List ℕ → List ℕ → Type 0
+Puts before after xs = after ≡ before ++ xs
 
 -- the lines of the fields from place i on
 unfoldable pub value_lines : List ℕ → ℕ → List ℕ

@@ -189,7 +189,7 @@ fn fetch(
         return None;
     }
     let to = ANSWER + lent.len();
-    log[ANSWER..to].copy_from_slice(lent);
+    script::copy(lent, &mut log[ANSWER..to]);
     let reply = call_fetches::fetch(buffer, number, &mut log[ANSWER..to], table);
     Some(answered(reply, end, to, log))
 }
@@ -208,8 +208,8 @@ fn fetch_both(
         ≡ effect table.now buffer.now (call.fetches (call.fetch_text out.now origins.now))) }
 {
     let (first, second) = both.split_at_mut(out.len());
-    first.copy_from_slice(out);
-    second.copy_from_slice(origins);
+    script::copy(out, first);
+    script::copy(origins, second);
     call_fetches::fetch_text(buffer, first, second, table)
 }
 

@@ -1,3 +1,4 @@
+pub mod Padding
 pub mod Outcomes
 pub mod Observations
 pub mod Found

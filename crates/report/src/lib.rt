@@ -37,9 +37,15 @@ fn last(buffer: &[u8], report: Report) -> Result<Report, Refusal>
     requires { (report.end ≤ 2 * length buffer.now) × (report.end ≤ 2 ^ 32) }
     ensures { by_number result ≡ last_of buffer.now report }
 {
+    let padding = Cursor {
+        at: report.end,
+        packed: true,
+    };
     if report.end % 2 == 1 {
-        if nibble::packed_at(buffer, report.end) != 0 {
-            return Err(Refusal::Padding);
+        if let Some((nibble, _)) = padding.nibble(buffer) {
+            if nibble != 0 {
+                return Err(Refusal::Padding);
+            }
         }
     }
     Ok(report)
@@ -64,7 +70,9 @@ fn inspect_tail(buffer: &[u8], want: usize, table: &FlagTable) -> Result<Report,
     last(buffer, report)
 }
 
-// Judges the report, and says where id `want` stands in it. A card alone is not walked.
+// Judges the report, and says where id `want` stands in it. A card alone is not walked. Inlined, so that what it answers need not go
+// through memory.
+#[inline(always)]
 pub fn inspect(buffer: &[u8], want: usize, table: FlagTable) -> Result<Report, Refusal>
     ensures { by_number result ≡ inspected table buffer.now want }
 {

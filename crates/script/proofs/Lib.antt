@@ -1,4 +1,5 @@
 pub mod Numbers
+pub mod Copies
 pub mod Log
 pub mod Scripts
 pub mod Examples

@@ -54,6 +54,16 @@ pub fn number_at(s: &[u8], i: usize) -> u64
     ])
 }
 
+// Copies bytes over as many. Not by copy_from_slice, for which the library would want memmove of whoever links it.
+pub fn copy(from: &[u8], to: &mut [u8])
+    requires { length from.now ≡ length to.old }
+    ensures { to.new ≡ from.now }
+{
+    for i in 0..from.len() {
+        to[i] = from[i];
+    }
+}
+
 // Writes a number over the first 8 bytes.
 fn put_number(to: &mut [u8], number: u64)
     requires { 8 ≤ length to.old }

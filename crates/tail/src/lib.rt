@@ -53,6 +53,7 @@ pub fn body_valid(s: &[u8], c: Cursor, id: usize, len: usize, marks: &FlagTable)
 }
 
 // The attachment of a header, at a position from 1.
+#[inline(always)]
 #[tactic(auto, using(crate::proofs::Checks::data_fit), unfolding(crate::specs::Look::judged_at))]
 fn judged(
     s: &[u8],
@@ -77,7 +78,9 @@ fn judged(
     Ok(header)
 }
 
-// The header of the attachment at a place and a position.
+// The header of the attachment at a place and a position. Inlined, since a header that is handed out by a call goes through memory,
+// which each turn of a walk would wait for.
+#[inline(always)]
 #[tactic(auto, using(crate::proofs::Checks::look_short, crate::proofs::Checks::look_judged))]
 fn look(
     s: &[u8],

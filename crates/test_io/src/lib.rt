@@ -1,7 +1,7 @@
 // Numbers and answers of the test vectors, over standard input and output. Numbers stand highest byte first.
 #![tactic(auto)]
 
-ghost use Rattle.std.specs.Prelude.{◌≤◌, IfOk};
+ghost use Rattle.std.specs.Prelude.{◌≤◌, IfOk, length, min};
 
 use format::{DeckSet, FlagTable, Outcome, Refusal, Reply};
 use std::io;
@@ -19,55 +19,52 @@ pub fn get_bytes(rt: &HostRuntime, part: &mut [u8]) -> io::Result<()> {
     Ok(())
 }
 
-// So many bytes of the input; 0 where it ends before.
-fn get_array<const N: usize>(rt: &HostRuntime) -> io::Result<[u8; N]> {
-    let mut bytes = [0u8; N];
-    get_bytes(rt, &mut bytes)?;
-    Ok(bytes)
-}
-
+// Two bytes of the input; 0 where it ends before.
 pub fn get2(rt: &HostRuntime) -> io::Result<u16> {
-    Ok(u16::from_be_bytes(get_array(rt)?))
+    let mut bytes = [0u8; 2];
+    get_bytes(rt, &mut bytes)?;
+    Ok(u16::from_be_bytes(bytes))
 }
 
+// Longer numbers are read by two bytes at a time, so that an end within one, as a terminal has it, is met where it was.
 pub fn get4(rt: &HostRuntime) -> io::Result<u32> {
-    Ok(u32::from_be_bytes(get_array(rt)?))
+    Ok(u32::from(get2(rt)?) << 16 | u32::from(get2(rt)?))
 }
 
 pub fn get8(rt: &HostRuntime) -> io::Result<u64> {
-    Ok(u64::from_be_bytes(get_array(rt)?))
+    Ok(u64::from(get4(rt)?) << 32 | u64::from(get4(rt)?))
 }
 
 // A signed number of eight bytes, in two's complement.
 pub fn get_signed(rt: &HostRuntime) -> io::Result<i64> {
-    Ok(i64::from_be_bytes(get_array(rt)?))
-}
-
-// So many bytes of the input; 0 where it ends before.
-pub fn get_vec(rt: &HostRuntime, length: usize) -> io::Result<Vec<u8>> {
-    let mut bytes = vec![in rt.alloc(); 0u8; length]?;
-    get_bytes(rt, &mut bytes)?;
-    Ok(bytes)
+    Ok(get8(rt)?.cast_signed())
 }
 
 // A length of two bytes, at most `most`.
 pub fn get_length(rt: &HostRuntime, most: usize) -> io::Result<usize>
-    ensures { IfOk result (λ length. length ≤ most) }
+    ensures cut { IfOk result (λ length. length ≤ most) }
+    ensures two_bytes { IfOk result (λ length. length ≤ 65535) }
 {
     Ok(most.min(get2(rt)? as usize))
 }
 
-// Bytes behind their length.
-pub fn get_buffer(rt: &HostRuntime, most: usize) -> io::Result<Vec<u8>> {
-    let length = get_length(rt, most)?;
-    get_vec(rt, length)
+// Bytes behind their length, at the front of a room that they are cut to. Where the input ends before, what stood there stays.
+pub fn get_buffer<'a>(rt: &HostRuntime, room: &'a mut [u8]) -> io::Result<&'a mut [u8]>
+    ensures { IfOk result (λ buffer. length buffer.now ≤ min (length room.old) 65535) }
+{
+    let length = get_length(rt, room.len())?;
+    let buffer = &mut room[..length];
+    get_bytes(rt, buffer)?;
+    Ok(buffer)
 }
 
-// Signed numbers behind how many they are.
-pub fn get_values(rt: &HostRuntime, most: usize) -> io::Result<Vec<i64>> {
-    let length = get_length(rt, most)?;
-    let mut values = vec![in rt.alloc(); 0i64; length]?;
-    for value in &mut values {
+// Signed numbers behind how many they are, at the front of a room that they are cut to; 0 where the input ends before.
+pub fn get_values<'a>(rt: &HostRuntime, room: &'a mut [i64]) -> io::Result<&'a mut [i64]>
+    ensures { IfOk result (λ values. length values.now ≤ min (length room.old) 65535) }
+{
+    let count = get_length(rt, room.len())?;
+    let values = &mut room[..count];
+    for value in values.iter_mut() {
         *value = get_signed(rt)?;
     }
     Ok(values)
@@ -77,8 +74,9 @@ pub fn put_bytes(rt: &HostRuntime, part: &[u8]) -> io::Result<()> {
     rt.write_all(part)
 }
 
-pub fn put2(rt: &HostRuntime, number: u16) -> io::Result<()> {
-    put_bytes(rt, &number.to_be_bytes())
+// The low two bytes of a number.
+pub fn put2(rt: &HostRuntime, number: u64) -> io::Result<()> {
+    put_bytes(rt, &number.to_be_bytes()[6..])
 }
 
 // The low four bytes of a number.
@@ -103,15 +101,19 @@ fn put_head(rt: &HostRuntime, tag: u8, number: u8, place: usize) -> io::Result<(
     put8(rt, place as u64)
 }
 
-pub fn put_refused(rt: &HostRuntime, refusal: Refusal) -> io::Result<()> {
-    put_head(rt, 0, refusal.number(), refusal.place())
+pub fn put_refused(rt: &HostRuntime, number: u8, place: usize) -> io::Result<()> {
+    put_head(rt, 0, number, place)
+}
+
+pub fn put_refusal(rt: &HostRuntime, refusal: Refusal) -> io::Result<()> {
+    put_refused(rt, refusal.number(), refusal.place())
 }
 
 // The answer of a call that gives nothing.
 pub fn put_done(rt: &HostRuntime, answer: Result<(), Refusal>) -> io::Result<()> {
     match answer {
         Ok(()) => put_head(rt, 1, 0, 0),
-        Err(refusal) => put_refused(rt, refusal),
+        Err(refusal) => put_refusal(rt, refusal),
     }
 }
 
@@ -119,7 +121,7 @@ pub fn put_done(rt: &HostRuntime, answer: Result<(), Refusal>) -> io::Result<()>
 pub fn put_size(rt: &HostRuntime, answer: Result<usize, Refusal>) -> io::Result<()> {
     match answer {
         Ok(size) => put_head(rt, 2, 0, size),
-        Err(refusal) => put_refused(rt, refusal),
+        Err(refusal) => put_refusal(rt, refusal),
     }
 }
 
@@ -134,7 +136,7 @@ fn set_number(set: DeckSet) -> u64 {
 // The answer of a call on a buffer.
 pub fn put_reply(rt: &HostRuntime, reply: Reply) -> io::Result<()> {
     match reply {
-        Err(refusal) => put_refused(rt, refusal),
+        Err(refusal) => put_refusal(rt, refusal),
         Ok(Outcome::Nothing) => put_done(rt, Ok(())),
         Ok(Outcome::Count(count)) => put_size(rt, Ok(count)),
         Ok(Outcome::Nibbles(nibbles)) => put_size(rt, Ok(usize::from(nibbles))),
@@ -150,9 +152,10 @@ pub fn put_reply(rt: &HostRuntime, reply: Reply) -> io::Result<()> {
 
 // Loads a table that stands on the input, and writes the answer and the table in force after it.
 pub fn load(rt: &HostRuntime, table: &mut FlagTable) -> io::Result<()> {
-    let lent = get_buffer(rt, 200)?;
-    put_done(rt, flag_table::judge(&lent))?;
-    *table = flag_table::load(&lent, *table);
+    let mut room = [0u8; 200];
+    let lent = get_buffer(rt, &mut room)?;
+    put_done(rt, flag_table::judge(lent))?;
+    *table = flag_table::load(lent, *table);
     for row in &*table {
         put_bytes(rt, row)?;
     }

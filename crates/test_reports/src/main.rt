@@ -70,21 +70,25 @@ impl TryFrom<u8> for Kind {
 }
 
 fn judge(rt: &HostRuntime, table: &FlagTable) -> io::Result<()> {
-    let report = test_io::get_buffer(rt, REPORT)?;
-    test_io::put_size(rt, report::judge(&report, *table))
+    let mut report = [0u8; REPORT];
+    let report = test_io::get_buffer(rt, &mut report)?;
+    test_io::put_size(rt, report::judge(report, *table))
 }
 
 fn list(rt: &HostRuntime) -> io::Result<()> {
-    let report = test_io::get_buffer(rt, REPORT)?;
+    let mut report = [0u8; REPORT];
+    let report = test_io::get_buffer(rt, &mut report)?;
     let mut lines = [0u8; 512];
-    let length = lister_lines::list(&report, &mut lines);
+    let length = lister_lines::list(report, &mut lines);
     test_io::put_bytes(rt, &lines[..length])
 }
 
 fn same(rt: &HostRuntime, table: &FlagTable) -> io::Result<()> {
-    let first = test_io::get_buffer(rt, REPORT)?;
-    let second = test_io::get_buffer(rt, REPORT)?;
-    let answer = report::same(&first, &second, table);
+    let mut first = [0u8; REPORT];
+    let first = test_io::get_buffer(rt, &mut first)?;
+    let mut second = [0u8; REPORT];
+    let second = test_io::get_buffer(rt, &mut second)?;
+    let answer = report::same(first, second, table);
     test_io::put_size(rt, answer.map(usize::from))
 }
 
@@ -94,9 +98,10 @@ fn fresh(rt: &HostRuntime) -> io::Result<()> {
         *value = Scaled(test_io::get_signed(rt)?);
     }
     let [box10, year, month, x, y] = given;
-    let mut report = test_io::get_buffer(rt, REPORT)?;
-    test_io::put_done(rt, fresh::fresh(box10, year, month, x, y, &mut report))?;
-    test_io::put_bytes(rt, &report)
+    let mut report = [0u8; REPORT];
+    let report = test_io::get_buffer(rt, &mut report)?;
+    test_io::put_done(rt, fresh::fresh(box10, year, month, x, y, report))?;
+    test_io::put_bytes(rt, report)
 }
 
 fn put_contents(rt: &HostRuntime, answer: Result<Contents, Refusal>) -> io::Result<()> {
@@ -110,89 +115,100 @@ fn put_contents(rt: &HostRuntime, answer: Result<Contents, Refusal>) -> io::Resu
             test_io::put8(rt, contents.bytes as u64)?;
             test_io::put8(rt, contents.nibbles as u64)
         }
-        Err(refusal) => test_io::put_refused(rt, refusal),
+        Err(refusal) => test_io::put_refusal(rt, refusal),
     }
 }
 
 // A report unpacked.
 fn unpack(rt: &HostRuntime, table: &FlagTable) -> io::Result<()> {
-    let report = test_io::get_buffer(rt, REPORT)?;
-    let mut values = test_io::get_values(rt, VALUES)?;
-    let mut tail = test_io::get_buffer(rt, TAIL)?;
-    put_contents(rt, unpack::unpack(&report, &mut values, &mut tail, table))?;
-    test_io::put_values(rt, &values)?;
-    test_io::put_bytes(rt, &tail)
+    let mut report = [0u8; REPORT];
+    let report = test_io::get_buffer(rt, &mut report)?;
+    let mut values = [0i64; VALUES];
+    let values = test_io::get_values(rt, &mut values)?;
+    let mut tail = [0u8; TAIL];
+    let tail = test_io::get_buffer(rt, &mut tail)?;
+    put_contents(rt, unpack::unpack(report, values, tail, table))?;
+    test_io::put_values(rt, values)?;
+    test_io::put_bytes(rt, tail)
 }
 
 // A report unpacked, and packed again.
 fn restore(rt: &HostRuntime, table: &FlagTable) -> io::Result<()> {
-    let report = test_io::get_buffer(rt, REPORT)?;
-    let mut values = test_io::get_values(rt, VALUES)?;
-    let mut tail = test_io::get_buffer(rt, TAIL)?;
-    let mut out = test_io::get_buffer(rt, REPORT)?;
-    let answer = trips::restore(&report, &mut values, &mut tail, &mut out, table);
+    let mut report = [0u8; REPORT];
+    let report = test_io::get_buffer(rt, &mut report)?;
+    let mut values = [0i64; VALUES];
+    let values = test_io::get_values(rt, &mut values)?;
+    let mut tail = [0u8; TAIL];
+    let tail = test_io::get_buffer(rt, &mut tail)?;
+    let mut out = [0u8; REPORT];
+    let out = test_io::get_buffer(rt, &mut out)?;
+    let answer = trips::restore(report, values, tail, out, table);
     test_io::put_size(rt, answer)?;
-    test_io::put_values(rt, &values)?;
-    test_io::put_bytes(rt, &tail)?;
-    test_io::put_bytes(rt, &out)
+    test_io::put_values(rt, values)?;
+    test_io::put_bytes(rt, tail)?;
+    test_io::put_bytes(rt, out)
 }
 
 // What is packed: the values and their presence word, RPTIN, and the tail.
-struct Packing {
-    values: Vec<i64>,
+struct Packing<'a> {
+    values: &'a [i64],
     word: u64,
     rptin: u16,
-    tail: Vec<u8>,
+    tail: &'a [u8],
 }
 
-fn get_packing(rt: &HostRuntime) -> io::Result<Packing> {
+// What is packed, its values and its tail at the fronts of rooms.
+fn get_packing<'a>(
+    rt: &HostRuntime,
+    values: &'a mut [i64],
+    tail: &'a mut [u8],
+) -> io::Result<Packing<'a>> {
     Ok(Packing {
-        values: test_io::get_values(rt, VALUES)?,
+        values: test_io::get_values(rt, values)?,
         word: test_io::get8(rt)?,
         rptin: test_io::get2(rt)?,
-        tail: test_io::get_buffer(rt, TAIL)?,
+        tail: test_io::get_buffer(rt, tail)?,
     })
 }
 
 // Values packed.
 fn pack(rt: &HostRuntime, table: &FlagTable) -> io::Result<()> {
+    let mut values = [0i64; VALUES];
+    let mut tail = [0u8; TAIL];
     let Packing {
         values,
         word,
         rptin,
         tail,
-    } = get_packing(rt)?;
-    let mut out = test_io::get_buffer(rt, REPORT)?;
-    let answer = pack::pack(&values, word, rptin, &tail, &mut out, table);
+    } = get_packing(rt, &mut values, &mut tail)?;
+    let mut out = [0u8; REPORT];
+    let out = test_io::get_buffer(rt, &mut out)?;
+    let answer = pack::pack(values, word, rptin, tail, out, table);
     test_io::put_size(rt, answer)?;
-    test_io::put_bytes(rt, &out)
+    test_io::put_bytes(rt, out)
 }
 
 // Values packed, and unpacked again.
 fn recover(rt: &HostRuntime, table: &FlagTable) -> io::Result<()> {
+    let mut values = [0i64; VALUES];
+    let mut tail = [0u8; TAIL];
     let Packing {
         values,
         word,
         rptin,
         tail,
-    } = get_packing(rt)?;
-    let mut out = test_io::get_buffer(rt, REPORT)?;
-    let mut values_out = test_io::get_values(rt, VALUES)?;
-    let mut tail_out = test_io::get_buffer(rt, TAIL)?;
-    let answer = trips::recover(
-        &values,
-        word,
-        rptin,
-        &tail,
-        &mut out,
-        &mut values_out,
-        &mut tail_out,
-        table,
-    );
+    } = get_packing(rt, &mut values, &mut tail)?;
+    let mut out = [0u8; REPORT];
+    let out = test_io::get_buffer(rt, &mut out)?;
+    let mut values_out = [0i64; VALUES];
+    let values_out = test_io::get_values(rt, &mut values_out)?;
+    let mut tail_out = [0u8; TAIL];
+    let tail_out = test_io::get_buffer(rt, &mut tail_out)?;
+    let answer = trips::recover(values, word, rptin, tail, out, values_out, tail_out, table);
     put_contents(rt, answer)?;
-    test_io::put_values(rt, &values_out)?;
-    test_io::put_bytes(rt, &tail_out)?;
-    test_io::put_bytes(rt, &out)
+    test_io::put_values(rt, values_out)?;
+    test_io::put_bytes(rt, tail_out)?;
+    test_io::put_bytes(rt, out)
 }
 
 // The table of the characters, over what stood there.
@@ -204,28 +220,33 @@ fn characters(rt: &HostRuntime) -> io::Result<()> {
     characters::generate(&mut table);
     test_io::put_done(rt, Ok(()))?;
     for entry in &table {
-        test_io::put2(rt, *entry)?;
+        test_io::put2(rt, u64::from(*entry))?;
     }
     Ok(())
 }
 
 // The ship text of a report, read out.
 fn read(rt: &HostRuntime, table: &FlagTable) -> io::Result<()> {
-    let report = test_io::get_buffer(rt, REPORT)?;
-    let mut text = test_io::get_buffer(rt, SYMBOLS)?;
-    let mut origins = test_io::get_buffer(rt, SYMBOLS)?;
-    let reply = text_display::read_out(&report, &mut text, &mut origins, table);
+    let mut report = [0u8; REPORT];
+    let report = test_io::get_buffer(rt, &mut report)?;
+    let mut text = [0u8; SYMBOLS];
+    let text = test_io::get_buffer(rt, &mut text)?;
+    let mut origins = [0u8; SYMBOLS];
+    let origins = test_io::get_buffer(rt, &mut origins)?;
+    let reply = text_display::read_out(report, text, origins, table);
     test_io::put_reply(rt, reply)?;
-    test_io::put_bytes(rt, &text)?;
-    test_io::put_bytes(rt, &origins)
+    test_io::put_bytes(rt, text)?;
+    test_io::put_bytes(rt, origins)
 }
 
 // The indicators of a report that have lost their data.
 fn find(rt: &HostRuntime, table: &FlagTable) -> io::Result<()> {
-    let report = test_io::get_buffer(rt, REPORT)?;
-    let mut out = test_io::get_buffer(rt, SMALL)?;
-    test_io::put_reply(rt, call_indicators::find(&report, &mut out, table))?;
-    test_io::put_bytes(rt, &out)
+    let mut report = [0u8; REPORT];
+    let report = test_io::get_buffer(rt, &mut report)?;
+    let mut out = [0u8; SMALL];
+    let out = test_io::get_buffer(rt, &mut out)?;
+    test_io::put_reply(rt, call_indicators::find(report, out, table))?;
+    test_io::put_bytes(rt, out)
 }
 
 // Puts a text to a fresh report with room behind it.
@@ -239,13 +260,15 @@ fn put_text(text: &[u8], origins: &[u8]) -> Reply {
 // The costliest text of so many symbols: the marks, the bytes that are not the program's choice, and what a put of the text gives.
 fn costliest(rt: &HostRuntime) -> io::Result<()> {
     let count = test_io::get8(rt)? as usize;
-    let mut text = test_io::get_buffer(rt, SMALL)?;
-    let mut origins = test_io::get_buffer(rt, SMALL)?;
-    let reply = text_cost::costliest(count, &mut text, &mut origins);
+    let mut text = [0u8; SMALL];
+    let text = test_io::get_buffer(rt, &mut text)?;
+    let mut origins = [0u8; SMALL];
+    let origins = test_io::get_buffer(rt, &mut origins)?;
+    let reply = text_cost::costliest(count, text, origins);
     test_io::put_reply(rt, reply)?;
-    test_io::put_bytes(rt, &origins)?;
+    test_io::put_bytes(rt, origins)?;
     if reply.is_err() {
-        return test_io::put_bytes(rt, &text);
+        return test_io::put_bytes(rt, text);
     }
     let Some((chosen, rest)) = text.split_at_checked(count) else {
         return Ok(());
@@ -313,11 +336,12 @@ fn put_step(rt: &HostRuntime, step: Option<Step>) -> io::Result<()> {
 
 // A reader of the ship text opened, and its first three steps.
 fn steps(rt: &HostRuntime, table: &FlagTable) -> io::Result<()> {
-    let report = test_io::get_buffer(rt, REPORT)?;
-    let steps = first_steps(&report, table);
+    let mut report = [0u8; REPORT];
+    let report = test_io::get_buffer(rt, &mut report)?;
+    let steps = first_steps(report, table);
     match steps.refusal {
         None => test_io::put_done(rt, Ok(()))?,
-        Some(refusal) => test_io::put_refused(rt, refusal)?,
+        Some(refusal) => test_io::put_refusal(rt, refusal)?,
     }
     put_step(rt, steps.first)?;
     put_step(rt, steps.second)?;

@@ -1,6 +1,8 @@
 // Runs lists of calls as scripts over vectors of the independent implementation.
 #![tactic(auto)]
 
+ghost use Rattle.std.specs.Prelude.{◌≤◌, IfOk};
+
 use format::FlagTable;
 use std::io;
 
@@ -16,25 +18,32 @@ const LOAD: u8 = 255;
 const BLANK: u8 = 165;
 
 // A length of four bytes, at most that of a script.
-fn get_long(rt: &HostRuntime) -> io::Result<usize> {
+fn get_long(rt: &HostRuntime) -> io::Result<usize>
+    ensures { IfOk result (λ length. length ≤ 60000) }
+{
     Ok(SCRIPT.min(test_io::get4(rt)? as usize))
 }
 
 // One list under a table, of whose buffer's length the high byte is given.
 fn run(rt: &HostRuntime, high: u8, table: &FlagTable) -> io::Result<()> {
+    let mut buffer = [0u8; BUFFER];
+    let mut script = [0u8; SCRIPT];
+    let mut log = [BLANK; SCRIPT];
     let low = test_io::next(rt)?.unwrap_or(0);
     let length = BUFFER.min(usize::from(u16::from_be_bytes([high, low])));
-    let mut buffer = test_io::get_vec(rt, length)?;
+    let buffer = &mut buffer[..length];
+    test_io::get_bytes(rt, buffer)?;
     let length = get_long(rt)?;
-    let script = test_io::get_vec(rt, length)?;
+    let script = &mut script[..length];
+    test_io::get_bytes(rt, script)?;
     let length = get_long(rt)?;
-    let mut log = vec![in rt.alloc(); BLANK; length]?;
-    let performed = replay::replay(&mut buffer, &script, &mut log, table);
+    let log = &mut log[..length];
+    let performed = replay::replay(buffer, script, log, table);
     test_io::put4(rt, performed.calls)?;
     test_io::put4(rt, performed.taken)?;
     test_io::put4(rt, performed.written)?;
-    test_io::put_bytes(rt, &buffer)?;
-    test_io::put_bytes(rt, &log)
+    test_io::put_bytes(rt, buffer)?;
+    test_io::put_bytes(rt, log)
 }
 
 // Lists and tables to the end of the input.

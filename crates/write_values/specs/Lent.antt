@@ -37,6 +37,15 @@ given_check k word v = by_tests (required k && not (bit_at word k)) (bit_at word
 abbrev pub check_at : List ℤ → ℕ → ℕ → Result Unit Refusal
 check_at values word i = given_check (i + 1) word (get_or values i (pos 0))
 
+-- its number: the refusal of field k, or 0
+unfoldable pub value_refusal : ℕ → ℕ → ℤ → ℕ
+value_refusal k word v =
+    cond (required k && not (bit_at word k)) 10 (cond (bit_at word k && not (in_range (field_at k) (scaled v))) 9 0)
+
+-- of the field at place i
+abbrev pub refusal_at : List ℤ → ℕ → ℕ → ℕ
+refusal_at values word i = value_refusal (i + 1) word (get_or values i (pos 0))
+
 -- 1 where it is refused, else 0
 abbrev pub fault_at : List ℤ → ℕ → ℕ → ℕ
 fault_at values word i = cond (is_err (check_at values word i)) 1 0

@@ -14,7 +14,7 @@ ghost use Rattle.format.specs.Whole.{bit_at, pack_checks};
 ghost use Rattle.card.specs.Answers.{Carded};
 ghost use Rattle.card.specs.Rows.{RowAt, RowRun};
 ghost use Rattle.card.specs.Runs.{sum_run, Summed};
-ghost use Rattle.write_values.specs.Lent.{codes_given, code_given, fielded, CodesWritten, given_check, check_at, fault_at};
+ghost use Rattle.write_values.specs.Lent.{codes_given, code_given, fielded, CodesWritten, given_check, check_at, refusal_at, fault_at};
 
 use card::{
     A, A6, BI, BOX10, C, CD, CH, CL, CM, D, DAY, DC, DI, DPT, DS, Field, H, HI, HOUR, MONTH, NH, P,
@@ -72,12 +72,15 @@ impl Lent<'_> {
         refusal(field, self.word, self.values[field.number - 1])
     }
 
-    // A count, and one more if the field at place i is refused.
+    // A sum, and the number of the refusal of the field at place i.
     fn refuse(self, sum: u64, i: usize, row: u64) -> u64
         requires { (sum < 65536) × RowAt i row }
-        ensures { Summed (fault_at self.entry.values.now self.entry.word) 1 i 1 sum result }
+        ensures { Summed (refusal_at self.entry.values.now self.entry.word) 10 i 1 sum result }
     {
-        sum + self.refusal(Field::of_row(i, row)).is_err() as u64
+        match self.refusal(Field::of_row(i, row)) {
+            Ok(()) => sum,
+            Err(refusal) => sum + u64::from(refusal.number()),
+        }
     }
 
     // The same of N fields from place i on, few enough that the compiler makes straight lines of the loop. It only counts, where
@@ -85,18 +88,18 @@ impl Lent<'_> {
     #[inline(always)]
     fn refuse_run<const N: usize>(self, sum: u64, i: usize, rows: [u64; N]) -> u64
         requires { (sum < 32768) × RowRun i N rows }
-        ensures { Summed (fault_at self.entry.values.now self.entry.word) 1 i N sum result }
+        ensures { Summed (refusal_at self.entry.values.now self.entry.word) 10 i N sum result }
     {
-        let mut count = sum;
+        let mut total = sum;
         for j in 0..N {
-            count = self.refuse(count, i + j, rows[j]);
+            total = self.refuse(total, i + j, rows[j]);
         }
-        count
+        total
     }
 
-    // Whether no field is refused.
-    pub fn all_pass(self) -> bool
-        ensures { result ≡ eqb (sum_run (fault_at self.entry.values.now self.entry.word) 0 46) 0 }
+    // The sum of all refusals: 0 where no field is refused.
+    pub fn refusals(self) -> u64
+        ensures { result ≡ sum_run (refusal_at self.entry.values.now self.entry.word) 0 46 }
     {
         let rows = [BOX10, YEAR, MONTH, DAY, HOUR, X, Y, XYI, CD, SID];
         let sum = self.refuse_run(0, 0, rows);
@@ -107,7 +110,14 @@ impl Lent<'_> {
         let rows = [S, BI, C, NH, CL, HI, H, CM, CH, WD];
         let sum = self.refuse_run(sum, 30, rows);
         let rows = [WP, WH, SD, SP, SH, A6];
-        self.refuse_run(sum, 40, rows) == 0
+        self.refuse_run(sum, 40, rows)
+    }
+
+    // Whether no field is refused.
+    pub fn all_pass(self) -> bool
+        ensures { result ≡ eqb (sum_run (fault_at self.entry.values.now self.entry.word) 0 46) 0 }
+    {
+        self.refusals() == 0
     }
 }
 
@@ -136,7 +146,8 @@ impl Passed<'_> {
         sum + code.0 as u64
     }
 
-    // The same of N fields from place i on, few enough that the compiler makes straight lines of the loop.
+    // The same of N fields from place i on, few enough that the compiler makes straight lines of the loop: of ten
+    // it does not, and their rows would be read from the stack.
     #[inline(always)]
     fn write_run<const N: usize>(self, sum: u64, buffer: &mut [u8], i: usize, rows: [u64; N]) -> u64
         requires { (38 ≤ length buffer.old) × (sum < 2147483648) × RowRun i N rows }
@@ -149,22 +160,43 @@ impl Passed<'_> {
         total
     }
 
+    // Writes the first 24 coded fields, and gives their sum.
+    fn write_front(self, buffer: &mut [u8]) -> u64
+        requires { 38 ≤ length buffer.old }
+        ensures { CodesWritten self.entry.lent.values.now self.entry.lent.word 0 24 buffer.old buffer.new 0 result }
+    {
+        let sum = self.write_run(0, buffer, 0, [BOX10, YEAR]);
+        let sum = self.write_run(sum, buffer, 2, [MONTH, DAY]);
+        let sum = self.write_run(sum, buffer, 4, [HOUR, X]);
+        let sum = self.write_run(sum, buffer, 6, [Y, XYI]);
+        let sum = self.write_run(sum, buffer, 8, [CD, SID]);
+        let sum = self.write_run(sum, buffer, 10, [ST, QI]);
+        let sum = self.write_run(sum, buffer, 12, [DS, DC]);
+        let sum = self.write_run(sum, buffer, 14, [TC, PB]);
+        let sum = self.write_run(sum, buffer, 16, [DI, D]);
+        let sum = self.write_run(sum, buffer, 18, [WI, W]);
+        let sum = self.write_run(sum, buffer, 20, [VI, VB]);
+        self.write_run(sum, buffer, 22, [PW, W1])
+    }
+
     // Writes the coded fields, and gives their sum.
     fn write_fields(self, buffer: &mut [u8]) -> u64
         requires { 38 ≤ length buffer.old }
         ensures { Carded buffer.old buffer.new (fielded (numbers_of buffer.old) (codes_given self.entry.lent.values.now self.entry.lent.word) 46)
             × (result ≡ total (codes_given self.entry.lent.values.now self.entry.lent.word)) }
     {
-        let rows = [BOX10, YEAR, MONTH, DAY, HOUR, X, Y, XYI, CD, SID];
-        let sum = self.write_run(0, buffer, 0, rows);
-        let rows = [ST, QI, DS, DC, TC, PB, DI, D, WI, W];
-        let sum = self.write_run(sum, buffer, 10, rows);
-        let rows = [VI, VB, PW, W1, W2, P, TI, A, WB, DPT];
-        let sum = self.write_run(sum, buffer, 20, rows);
-        let rows = [S, BI, C, NH, CL, HI, H, CM, CH, WD];
-        let sum = self.write_run(sum, buffer, 30, rows);
-        let rows = [WP, WH, SD, SP, SH, A6];
-        self.write_run(sum, buffer, 40, rows)
+        let sum = self.write_front(buffer);
+        let sum = self.write_run(sum, buffer, 24, [W2, P]);
+        let sum = self.write_run(sum, buffer, 26, [TI, A]);
+        let sum = self.write_run(sum, buffer, 28, [WB, DPT]);
+        let sum = self.write_run(sum, buffer, 30, [S, BI]);
+        let sum = self.write_run(sum, buffer, 32, [C, NH]);
+        let sum = self.write_run(sum, buffer, 34, [CL, HI]);
+        let sum = self.write_run(sum, buffer, 36, [H, CM]);
+        let sum = self.write_run(sum, buffer, 38, [CH, WD]);
+        let sum = self.write_run(sum, buffer, 40, [WP, WH]);
+        let sum = self.write_run(sum, buffer, 42, [SD, SP]);
+        self.write_run(sum, buffer, 44, [SH, A6])
     }
 
     // Writes a card: RPTIN, the fields that are present, their checksum, and the number of attachments.

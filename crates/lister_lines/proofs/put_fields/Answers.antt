@@ -15,8 +15,8 @@ put_field-requires c =
     let high : k ≤ 46 = omega arith in
     let code = rw c.at-field.ensures at c.code.ensures in
     let step = lines_at c.args.buffer.now k c.code.result low high code in
-    let left = sym (ap (λ l. c.loop-number.lines.bytes ++ l) step) ∙ c.loop-number.invariant in
-    rw c.at-field.ensures (omega (arith, c.requires.1, ap length left, length-append c.loop-number.lines.bytes (field_line k (entry_of (field_at k) c.code.result) ++ value_lines c.args.buffer.now k), length-append (field_line k (entry_of (field_at k) c.code.result)) (value_lines c.args.buffer.now k), length-append c.args.lines.now.bytes (value_lines c.args.buffer.now 0)))
+    let left = sym (ap (λ l. c.loop-number.lines ++ l) step) ∙ c.loop-number.invariant in
+    rw c.at-field.ensures (omega (arith, c.requires.1, ap length left, length-append c.loop-number.lines (field_line k (entry_of (field_at k) c.code.result) ++ value_lines c.args.buffer.now k), length-append (field_line k (entry_of (field_at k) c.code.result)) (value_lines c.args.buffer.now k), length-append c.args.lines.now (value_lines c.args.buffer.now 0)))
 
 pub loop-number-preserved : goal.loop-number-preserved
 loop-number-preserved c =
@@ -26,11 +26,11 @@ loop-number-preserved c =
     let next : k + 1 - 1 ≡ k = omega arith in
     let code = rw c.at-field.ensures at c.code.ensures in
     let step = lines_at c.args.buffer.now k c.code.result low high code in
-    ap (λ (n : ℕ). c.put_field.new.lines.bytes ++ value_lines c.args.buffer.now n) next
+    ap (λ (n : ℕ). c.put_field.new.lines ++ value_lines c.args.buffer.now n) next
     ∙ puts_both _ _ _ _ (value_lines c.args.buffer.now k) (rw c.at-field.ensures at c.put_field.ensures) refl
-    ∙ ap (λ l. c.loop-number.lines.bytes ++ l) (sym step) ∙ c.loop-number.invariant
+    ∙ ap (λ l. c.loop-number.lines ++ l) (sym step) ∙ c.loop-number.invariant
 
 pub returns : goal.returns
 returns c =
-    let all = ap (λ l. c.loop-number.lines.bytes ++ l) (lines_end c.args.buffer.now (c.loop-number.number - 1) (omega arith)) in
-    sym (append-nil c.loop-number.lines.bytes) ∙ sym all ∙ c.loop-number.invariant
+    let all = ap (λ l. c.loop-number.lines ++ l) (lines_end c.args.buffer.now (c.loop-number.number - 1) (omega arith)) in
+    sym (append-nil c.loop-number.lines) ∙ sym all ∙ c.loop-number.invariant

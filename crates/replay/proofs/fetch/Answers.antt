@@ -33,5 +33,5 @@ returns c =
     ap (after_entry _ _) c.answered.ensures.1
     ∙ turn_output _ _ s c.args.log.now 8 9 _ (λ (d : List ℕ). call.fetches (call.fetch (number_at s 1) d)) (λ (d : List ℕ). call.fetches (call.fetch c.args.number d))
     pre.starts.of_kind refl (λ d. refl) e.1 e.0 _ _ _ _ (omega (arith, c.if-log-lent.false, pre.starts.room))
-    (ap {B = List ℕ → Call} (λ (x : ℕ) (d : List ℕ). call.fetches (call.fetch x d)) pre.number) c.copy_from_slice.ensures.after
+    (ap {B = List ℕ → Call} (λ (x : ℕ) (d : List ℕ). call.fetches (call.fetch x d)) pre.number) c.copy.ensures
     c.fetch-reply.ensures c.answered.ensures.0

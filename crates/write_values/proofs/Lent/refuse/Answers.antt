@@ -3,18 +3,34 @@
 use Prim.Native.Nat.{ℕ, ◌+◌, ◌-◌}
 use native.Mathlib.Omega.{arith}
 use mathlib.Core.Path.{◌≡◌, ap, ◌∙◌}
-use mathlib.Core.Bool.{cond}
-use Rattle.std.specs.Prelude.{Result, is_err}
-use Rattle.format.specs.Order.{Refusal}
-use Rattle.write_values.specs.Lent.{check_at, fault_at}
+use mathlib.Core.List.{List}
+use lib.IntN.{ℤ}
+use Rattle.std.specs.Prelude.{Result}
+use Rattle.format.specs.Reply.{by_number, refusal_of}
+use Rattle.format.specs.declared.Refusal.{Refusal}
+use Rattle.write_values.specs.Lent.{check_at, refusal_at}
 use Rattle.card.proofs.Runs.{sum_one}
-use Rattle.write_values.proofs.Tests.{fault_is, fault_le}
+use Rattle.write_values.proofs.Tests.{number_in, number_added, refusal_le}
 use Rattle.write_values.proofs.Lent.refuse.Goals as goal
 
-pub returns : goal.returns
-returns c =
+-- the number of the field at place i
+number_here : (values : List ℤ) (word i k : ℕ) (r : Result Unit Refusal) → k ≡ i + 1 → by_number r ≡ check_at values word (k - 1)
+    → number_in (by_number r) ≡ refusal_at values word i
+number_here values word i k r at e =
+    let place : k - 1 ≡ i = omega arith in
+    number_added values word i r (rw place at e)
+
+pub returns-in-Ok : goal.returns-in-Ok
+returns-in-Ok c =
     let a = c.args in
-    let place : c.of_row.result.number - 1 ≡ a.i = omega (arith, c.of_row.ensures) in
-    let e = fault_is c.refusal.result c.is_err.result c.is_err.ensures.value
-    ∙ ap (λ (r : Result Unit Refusal). cond {A = ℕ} (is_err r) 1 0) (rw place at c.refusal.ensures) in
-    sum_one {g = fault_at a.self.values.now a.self.word} a.i a.sum _ (ap (λ (n : ℕ). a.sum + n) e) (fault_le (is_err (check_at a.self.values.now a.self.word a.i)))
+    let e = number_here a.self.values.now a.self.word a.i _ c.refusal.result c.of_row.ensures c.refusal.ensures in
+    let none : 0 ≡ refusal_at a.self.values.now a.self.word a.i = rw c.in-Ok.is at e in
+    sum_one {g = refusal_at a.self.values.now a.self.word} a.i a.sum _ (omega (arith, none)) (refusal_le a.self.values.now a.self.word a.i)
+
+pub returns-in-Err : goal.returns-in-Err
+returns-in-Err c =
+    let a = c.args in
+    let e = number_here a.self.values.now a.self.word a.i _ c.refusal.result c.of_row.ensures c.refusal.ensures in
+    let given : (refusal_of c.in-Err.refusal).number ≡ refusal_at a.self.values.now a.self.word a.i = rw c.in-Err.is at e in
+    sum_one {g = refusal_at a.self.values.now a.self.word} a.i a.sum _ (ap (λ (n : ℕ). a.sum + n) (c.from.ensures ∙ c.number.ensures ∙ given))
+    (refusal_le a.self.values.now a.self.word a.i)

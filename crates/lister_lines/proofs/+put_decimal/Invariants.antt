@@ -1,0 +1,5 @@
+-- `lister_lines::put_decimal`: the measure is the number.
+use Rattle.lister_lines.proofs.+put_decimal.Given as goal
+
+abbrev pub decreases-put_decimal : goal.decreases-put_decimal
+decreases-put_decimal l = l.number
